@@ -1,0 +1,40 @@
+-- The pair list (document 01, The sheet): "the lower triangle with own pairs, row by row, n(n+1)/2 signed 32-bit numbers".
+use mathlib.Core.Bool.{Bool, _&&_}
+use mathlib.Core.List.{List, map}
+use Prim.Native.Nat.{ℕ, suc, _+_, _*_, _/_, max, min}
+use lib.IntN.{ℤ, pos, negℤ}
+use lib.Signed.{leZ}
+use lib.Dec.{eqb}
+use lib.ListN.{length, getD}
+use Rattle.lists.specs.Lists.{below, each, all}
+use Rattle.integers.specs.Integers.{eqZ}
+
+-- s(a,b), the score of two entries: a similarity function. For kind 3 and the anchored scores, d(a,b): a dissimilarity.
+abbrev pub Similarity : Type 0
+Similarity = ℕ → ℕ → ℤ
+
+-- "the row starts 0, 1, 3, 6 and so on": row i starts at i(i+1)/2
+unfoldable pub rowStart : ℕ → ℕ
+rowStart i = i * (i + 1) / 2
+
+-- where the pair of a and b stands
+unfoldable pub place : ℕ → ℕ → ℕ
+place a b = rowStart (max a b) + min a b
+
+-- "Scores are looked up by two entries in the pair list"
+unfoldable pub score : List ℤ → Similarity
+score l a b = getD l (place a b) (pos 0)
+
+-- the pair list of n entries that holds s
+unfoldable pub pairList : ℕ → Similarity → List ℤ
+pairList n s = each (below n) λ a. map (s a) (below (suc a))
+
+-- what checks 10, 11 and 12 pass (Where a call is turned away)
+unfoldable pub hasLength : ℕ → List ℤ → Bool
+hasLength n l = eqb (length l) (rowStart n)
+
+unfoldable pub inRange : List ℤ → Bool
+inRange l = all (λ v. leZ (negℤ (pos 1000000)) v && leZ v (pos 1000000)) l
+
+unfoldable pub areDistances : ℕ → List ℤ → Bool
+areDistances n l = all (leZ (pos 0)) l && all (λ a. eqZ (score l a a) (pos 0)) (below n)

@@ -1,0 +1,4 @@
+pub mod Linear
+pub mod Least
+pub mod Sums
+pub mod Smallest

@@ -1,0 +1,106 @@
+-- Laws of finite sums.
+use mathlib.Core.Path.{_≡_, refl, sym, ap, ap₂, _∙_, subst}
+use mathlib.Core.Bool.{Bool, true, false, not, cond}
+use mathlib.Core.Logic.{_⊎_, inl, inr}
+use mathlib.Core.List.{List, [], _∷_, _++_, map, List·Memᴰ, List·Memᴰ·head, List·Memᴰ·tail, List·Memᴰ·cases-cons}
+use Prim.Native.Nat.{ℕ, zero, suc, _+_, _*_, _≤_, _<_}
+use native.Mathlib.Omega.{arith}
+use lib.IntN.{ℤ, pos, negsuc, _+ℤ_, _-ℤ_, _*ℤ_, +ℤ-idl, +ℤ-idr, +ℤ-assoc, +ℤ-comm, sucℤ-*ℤ, zero-*ℤ, *ℤ-zero}
+use lib.Signed.{_≤ℤ_, _<ℤ_, ≤ℤ-refl, leZ, leZ-yes}
+use lib.Dec.{T, eqb, eqb→eq}
+use lib.ListN.{length}
+use Rattle.lists.specs.Lists.{_∈_, below, each, keep, erase}
+use Rattle.lists.proofs.Tests.{true-T, false-T, eqb-no}
+use Rattle.lists.proofs.Lists.{below-lt}
+use Rattle.integers.specs.Integers.{sumOf, sum}
+use Rattle.integers.proofs.Linear.{up, dn, zarith, +at, -at, *at, four, four-sub, *-add, leZ-no}
+
+module _ {ℓ} {A : Type ℓ} where
+  pub sum-cong : (l : List A) (f g : A → ℤ) → ((x : A) → x ∈ l → f x ≡ g x) → sumOf l f ≡ sumOf l g
+  unfolding sumOf
+  sum-cong [] f g h = refl
+  sum-cong (x ∷ l) f g h = ap₂ _+ℤ_ (h x (List·Memᴰ·head refl)) (sum-cong l f g (λ y m. h y (List·Memᴰ·tail m)))
+
+  pub sum-mono : (l : List A) (f g : A → ℤ) → ((x : A) → x ∈ l → f x ≤ℤ g x) → sumOf l f ≤ℤ sumOf l g
+  unfolding sumOf
+  sum-mono [] f g h = ≤ℤ-refl (pos 0)
+  sum-mono (x ∷ l) f g h = omega (zarith, h x (List·Memᴰ·head refl), sum-mono l f g (λ y m. h y (List·Memᴰ·tail m)), +at (f x) (sumOf l f), +at (g x) (sumOf l g))
+
+  pub sum-add : (l : List A) (f g : A → ℤ) → sumOf l (λ x. f x +ℤ g x) ≡ sumOf l f +ℤ sumOf l g
+  unfolding sumOf
+  sum-add [] f g = refl
+  sum-add (x ∷ l) f g = ap (λ z. (f x +ℤ g x) +ℤ z) (sum-add l f g) ∙ four (f x) (g x) (sumOf l f) (sumOf l g)
+
+  pub sum-sub : (l : List A) (f g : A → ℤ) → sumOf l (λ x. f x -ℤ g x) ≡ sumOf l f -ℤ sumOf l g
+  unfolding sumOf
+  sum-sub [] f g = refl
+  sum-sub (x ∷ l) f g = ap (λ z. (f x -ℤ g x) +ℤ z) (sum-sub l f g) ∙ four-sub (f x) (g x) (sumOf l f) (sumOf l g)
+
+  pub sum-zero : (l : List A) → sumOf l (λ x. pos 0) ≡ pos 0
+  unfolding sumOf
+  sum-zero [] = refl
+  sum-zero (x ∷ l) = +ℤ-idl (sumOf l (λ x. pos 0)) ∙ sum-zero l
+
+  pub sum-const : (l : List A) (z : ℤ) → sumOf l (λ x. z) ≡ pos (length l) *ℤ z
+  unfolding sumOf
+  sum-const [] z = sym (zero-*ℤ z)
+  sum-const (x ∷ l) z = ap (λ y. z +ℤ y) (sum-const l z) ∙ +ℤ-comm z (pos (length l) *ℤ z) ∙ sym (sucℤ-*ℤ (pos (length l)) z)
+
+  pub sum-scale : (l : List A) (c : ℤ) (f : A → ℤ) → sumOf l (λ x. c *ℤ f x) ≡ c *ℤ sumOf l f
+  unfolding sumOf
+  sum-scale [] c f = sym (*ℤ-zero c)
+  sum-scale (x ∷ l) c f = ap (λ z. c *ℤ f x +ℤ z) (sum-scale l c f) ∙ sym (*-add c (f x) (sumOf l f))
+
+  pub sum-append : (l m : List A) (f : A → ℤ) → sumOf (l ++ m) f ≡ sumOf l f +ℤ sumOf m f
+  unfolding sumOf
+  sum-append [] m f = sym (+ℤ-idl (sumOf m f))
+  sum-append (x ∷ l) m f = ap (λ z. f x +ℤ z) (sum-append l m f) ∙ sym (+ℤ-assoc (f x) (sumOf l f) (sumOf m f))
+
+  pub sum-keep : (p : A → Bool) (l : List A) (f : A → ℤ) → sumOf (keep p l) f ≡ sumOf l (λ x. cond (p x) (f x) (pos 0))
+  unfolding sumOf keep
+  sum-keep p [] f = refl
+  sum-keep p (x ∷ l) f = go (p x) (sum-keep p l f)
+    where
+      go : (b : Bool) → sumOf (keep p l) f ≡ sumOf l (λ x. cond (p x) (f x) (pos 0)) → sumOf (cond b (x ∷ keep p l) (keep p l)) f ≡ cond b (f x) (pos 0) +ℤ sumOf l (λ x. cond (p x) (f x) (pos 0))
+      go true e = ap (λ z. f x +ℤ z) e
+      go false e = e ∙ sym (+ℤ-idl (sumOf l (λ x. cond (p x) (f x) (pos 0))))
+
+module _ {ℓ κ} {A : Type ℓ} {B : Type κ} where
+  pub sum-swap : (l : List A) (m : List B) (f : A → B → ℤ) → sumOf l (λ x. sumOf m (f x)) ≡ sumOf m (λ y. sumOf l (λ x. f x y))
+  unfolding sumOf
+  sum-swap [] m f = sym (sum-zero m)
+  sum-swap (x ∷ l) m f = ap (λ z. sumOf m (f x) +ℤ z) (sum-swap l m f) ∙ sym (sum-add m (f x) (λ y. sumOf l (λ x. f x y)))
+
+  pub sum-each : (l : List A) (f : A → List B) (g : B → ℤ) → sumOf (each l f) g ≡ sumOf l (λ x. sumOf (f x) g)
+  unfolding sumOf each
+  sum-each [] f g = refl
+  sum-each (x ∷ l) f g = sum-append (f x) (each l f) g ∙ ap (λ z. sumOf (f x) g +ℤ z) (sum-each l f g)
+
+  pub sum-map : (h : A → B) (l : List A) (g : B → ℤ) → sumOf (map h l) g ≡ sumOf l (λ x. g (h x))
+  unfolding sumOf
+  sum-map h [] g = refl
+  sum-map h (x ∷ l) g = ap (λ z. g (h x) +ℤ z) (sum-map h l g)
+
+-- a sum above 0 has a summand above 0
+pub some-pos {ℓ} : {X : Type ℓ} (l : List X) (f : X → ℤ) → pos 0 <ℤ sumOf l f → (x : X) × (x ∈ l) × (pos 0 <ℤ f x)
+unfolding sumOf up dn
+some-pos [] f h = absurd (h .lt)
+some-pos {X} (x ∷ l) f h = go (leZ (f x) (pos 0)) refl (some-pos l f)
+  where
+    go : (b : Bool) → leZ (f x) (pos 0) ≡ b → (pos 0 <ℤ sumOf l f → (y : X) × (y ∈ l) × (pos 0 <ℤ f y)) → (y : X) × (y ∈ x ∷ l) × (pos 0 <ℤ f y)
+    go true e ih =
+        let k : f x ≤ℤ pos 0 = leZ-yes (true-T e) in
+        let r = ih (omega (zarith, +at (f x) (sumOf l f))) in (r .0, List·Memᴰ·tail (r .1), r .2)
+    go false e ih = (x, List·Memᴰ·head refl, leZ-no (false-T e))
+
+pub sum-nonneg {ℓ} : {X : Type ℓ} (l : List X) (f : X → ℤ) → ((x : X) → x ∈ l → pos 0 ≤ℤ f x) → pos 0 ≤ℤ sumOf l f
+sum-nonneg l f h = subst (λ z. z ≤ℤ sumOf l f) (sum-zero l) (sum-mono l (λ x. pos 0) f h)
+
+pub sum-erase : (U : ℕ) (bs : List ℕ) (f : ℕ → ℤ) → U ∈ bs → sumOf bs f ≡ f U +ℤ sumOf (erase U bs) f
+unfolding erase sumOf
+sum-erase U (C ∷ bs) f m = go (eqb C U) refl (sum-erase U bs f) (List·Memᴰ·cases-cons m)
+  where
+    go : (b : Bool) → eqb C U ≡ b → (U ∈ bs → sumOf bs f ≡ f U +ℤ sumOf (erase U bs) f) → (U ≡ C) ⊎ (U ∈ bs) → f C +ℤ sumOf bs f ≡ f U +ℤ sumOf (cond b bs (C ∷ erase U bs)) f
+    go true e ih _ = ap (λ (x : ℕ). f x +ℤ sumOf bs f) (eqb→eq C U (true-T e))
+    go false e ih (inl q) = absurd (eqb-no C U (false-T e) (sym q))
+    go false e ih (inr m) = omega (zarith, ih m, +at (f C) (sumOf bs f), +at (f U) (sumOf (erase U bs) f), +at (f C) (sumOf (erase U bs) f), +at (f U) (f C +ℤ sumOf (erase U bs) f))

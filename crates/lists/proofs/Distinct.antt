@@ -1,0 +1,51 @@
+-- Lists in which no element stands twice, and how many there can be.
+use mathlib.Core.Path.{_≡_, refl, sym, ap, _∙_, subst}
+use mathlib.Core.Bool.{Bool, true, false, not, cond}
+use mathlib.Core.Logic.{_≢_, _⊎_, inl, inr}
+use mathlib.Core.List.{List, [], _∷_, _++_, map, List·Memᴰ, List·Memᴰ·head, List·Memᴰ·tail, List·Memᴰ·not-nil, List·Memᴰ·cases-cons, Memᴰ·cast}
+use Prim.Native.Nat.{ℕ, zero, suc, _+_, _≤_, _<_}
+use native.Mathlib.Omega.{arith}
+use lib.Dec.{T, eqb, eqb→eq, eqb-refl, T-not}
+use lib.ListN.{length}
+use Rattle.lists.specs.Lists.{_∈_, erase, Distinct}
+use Rattle.lists.proofs.Tests.{true-T, false-T, eqb-yes, eqb-no}
+
+pub of-erase : (x : ℕ) (l : List ℕ) {y : ℕ} → y ∈ erase x l → y ∈ l
+unfolding erase
+of-erase x [] m = m
+of-erase x (z ∷ l) {y} m = go (eqb z x) (of-erase x l) m
+  where
+    at : (y ∈ erase x l → y ∈ l) → (y ≡ z) ⊎ (y ∈ erase x l) → y ∈ z ∷ l
+    at ih (inl e) = List·Memᴰ·head e
+    at ih (inr m) = List·Memᴰ·tail (ih m)
+
+    go : (b : Bool) → (y ∈ erase x l → y ∈ l) → y ∈ cond b l (z ∷ erase x l) → y ∈ z ∷ l
+    go true ih m = List·Memᴰ·tail m
+    go false ih m = at ih (List·Memᴰ·cases-cons m)
+
+pub in-erase : (x : ℕ) (l : List ℕ) {y : ℕ} → y ≢ x → y ∈ l → y ∈ erase x l
+unfolding erase
+in-erase x (z ∷ l) {y} ne m = go (eqb z x) refl (in-erase x l ne) (List·Memᴰ·cases-cons m)
+  where
+    go : (b : Bool) → eqb z x ≡ b → (y ∈ l → y ∈ erase x l) → (y ≡ z) ⊎ (y ∈ l) → y ∈ cond b l (z ∷ erase x l)
+    go true e ih (inl q) = absurd (ne (q ∙ eqb→eq z x (true-T e)))
+    go true e ih (inr m) = m
+    go false e ih (inl q) = List·Memᴰ·head q
+    go false e ih (inr m) = List·Memᴰ·tail (ih m)
+
+pub length-erase : (x : ℕ) (l : List ℕ) → x ∈ l → suc (length (erase x l)) ≡ length l
+unfolding erase
+length-erase x (z ∷ l) m = go (eqb z x) refl (length-erase x l) (List·Memᴰ·cases-cons m)
+  where
+    go : (b : Bool) → eqb z x ≡ b → (x ∈ l → suc (length (erase x l)) ≡ length l) → (x ≡ z) ⊎ (x ∈ l) → suc (length (cond b l (z ∷ erase x l))) ≡ suc (length l)
+    go true e ih _ = refl
+    go false e ih (inl q) = absurd (eqb-no z x (false-T e) (sym q))
+    go false e ih (inr m) = ap suc (ih m)
+
+-- distinct elements of l that are all in m are no more than m has
+pub pigeonhole : (l m : List ℕ) → Distinct l → ((x : ℕ) → x ∈ l → x ∈ m) → length l ≤ length m
+pigeonhole [] m d f = omega arith
+pigeonhole (x ∷ l) m d f =
+    let e = length-erase x m (f x (List·Memᴰ·head refl)) in
+    let r = pigeonhole l (erase x m) (d .1) (λ y k. in-erase x m (λ q. d .0 (Memᴰ·cast (sym q) k)) (f y (List·Memᴰ·tail k))) in
+    omega arith

@@ -1,0 +1,148 @@
+-- Laws of the lists: what is in them.
+use mathlib.Core.Path.{_≡_, refl, sym, ap, ap₂, _∙_, subst}
+use mathlib.Core.Bool.{Bool, true, false, not, cond, _&&_}
+use mathlib.Core.Logic.{_⊎_, inl, inr}
+use mathlib.Core.List.{List, [], _∷_, _++_, map, List·Memᴰ, List·Memᴰ·head, List·Memᴰ·tail, List·Memᴰ·not-nil, List·Memᴰ·cases-cons, Memᴰ·append-left, Memᴰ·append-right, List·Memᴰ·append-cases, head-eq-of-cons-eq, tail-eq-of-cons-eq}
+use Prim.Native.Nat.{ℕ, zero, suc, _+_, _≤_, _<_}
+use native.Mathlib.Omega.{arith}
+use native.Mathlib.Decide.{ℕ-discrete}
+use lib.Dec.{T}
+use lib.ListN.{length, length-append}
+use Rattle.lists.specs.Lists.{_∈_, below, each, keep, all}
+use Rattle.lists.proofs.Tests.{and-T, T-and, T-or-not, T-true, T-false, true-T}
+
+pub below-lt : (n : ℕ) {i : ℕ} → i ∈ below n → i < n
+unfolding below
+below-lt zero m = absurd (List·Memᴰ·not-nil m)
+below-lt (suc n) {i} m = go (below-lt n) (List·Memᴰ·append-cases (below n) m)
+  where
+    go : (i ∈ below n → i < n) → (i ∈ below n) ⊎ (i ∈ n ∷ []) → i < suc n
+    go ih (inl h) = omega (arith, ih h)
+    go ih (inr (List·Memᴰ·head e)) = omega arith
+    go ih (inr (List·Memᴰ·tail h)) = absurd (List·Memᴰ·not-nil h)
+
+pub lt-below : (n i : ℕ) → i < n → i ∈ below n
+unfolding below
+lt-below zero i h = absurd (omega arith)
+lt-below (suc n) i h = go (lt-below n i) (ℕ-discrete i n)
+  where
+    go : (i < n → i ∈ below n) → Dec (i ≡ n) → i ∈ (below n ++ (n ∷ []))
+    go ih (yes e) = Memᴰ·append-right (below n) (List·Memᴰ·head e)
+    go ih (no f) = Memᴰ·append-left (n ∷ []) (ih (omega arith))
+
+module _ {ℓ κ} {A : Type ℓ} {B : Type κ} where
+  pub in-each : (f : A → List B) {l : List A} {x : A} {y : B} → x ∈ l → y ∈ f x → y ∈ each l f
+  unfolding each
+  in-each f {l = z ∷ l} {x} {y} (List·Memᴰ·head e) m = Memᴰ·append-left (each l f) (subst (λ (w : A). y ∈ f w) e m)
+  in-each f {l = z ∷ l} (List·Memᴰ·tail h) m = Memᴰ·append-right (f z) (in-each f h m)
+
+  pub of-each : (l : List A) (f : A → List B) {y : B} → y ∈ each l f → (x : A) × (x ∈ l) × (y ∈ f x)
+  unfolding each
+  of-each [] f m = absurd (List·Memᴰ·not-nil m)
+  of-each (z ∷ l) f {y} m = go (of-each l f) (List·Memᴰ·append-cases (f z) m)
+    where
+      go : (y ∈ each l f → (x : A) × (x ∈ l) × (y ∈ f x)) → (y ∈ f z) ⊎ (y ∈ each l f) → (x : A) × (x ∈ z ∷ l) × (y ∈ f x)
+      go ih (inl h) = (z, List·Memᴰ·head refl, h)
+      go ih (inr h) = let r = ih h in (r .0, List·Memᴰ·tail (r .1), r .2)
+
+  pub in-map : (f : A → B) {l : List A} {x : A} → x ∈ l → f x ∈ map f l
+  in-map f (List·Memᴰ·head e) = List·Memᴰ·head (ap f e)
+  in-map f (List·Memᴰ·tail h) = List·Memᴰ·tail (in-map f h)
+
+  pub of-map : (f : A → B) (l : List A) {y : B} → y ∈ map f l → (x : A) × (x ∈ l) × (y ≡ f x)
+  of-map f (z ∷ l) (List·Memᴰ·head e) = (z, List·Memᴰ·head refl, e)
+  of-map f (z ∷ l) (List·Memᴰ·tail h) = let r = of-map f l h in (r .0, List·Memᴰ·tail (r .1), r .2)
+
+module _ {ℓ} {A : Type ℓ} (p : A → Bool) where
+  pub in-keep : {l : List A} {x : A} → x ∈ l → T (p x) → x ∈ keep p l
+  unfolding keep
+  in-keep {l = z ∷ l} {x} (List·Memᴰ·head e) t = go (p z) (subst (λ (w : A). T (p w)) e t)
+    where
+      go : (b : Bool) → T b → x ∈ cond b (z ∷ keep p l) (keep p l)
+      go true t = List·Memᴰ·head e
+      go false t = absurd t
+  in-keep {l = z ∷ l} {x} (List·Memᴰ·tail h) t = go (p z) (in-keep h t)
+    where
+      go : (b : Bool) → x ∈ keep p l → x ∈ cond b (z ∷ keep p l) (keep p l)
+      go true m = List·Memᴰ·tail m
+      go false m = m
+
+  pub of-keep : (l : List A) {x : A} → x ∈ keep p l → (x ∈ l) × T (p x)
+  unfolding keep
+  of-keep [] m = absurd (List·Memᴰ·not-nil m)
+  of-keep (z ∷ l) {x} m = go (p z) refl (of-keep l) m
+    where
+      cons : x ∈ keep p l → (x ∈ keep p l → (x ∈ l) × T (p x)) → (x ∈ z ∷ l) × T (p x)
+      cons h ih = (List·Memᴰ·tail (ih h .0), ih h .1)
+
+      hit : p z ≡ true → (x ≡ z) ⊎ (x ∈ keep p l) → (x ∈ keep p l → (x ∈ l) × T (p x)) → (x ∈ z ∷ l) × T (p x)
+      hit q (inl e) ih = (List·Memᴰ·head e, subst (λ (b : Bool). T b) (sym (ap p e ∙ q)) tt)
+      hit q (inr h) ih = cons h ih
+
+      go : (b : Bool) → p z ≡ b → (x ∈ keep p l → (x ∈ l) × T (p x)) → x ∈ cond b (z ∷ keep p l) (keep p l) → (x ∈ z ∷ l) × T (p x)
+      go true q ih m = hit q (List·Memᴰ·cases-cons m) ih
+      go false q ih m = cons m ih
+
+  pub keep-yes : (x : A) (l : List A) → T (p x) → keep p (x ∷ l) ≡ x ∷ keep p l
+  unfolding keep
+  keep-yes x l t = go (p x) t
+    where
+      go : (b : Bool) → T b → cond b (x ∷ keep p l) (keep p l) ≡ x ∷ keep p l
+      go true t = refl
+      go false t = absurd t
+
+  pub keep-no : (x : A) (l : List A) → T (not (p x)) → keep p (x ∷ l) ≡ keep p l
+  unfolding keep
+  keep-no x l t = go (p x) t
+    where
+      go : (b : Bool) → T (not b) → cond b (x ∷ keep p l) (keep p l) ≡ keep p l
+      go true t = absurd t
+      go false t = refl
+
+  pub keep-append : (l m : List A) → keep p (l ++ m) ≡ keep p l ++ keep p m
+  unfolding keep
+  keep-append [] m = refl
+  keep-append (x ∷ l) m = go (p x) (keep-append l m)
+    where
+      go : (b : Bool) → keep p (l ++ m) ≡ keep p l ++ keep p m → cond b (x ∷ keep p (l ++ m)) (keep p (l ++ m)) ≡ cond b (x ∷ keep p l) (keep p l) ++ keep p m
+      go true e = ap (λ r. x ∷ r) e
+      go false e = e
+
+
+pub count-below : (n : ℕ) → length (below n) ≡ n
+unfolding below
+count-below zero = refl
+count-below (suc n) = length-append (below n) (n ∷ []) ∙ omega (arith, count-below n)
+
+-- a list with an element has a length of 1 or more, and the other way round
+pub some-length {ℓ} : {A : Type ℓ} (l : List A) {x : A} → x ∈ l → 0 < length l
+some-length [] m = absurd (List·Memᴰ·not-nil m)
+some-length (y ∷ l) m = omega arith
+
+pub length-some {ℓ} : {A : Type ℓ} (l : List A) → 0 < length l → (x : A) × (x ∈ l)
+length-some [] h = absurd (omega arith)
+length-some (x ∷ l) h = (x, List·Memᴰ·head refl)
+
+pub no-element {ℓ} : {A : Type ℓ} (l : List A) → ((x : A) → x ∈ l → ⊥) → l ≡ []
+no-element [] f = refl
+no-element (x ∷ l) f = absurd (f x (List·Memᴰ·head refl))
+
+-- two maps that agree on the list, and two maps that are equal lists
+pub map-cong {ℓ κ} : {A : Type ℓ} {B : Type κ} (f g : A → B) (l : List A) → ((x : A) → x ∈ l → f x ≡ g x) → map f l ≡ map g l
+map-cong f g [] h = refl
+map-cong f g (x ∷ l) h = ap₂ _∷_ (h x (List·Memᴰ·head refl)) (map-cong f g l (λ y m. h y (List·Memᴰ·tail m)))
+
+module _ {ℓ} {A : Type ℓ} (p : A → Bool) where
+  pub all-in : (l : List A) → T (all p l) → {x : A} → x ∈ l → T (p x)
+  unfolding all
+  all-in (y ∷ l) t (List·Memᴰ·head e) = subst (λ z. T (p z)) (sym e) (and-T (p y) (all p l) t .0)
+  all-in (y ∷ l) t (List·Memᴰ·tail m) = all-in l (and-T (p y) (all p l) t .1) m
+
+  pub in-all : (l : List A) → ((x : A) → x ∈ l → T (p x)) → T (all p l)
+  unfolding all
+  in-all [] f = tt
+  in-all (y ∷ l) f = T-and (p y) (all p l) (f y (List·Memᴰ·head refl)) (in-all l (λ x m. f x (List·Memᴰ·tail m)))
+
+pub of-map-cong {ℓ κ} : {A : Type ℓ} {B : Type κ} (f g : A → B) (l : List A) → map f l ≡ map g l → {x : A} → x ∈ l → f x ≡ g x
+of-map-cong f g (y ∷ l) e (List·Memᴰ·head q) = ap f q ∙ head-eq-of-cons-eq e ∙ sym (ap g q)
+of-map-cong f g (y ∷ l) e (List·Memᴰ·tail m) = of-map-cong f g l (tail-eq-of-cons-eq e) m

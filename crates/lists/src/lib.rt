@@ -1,0 +1,1 @@
+// Lists by enumeration: definitions in specs/, laws in proofs/. No code.

@@ -1,0 +1,1 @@
+// Sets of entries as numbers: definitions in specs/, laws in proofs/. No code yet.
