@@ -1,4 +1,5 @@
 -- The pair list (document 01, The sheet): "the lower triangle with own pairs, row by row, n(n+1)/2 signed 32-bit numbers".
+use mathlib.Core.Path.{_≡_}
 use mathlib.Core.Bool.{Bool, _&&_}
 use mathlib.Core.List.{List, map}
 use Prim.Native.Nat.{ℕ, suc, _+_, _*_, _/_, max, min}
@@ -12,6 +13,10 @@ use Rattle.integers.specs.Integers.{eqZ}
 -- s(a,b), the score of two entries: a similarity function. For kind 3 and the anchored scores, d(a,b): a dissimilarity.
 abbrev pub Similarity : Type 0
 Similarity = ℕ → ℕ → ℤ
+
+-- "any symmetric function from pairs of objects" (003), as the score in a pair list is
+abbrev pub Symmetric : Similarity → Type 0
+Symmetric s = (a b : ℕ) → s a b ≡ s b a
 
 -- "the row starts 0, 1, 3, 6 and so on": row i starts at i(i+1)/2
 unfoldable pub rowStart : ℕ → ℕ

@@ -105,4 +105,3 @@ least-each l f some {x} m =
     let b = least-le (f (r .0)) (r .2) in
     let c = least-le (map (λ x. least (f x)) l) (in-map (λ x. least (f x)) (r .1)) in
     omega (zarith, up-to .2)
-

@@ -1,7 +1,7 @@
 -- Laws of the lists: what is in them.
 use mathlib.Core.Path.{_≡_, refl, sym, ap, ap₂, _∙_, subst}
 use mathlib.Core.Bool.{Bool, true, false, not, cond, _&&_}
-use mathlib.Core.Logic.{_⊎_, inl, inr}
+use mathlib.Core.Logic.{_⊎_, inl, inr, _≢_}
 use mathlib.Core.List.{List, [], _∷_, _++_, map, List·Memᴰ, List·Memᴰ·head, List·Memᴰ·tail, List·Memᴰ·not-nil, List·Memᴰ·cases-cons, Memᴰ·append-left, Memᴰ·append-right, List·Memᴰ·append-cases, head-eq-of-cons-eq, tail-eq-of-cons-eq}
 use Prim.Native.Nat.{ℕ, zero, suc, _+_, _≤_, _<_}
 use native.Mathlib.Omega.{arith}
@@ -108,7 +108,6 @@ module _ {ℓ} {A : Type ℓ} (p : A → Bool) where
       go true e = ap (λ r. x ∷ r) e
       go false e = e
 
-
 pub count-below : (n : ℕ) → length (below n) ≡ n
 unfolding below
 count-below zero = refl
@@ -146,3 +145,17 @@ module _ {ℓ} {A : Type ℓ} (p : A → Bool) where
 pub of-map-cong {ℓ κ} : {A : Type ℓ} {B : Type κ} (f g : A → B) (l : List A) → map f l ≡ map g l → {x : A} → x ∈ l → f x ≡ g x
 of-map-cong f g (y ∷ l) e (List·Memᴰ·head q) = ap f q ∙ head-eq-of-cons-eq e ∙ sym (ap g q)
 of-map-cong f g (y ∷ l) e (List·Memᴰ·tail m) = of-map-cong f g l (tail-eq-of-cons-eq e) m
+
+-- x is in the list, or no element equals it
+pub in-or-none : (x : ℕ) (l : List ℕ) → (x ∈ l) ⊎ ((y : ℕ) → y ∈ l → y ≢ x)
+in-or-none x [] = inr (λ y m. absurd (List·Memᴰ·not-nil m))
+in-or-none x (z ∷ l) = go (ℕ-discrete x z) (in-or-none x l)
+  where
+    rest : x ≢ z → ((y : ℕ) → y ∈ l → y ≢ x) → (y : ℕ) → (y ≡ z) ⊎ (y ∈ l) → y ≢ x
+    rest f g y (inl e) q = f (sym q ∙ e)
+    rest f g y (inr m) q = g y m q
+
+    go : Dec (x ≡ z) → (x ∈ l) ⊎ ((y : ℕ) → y ∈ l → y ≢ x) → (x ∈ z ∷ l) ⊎ ((y : ℕ) → y ∈ z ∷ l → y ≢ x)
+    go (yes e) _ = inl (List·Memᴰ·head e)
+    go (no f) (inl m) = inl (List·Memᴰ·tail m)
+    go (no f) (inr g) = inr (λ y m. rest f g y (List·Memᴰ·cases-cons m))

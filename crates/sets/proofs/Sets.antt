@@ -227,3 +227,45 @@ in-difference n A B {i} h k l = in-mask n (λ i. has A i && not (has B i)) h (T-
 pub of-difference : (n A B : ℕ) {i : ℕ} → i < n → difference n A B ∋ i → (A ∋ i) × (B ∌ i)
 unfolding difference
 of-difference n A B {i} h k = let r = and-T (has A i) (not (has B i)) (of-mask n (λ i. has A i && not (has B i)) h k) in (has-yes A i (r .0), has-no B i (r .1))
+
+-- a member of A that is not in U, or there is none
+pub find : (n A U : ℕ) → ((i : ℕ) × (i < n) × (A ∋ i) × (U ∌ i)) ⊎ Subset n A U
+find zero A U = inr (record { all = λ i h k. absurd (omega arith) })
+find (suc n) A U = go (find n A U) (in-or-out A n) (in-or-out U n)
+  where
+    last : Subset n A U → (A ∋ n → U ∋ n) → Subset (suc n) A U
+    last r f = record { all = λ i h k. at i h k (ℕ-discrete i n) }
+      where
+        at : (i : ℕ) → i < suc n → A ∋ i → Dec (i ≡ n) → U ∋ i
+        at i h k (yes e) = subst (λ (j : ℕ). U ∋ j) (sym e) (f (subst (λ (j : ℕ). A ∋ j) e k))
+        at i h k (no g) = r .all i (omega arith) k
+
+    go : ((i : ℕ) × (i < n) × (A ∋ i) × (U ∌ i)) ⊎ Subset n A U → (A ∋ n) ⊎ (A ∌ n) → (U ∋ n) ⊎ (U ∌ n) → ((i : ℕ) × (i < suc n) × (A ∋ i) × (U ∌ i)) ⊎ Subset (suc n) A U
+    go (inl r) _ _ = inl (r .0, omega arith, r .2, r .3)
+    go (inr r) (inl h) (inl k) = inr (last r (λ _. k))
+    go (inr r) (inl h) (inr k) = inl (n, omega arith, h, k)
+    go (inr r) (inr h) _ = inr (last r (λ t. clash t h))
+
+-- a set inside A that is not A leaves a member out
+pub left-out : (n A U : ℕ) → A < 2 ^ n → U < 2 ^ n → U ≢ A → Subset n U A → (i : ℕ) × (i < n) × (A ∋ i) × (U ∌ i)
+left-out n A U ha hu ne ins = go (find n A U)
+  where
+    bits : Subset n A U → (i : ℕ) → i < n → U / 2 ^ i % 2 ≡ A / 2 ^ i % 2
+    bits r i h = at (in-or-out U i) (in-or-out A i)
+      where
+        at : (U ∋ i) ⊎ (U ∌ i) → (A ∋ i) ⊎ (A ∌ i) → U / 2 ^ i % 2 ≡ A / 2 ^ i % 2
+        at (inl p) (inl q) = omega arith
+        at (inl p) (inr q) = clash (ins .all i h p) q
+        at (inr p) (inl q) = clash (r .all i h q) p
+        at (inr p) (inr q) = omega arith
+
+    go : ((i : ℕ) × (i < n) × (A ∋ i) × (U ∌ i)) ⊎ Subset n A U → (i : ℕ) × (i < n) × (A ∋ i) × (U ∌ i)
+    go (inl r) = r
+    go (inr r) = absurd (ne (same n U A hu ha (bits r)))
+
+pub one-out : (i j : ℕ) → i ≢ j → (2 ^ i) ∌ j
+one-out i j ne = go (in-or-out (2 ^ i) j)
+  where
+    go : ((2 ^ i) ∋ j) ⊎ ((2 ^ i) ∌ j) → (2 ^ i) ∌ j
+    go (inl k) = absurd (ne (sym (one-only i k)))
+    go (inr k) = k
