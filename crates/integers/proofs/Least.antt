@@ -95,6 +95,15 @@ least-same (x ∷ l) (y ∷ m) f g =
     let b = least-le (x ∷ l) (g (least (y ∷ m)) (least-of (y ∷ m) (List·Memᴰ·head refl))) in
     omega zarith
 
+pub greatest-same : (l m : List ℤ) → ((z : ℤ) → z ∈ l → z ∈ m) → ((z : ℤ) → z ∈ m → z ∈ l) → greatest l ≡ greatest m
+greatest-same [] [] f g = refl
+greatest-same [] (y ∷ m) f g = absurd (List·Memᴰ·not-nil (g y (List·Memᴰ·head refl)))
+greatest-same (x ∷ l) [] f g = absurd (List·Memᴰ·not-nil (f x (List·Memᴰ·head refl)))
+greatest-same (x ∷ l) (y ∷ m) f g =
+    let a = greatest-ge (y ∷ m) (f (greatest (x ∷ l)) (greatest-of (x ∷ l) (List·Memᴰ·head refl))) in
+    let b = greatest-ge (x ∷ l) (g (greatest (y ∷ m)) (greatest-of (y ∷ m) (List·Memᴰ·head refl))) in
+    omega zarith
+
 -- the least of the leasts
 pub least-each : (l : List ℕ) (f : ℕ → List ℤ) → ((x : ℕ) → x ∈ l → (z : ℤ) × (z ∈ f x)) → {x : ℕ} → x ∈ l → least (map (λ x. least (f x)) l) ≡ least (each l f)
 least-each l f some {x} m =
