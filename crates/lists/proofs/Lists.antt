@@ -2,7 +2,7 @@
 use mathlib.Core.Path.{_≡_, refl, sym, ap, ap₂, _∙_, subst}
 use mathlib.Core.Bool.{Bool, true, false, not, cond, _&&_}
 use mathlib.Core.Logic.{_⊎_, inl, inr, _≢_}
-use mathlib.Core.List.{List, [], _∷_, _++_, map, List·Memᴰ, List·Memᴰ·head, List·Memᴰ·tail, List·Memᴰ·not-nil, List·Memᴰ·cases-cons, Memᴰ·append-left, Memᴰ·append-right, List·Memᴰ·append-cases, head-eq-of-cons-eq, tail-eq-of-cons-eq}
+use mathlib.Core.List.{List, [], _∷_, _++_, map, List·Memᴰ, List·Memᴰ·head, List·Memᴰ·tail, List·Memᴰ·not-nil, List·Memᴰ·cases-cons, Memᴰ·append-left, Memᴰ·append-right, List·Memᴰ·append-cases, head-eq-of-cons-eq, tail-eq-of-cons-eq, append-nil, append-assoc}
 use Prim.Native.Nat.{ℕ, zero, suc, _+_, _≤_, _<_}
 use native.Mathlib.Omega.{arith}
 use native.Mathlib.Decide.{ℕ-discrete}
@@ -159,3 +159,12 @@ in-or-none x (z ∷ l) = go (ℕ-discrete x z) (in-or-none x l)
     go (yes e) _ = inl (List·Memᴰ·head e)
     go (no f) (inl m) = inl (List·Memᴰ·tail m)
     go (no f) (inr g) = inr (λ y m. rest f g y (List·Memᴰ·cases-cons m))
+
+pub each-append {ℓ κ} : {A : Type ℓ} {B : Type κ} (l m : List A) (f : A → List B) → each (l ++ m) f ≡ each l f ++ each m f
+unfolding each
+each-append [] m f = refl
+each-append (x ∷ l) m f = ap (λ r. f x ++ r) (each-append l m f) ∙ sym (append-assoc (f x) (each l f) (each m f))
+
+pub each-below {ℓ} : {B : Type ℓ} (n : ℕ) (f : ℕ → List B) → each (below (suc n)) f ≡ each (below n) f ++ f n
+unfolding below each
+each-below n f = each-append (below n) (n ∷ []) f ∙ ap (λ r. each (below n) f ++ r) (append-nil (f n))
