@@ -112,8 +112,12 @@ module _ (n : ℕ) (link : ℕ → ℕ → Quotient) (den : (P Q : ℕ) → 1 �
 
           at : (at-pair x ≼ at-pair m) ⊎ (at-pair m ≼ at-pair x) → (m : ℕ × ℕ) × (m ∈ x ∷ y ∷ l) × ((p : ℕ × ℕ) → p ∈ x ∷ y ∷ l → at-pair p ≼ at-pair m)
           at (inl c) = (m, List·Memᴰ·tail k, λ p q. to m c b p (List·Memᴰ·cases-cons q))
-          at (inr c) = (x, List·Memᴰ·head refl, λ p q.
-              to x (⊎-elim (λ h. h) (λ h. h) (quotient-total (at-pair x) (at-pair x))) (λ p q. ≼-trans (at-pair p) (at-pair m) (at-pair x) (g m (List·Memᴰ·tail k)) (b p q) c) p (List·Memᴰ·cases-cons q))
+          at (inr c) = (
+            x,
+            List·Memᴰ·head refl,
+            λ p q.
+                to x (⊎-elim (λ h. h) (λ h. h) (quotient-total (at-pair x) (at-pair x))) (λ p q. ≼-trans (at-pair p) (at-pair m) (at-pair x) (g m (List·Memᴰ·tail k)) (b p q) c) p (List·Memᴰ·cases-cons q),
+          )
 
   merges-exist : (k : ℕ) (bs : List ℕ) → length bs ≡ suc k → Partition n bs → (ms : List (ℕ × ℕ)) × Merges link bs ms
   merges-exist zero bs e p = ([], e)

@@ -1,6 +1,10 @@
 pub mod Bench
+pub mod PairList
+pub mod Strong
+pub mod Groups
 pub mod Blocks
 pub mod Trees
 pub mod Links
+pub mod Single
 pub mod Exists
 pub mod Arrangement
