@@ -4,3 +4,4 @@ pub mod Trees
 pub mod Groups
 pub mod PairList
 pub mod Strong
+pub mod Farris
