@@ -2,6 +2,7 @@ pub mod Bench
 pub mod PairList
 pub mod Strong
 pub mod Groups
+pub mod Farris
 pub mod Blocks
 pub mod Trees
 pub mod Links

@@ -114,3 +114,9 @@ least-each l f some {x} m =
     let b = least-le (f (r .0)) (r .2) in
     let c = least-le (map (λ x. least (f x)) l) (in-map (λ x. least (f x)) (r .1)) in
     omega (zarith, up-to .2)
+
+-- a least of 1 or more is the least of some number
+pub least-some : (l : List ℤ) → pos 1 ≤ℤ least l → (z : ℤ) × (z ∈ l)
+unfolding least
+least-some [] h = absurd (h .le)
+least-some (z ∷ l) h = (z, List·Memᴰ·head refl)
