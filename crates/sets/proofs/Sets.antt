@@ -286,3 +286,15 @@ less-size (suc n) A {x} h k = go (ℕ-discrete x n) (λ l. less-size n A l k)
     go : Dec (x ≡ n) → (x < n → size n A < n) → size (suc n) A < suc n
     go (yes e) ih = let last : A ∌ n = subst (λ (j : ℕ). A ∌ j) e k in omega (arith, size-suc n A, size-le n A)
     go (no f) ih = omega (arith, size-suc n A, ih (omega arith))
+
+-- a single entry is one member
+pub size-single : (n i : ℕ) → size n (2 ^ i) ≤ 1
+size-single n i = at n .0
+  where
+    at : (n : ℕ) → (size n (2 ^ i) ≤ 1) × (n ≤ i → size n (2 ^ i) ≡ 0)
+    at zero = (omega (arith, size-le 0 (2 ^ i)), λ h. omega (arith, size-le 0 (2 ^ i)))
+    at (suc n) = go (at n) (ℕ-discrete i n)
+      where
+        go : (size n (2 ^ i) ≤ 1) × (n ≤ i → size n (2 ^ i) ≡ 0) → Dec (i ≡ n) → (size (suc n) (2 ^ i) ≤ 1) × (suc n ≤ i → size (suc n) (2 ^ i) ≡ 0)
+        go (a, b) (yes e) = (omega (arith, size-suc n (2 ^ i), b (omega arith)), λ h. absurd (omega arith))
+        go (a, b) (no d) = (omega (arith, size-suc n (2 ^ i), one-out i n d), λ h. omega (arith, size-suc n (2 ^ i), one-out i n d, b (omega arith)))
