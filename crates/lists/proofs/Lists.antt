@@ -3,7 +3,7 @@ use mathlib.Core.Path.{_≡_, refl, sym, ap, ap₂, _∙_, subst}
 use mathlib.Core.Bool.{Bool, true, false, not, cond, _&&_}
 use mathlib.Core.Logic.{_⊎_, inl, inr, _≢_}
 use mathlib.Core.List.{List, [], _∷_, _++_, map, List·Memᴰ, List·Memᴰ·head, List·Memᴰ·tail, List·Memᴰ·not-nil, List·Memᴰ·cases-cons, Memᴰ·append-left, Memᴰ·append-right, List·Memᴰ·append-cases, head-eq-of-cons-eq, tail-eq-of-cons-eq}
-use Prim.Native.Nat.{ℕ, zero, suc, _+_, _≤_, _<_}
+use Prim.Native.Nat.{ℕ, zero, suc, _+_, _*_, _≤_, _<_}
 use native.Mathlib.Omega.{arith}
 use native.Mathlib.Decide.{ℕ-discrete}
 use lib.Dec.{T}
@@ -159,3 +159,9 @@ in-or-none x (z ∷ l) = go (ℕ-discrete x z) (in-or-none x l)
     go (yes e) _ = inl (List·Memᴰ·head e)
     go (no f) (inl m) = inl (List·Memᴰ·tail m)
     go (no f) (inr g) = inr (λ y m. rest f g y (List·Memᴰ·cases-cons m))
+
+-- a list of the same length for each element
+pub length-each {ℓ κ} : {A : Type ℓ} {B : Type κ} (l : List A) (f : A → List B) (c : ℕ) → ((x : A) → length (f x) ≡ c) → length (each l f) ≡ length l * c
+unfolding each
+length-each [] f c h = omega arith
+length-each (x ∷ l) f c h = length-append (f x) (each l f) ∙ omega (arith, h x, length-each l f c h)
