@@ -9,3 +9,6 @@ pub mod Links
 pub mod Single
 pub mod Exists
 pub mod Arrangement
+pub mod Weights
+pub mod Stable
+pub mod Average

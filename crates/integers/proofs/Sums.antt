@@ -1,5 +1,5 @@
 -- Laws of finite sums.
-use mathlib.Core.Path.{_≡_, refl, sym, ap, ap₂, _∙_, subst}
+use mathlib.Core.Path.{_≡_, refl, sym, ap, ap₂, _∙_, subst, subst₂}
 use mathlib.Core.Bool.{Bool, true, false, not, cond}
 use mathlib.Core.Logic.{_⊎_, inl, inr}
 use mathlib.Core.List.{List, [], _∷_, _++_, map, List·Memᴰ, List·Memᴰ·head, List·Memᴰ·tail, List·Memᴰ·cases-cons}
@@ -104,3 +104,24 @@ sum-erase U (C ∷ bs) f m = go (eqb C U) refl (sum-erase U bs f) (List·Memᴰ�
     go true e ih _ = ap (λ (x : ℕ). f x +ℤ sumOf bs f) (eqb→eq C U (true-T e))
     go false e ih (inl q) = absurd (eqb-no C U (false-T e) (sym q))
     go false e ih (inr m) = omega (zarith, ih m, +at (f C) (sumOf bs f), +at (f U) (sumOf (erase U bs) f), +at (f C) (sumOf (erase U bs) f), +at (f U) (f C +ℤ sumOf (erase U bs) f))
+
+-- summands above 0, one or more of them, have a sum above 0
+pub sum-pos {ℓ} : {X : Type ℓ} (l : List X) (f : X → ℤ) → ((x : X) → x ∈ l → pos 0 <ℤ f x) → {x : X} → x ∈ l → pos 0 <ℤ sumOf l f
+unfolding sumOf up dn
+sum-pos (y ∷ l) f h m =
+    let k = h y (List·Memᴰ·head refl) in
+    let r = sum-nonneg l f (λ x m. let p = h x (List·Memᴰ·tail m) in omega zarith) in
+    omega (zarith, +at (f y) (sumOf l f))
+
+-- fewer summands, each at most as great, and none left out below 0
+pub sum-keep-le {ℓ} : {X : Type ℓ} (p q : X → Bool) (l : List X) (f g : X → ℤ) → ((x : X) → x ∈ l → T (p x) → T (q x)) → ((x : X) → f x ≤ℤ g x) → ((x : X) → pos 0 ≤ℤ g x)
+    → sumOf (keep p l) f ≤ℤ sumOf (keep q l) g
+sum-keep-le {X} p q l f g sub le nn =
+    subst₂ _≤ℤ_ (sym (sum-keep p l f)) (sym (sum-keep q l g))
+    (sum-mono l (λ x. cond (p x) (f x) (pos 0)) (λ x. cond (q x) (g x) (pos 0)) (λ x m. at x (p x) (q x) (sub x m)))
+  where
+    at : (x : X) (b c : Bool) → (T b → T c) → cond b (f x) (pos 0) ≤ℤ cond c (g x) (pos 0)
+    at x true true h = le x
+    at x true false h = absurd (h tt)
+    at x false true h = nn x
+    at x false false h = ≤ℤ-refl (pos 0)

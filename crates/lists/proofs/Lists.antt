@@ -3,7 +3,7 @@ use mathlib.Core.Path.{_≡_, refl, sym, ap, ap₂, _∙_, subst}
 use mathlib.Core.Bool.{Bool, true, false, not, cond, _&&_}
 use mathlib.Core.Logic.{_⊎_, inl, inr, _≢_}
 use mathlib.Core.List.{List, [], _∷_, _++_, map, List·Memᴰ, List·Memᴰ·head, List·Memᴰ·tail, List·Memᴰ·not-nil, List·Memᴰ·cases-cons, Memᴰ·append-left, Memᴰ·append-right, List·Memᴰ·append-cases, head-eq-of-cons-eq, tail-eq-of-cons-eq, append-nil, append-assoc, map-append}
-use Prim.Native.Nat.{ℕ, zero, suc, _+_, _≤_, _<_}
+use Prim.Native.Nat.{ℕ, zero, suc, _+_, _≤_, _<_, _*_}
 use native.Mathlib.Omega.{arith}
 use native.Mathlib.Decide.{ℕ-discrete}
 use lib.Dec.{T}
@@ -192,3 +192,9 @@ getD-below f (suc n) i d h = ap (λ l. getD l i d) (map-append f (below n) (n �
     go : Dec (i ≡ n) → (i < n → getD (map f (below n)) i d ≡ f i) → getD (map f (below n) ++ (f n ∷ [])) i d ≡ f i
     go (yes e) ih = rw e (getD-at (map f (below n)) (f n) [] d n long)
     go (no g) ih = List·getD-append (map f (below n)) (f n ∷ []) d i (omega (arith, long)) ∙ ih (omega arith)
+
+-- a list of the same length for each element
+pub length-each {ℓ κ} : {A : Type ℓ} {B : Type κ} (l : List A) (f : A → List B) (c : ℕ) → ((x : A) → length (f x) ≡ c) → length (each l f) ≡ length l * c
+unfolding each
+length-each [] f c h = omega arith
+length-each (x ∷ l) f c h = length-append (f x) (each l f) ∙ omega (arith, h x, length-each l f c h)

@@ -2,7 +2,7 @@
 use mathlib.Core.Path.{_≡_, refl, sym, ap, _∙_, subst}
 use mathlib.Core.Bool.{Bool, true, false, not, cond, _&&_}
 use mathlib.Core.Logic.{_⊎_, inl, inr, _≢_}
-use mathlib.Core.List.{List, [], _∷_, _++_}
+use mathlib.Core.List.{List, [], _∷_, _++_, append-nil}
 use Prim.Native.Nat.{ℕ, zero, suc, _+_, _-_, _*_, _/_, _%_, _^_, _≤_, _<_, max, min}
 use native.Mathlib.Nat.{div-one, div-self, zero-div, div-div-eq-div-mul, pow-succ'}
 use native.Mathlib.Decide.{ℕ-discrete}
@@ -298,3 +298,33 @@ size-single n i = at n .0
         go : (size n (2 ^ i) ≤ 1) × (n ≤ i → size n (2 ^ i) ≡ 0) → Dec (i ≡ n) → (size (suc n) (2 ^ i) ≤ 1) × (suc n ≤ i → size (suc n) (2 ^ i) ≡ 0)
         go (a, b) (yes e) = (omega (arith, size-suc n (2 ^ i), b (omega arith)), λ h. absurd (omega arith))
         go (a, b) (no d) = (omega (arith, size-suc n (2 ^ i), one-out i n d), λ h. omega (arith, size-suc n (2 ^ i), one-out i n d, b (omega arith)))
+
+-- the members below n + 1, with n in A and without
+pub members-with : (n A : ℕ) → A ∋ n → members (suc n) A ≡ members n A ++ (n ∷ [])
+unfolding members below keep
+members-with n A k = keep-append (has A) (below n) (n ∷ []) ∙ ap (λ l. members n A ++ l) (keep-yes (has A) n [] (yes-has A n k))
+
+pub members-without : (n A : ℕ) → A ∌ n → members (suc n) A ≡ members n A
+unfolding members below keep
+members-without n A k = keep-append (has A) (below n) (n ∷ []) ∙ ap (λ l. members n A ++ l) (keep-no (has A) n [] (no-has A n k)) ∙ append-nil (members n A)
+
+pub subset-antisymm : (n A B : ℕ) → A < 2 ^ n → B < 2 ^ n → Subset n A B → Subset n B A → A ≡ B
+subset-antisymm n A B ha hb p q = go (ℕ-discrete A B)
+  where
+    go : Dec (A ≡ B) → A ≡ B
+    go (yes e) = e
+    go (no d) = let (i, h, k, o) = left-out n B A hb ha d p in clash (q .all i h k) o
+
+pub not-difference : (n A B : ℕ) {i : ℕ} → i < n → B ∋ i → difference n A B ∌ i
+not-difference n A B {i} h k = go (in-or-out (difference n A B) i)
+  where
+    go : (difference n A B ∋ i) ⊎ (difference n A B ∌ i) → difference n A B ∌ i
+    go (inl c) = clash k (of-difference n A B h c .1)
+    go (inr c) = c
+
+pub out-difference : (n A B : ℕ) {i : ℕ} → i < n → A ∋ i → difference n A B ∌ i → B ∋ i
+out-difference n A B {i} h a k = go (in-or-out B i)
+  where
+    go : (B ∋ i) ⊎ (B ∌ i) → B ∋ i
+    go (inl c) = c
+    go (inr c) = clash (in-difference n A B h a c) k
