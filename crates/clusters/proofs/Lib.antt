@@ -12,3 +12,4 @@ pub mod Arrangement
 pub mod Weights
 pub mod Stable
 pub mod Average
+pub mod Theorems
