@@ -5,3 +5,6 @@ pub mod Groups
 pub mod PairList
 pub mod Strong
 pub mod Farris
+pub mod Weights
+pub mod Reindex
+pub mod Reordering

@@ -11,7 +11,7 @@ use lib.Dec.{T, eqb, eqb→eq}
 use lib.ListN.{length}
 use Rattle.lists.specs.Lists.{_∈_, below, each, keep, erase}
 use Rattle.lists.proofs.Tests.{true-T, false-T, eqb-no}
-use Rattle.lists.proofs.Lists.{below-lt}
+use Rattle.lists.proofs.Lists.{below-lt, keep-one}
 use Rattle.integers.specs.Integers.{sumOf, sum}
 use Rattle.integers.proofs.Linear.{up, dn, zarith, +at, -at, *at, four, four-sub, *-add, leZ-no}
 
@@ -104,3 +104,13 @@ sum-erase U (C ∷ bs) f m = go (eqb C U) refl (sum-erase U bs f) (List·Memᴰ�
     go true e ih _ = ap (λ (x : ℕ). f x +ℤ sumOf bs f) (eqb→eq C U (true-T e))
     go false e ih (inl q) = absurd (eqb-no C U (false-T e) (sym q))
     go false e ih (inr m) = omega (zarith, ih m, +at (f C) (sumOf bs f), +at (f U) (sumOf (erase U bs) f), +at (f C) (sumOf (erase U bs) f), +at (f U) (f C +ℤ sumOf (erase U bs) f))
+
+-- one summand more at the end
+pub sum-snoc {ℓ} : {X : Type ℓ} (l : List X) (x : X) (f : X → ℤ) → sumOf (l ++ (x ∷ [])) f ≡ sumOf l f +ℤ f x
+unfolding sumOf
+sum-snoc l x f = sum-append l (x ∷ []) f ∙ ap (λ z. sumOf l f +ℤ z) (+ℤ-idr (f x))
+
+-- of the numbers below n, that which equals c
+pub sum-one : (n c : ℕ) → c < n → (f : ℕ → ℤ) → sumOf (below n) (λ j. cond (eqb j c) (f j) (pos 0)) ≡ f c
+unfolding sumOf
+sum-one n c h f = sym (sum-keep (λ j. eqb j c) (below n) f) ∙ ap (λ l. sumOf l f) (keep-one n c h) ∙ +ℤ-idr (f c)

@@ -2,7 +2,7 @@
 use mathlib.Core.Path.{_≡_, refl, sym, ap, _∙_, subst}
 use mathlib.Core.Bool.{Bool, true, false, not, cond, _&&_}
 use mathlib.Core.Logic.{_⊎_, inl, inr, _≢_}
-use mathlib.Core.List.{List, [], _∷_, _++_}
+use mathlib.Core.List.{List, [], _∷_, _++_, append-nil}
 use Prim.Native.Nat.{ℕ, zero, suc, _+_, _-_, _*_, _/_, _%_, _^_, _≤_, _<_, max, min}
 use native.Mathlib.Nat.{div-one, div-self, zero-div, div-div-eq-div-mul, pow-succ'}
 use native.Mathlib.Decide.{ℕ-discrete}
@@ -286,3 +286,24 @@ less-size (suc n) A {x} h k = go (ℕ-discrete x n) (λ l. less-size n A l k)
     go : Dec (x ≡ n) → (x < n → size n A < n) → size (suc n) A < suc n
     go (yes e) ih = let last : A ∌ n = subst (λ (j : ℕ). A ∌ j) e k in omega (arith, size-suc n A, size-le n A)
     go (no f) ih = omega (arith, size-suc n A, ih (omega arith))
+
+-- the members below n + 1, with n in A and without
+pub members-with : (n A : ℕ) → A ∋ n → members (suc n) A ≡ members n A ++ (n ∷ [])
+unfolding members below keep
+members-with n A k = keep-append (has A) (below n) (n ∷ []) ∙ ap (λ l. members n A ++ l) (keep-yes (has A) n [] (yes-has A n k))
+
+pub members-without : (n A : ℕ) → A ∌ n → members (suc n) A ≡ members n A
+unfolding members below keep
+members-without n A k = keep-append (has A) (below n) (n ∷ []) ∙ ap (λ l. members n A ++ l) (keep-no (has A) n [] (no-has A n k)) ∙ append-nil (members n A)
+
+-- a set and its complement make up all entries
+pub size-complement : (n A : ℕ) → size n (complement n A) + size n A ≡ n
+size-complement n A = go n (omega arith)
+  where
+    bit-sum : (i : ℕ) → i < n → (A ∋ i) ⊎ (A ∌ i) → complement n A / 2 ^ i % 2 + A / 2 ^ i % 2 ≡ 1
+    bit-sum i h (inl k) = omega (arith, not-complement n A h k)
+    bit-sum i h (inr k) = omega (arith, in-complement n A h k)
+
+    go : (m : ℕ) → m ≤ n → size m (complement n A) + size m A ≡ m
+    go zero h = omega (arith, size-le 0 (complement n A), size-le 0 A)
+    go (suc m) h = omega (arith, size-suc m (complement n A), size-suc m A, go m (omega arith), bit-sum m h (in-or-out A m))
