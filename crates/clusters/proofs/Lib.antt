@@ -13,3 +13,5 @@ pub mod Weights
 pub mod Stable
 pub mod Average
 pub mod Theorems
+pub mod Reindex
+pub mod Reordering

@@ -11,7 +11,7 @@ use lib.Dec.{T, eqb, eqb→eq}
 use lib.ListN.{length}
 use Rattle.lists.specs.Lists.{_∈_, below, each, keep, erase}
 use Rattle.lists.proofs.Tests.{true-T, false-T, eqb-no}
-use Rattle.lists.proofs.Lists.{below-lt}
+use Rattle.lists.proofs.Lists.{below-lt, keep-one}
 use Rattle.integers.specs.Integers.{sumOf, sum}
 use Rattle.integers.proofs.Linear.{up, dn, zarith, +at, -at, *at, four, four-sub, *-add, leZ-no}
 
@@ -125,3 +125,13 @@ sum-keep-le {X} p q l f g sub le nn =
     at x true false h = absurd (h tt)
     at x false true h = nn x
     at x false false h = ≤ℤ-refl (pos 0)
+
+-- one summand more at the end
+pub sum-snoc {ℓ} : {X : Type ℓ} (l : List X) (x : X) (f : X → ℤ) → sumOf (l ++ (x ∷ [])) f ≡ sumOf l f +ℤ f x
+unfolding sumOf
+sum-snoc l x f = sum-append l (x ∷ []) f ∙ ap (λ z. sumOf l f +ℤ z) (+ℤ-idr (f x))
+
+-- of the numbers below n, that which equals c
+pub sum-one : (n c : ℕ) → c < n → (f : ℕ → ℤ) → sumOf (below n) (λ j. cond (eqb j c) (f j) (pos 0)) ≡ f c
+unfolding sumOf
+sum-one n c h f = sym (sum-keep (λ j. eqb j c) (below n) f) ∙ ap (λ l. sumOf l f) (keep-one n c h) ∙ +ℤ-idr (f c)

@@ -6,11 +6,11 @@ use mathlib.Core.List.{List, [], _∷_, _++_, map, List·Memᴰ, List·Memᴰ·h
 use Prim.Native.Nat.{ℕ, zero, suc, _+_, _≤_, _<_, _*_}
 use native.Mathlib.Omega.{arith}
 use native.Mathlib.Decide.{ℕ-discrete}
-use lib.Dec.{T}
+use lib.Dec.{T, eqb, eqb→eq, not-T}
 use lib.ListN.{length, length-append, length-map, getD, List·getD-append}
 use lib.Seq.{getD-at}
 use Rattle.lists.specs.Lists.{_∈_, below, each, keep, all}
-use Rattle.lists.proofs.Tests.{and-T, T-and, T-or-not, T-true, T-false, true-T}
+use Rattle.lists.proofs.Tests.{and-T, T-and, T-or-not, T-true, T-false, true-T, eqb-yes}
 
 pub below-lt : (n : ℕ) {i : ℕ} → i ∈ below n → i < n
 unfolding below
@@ -198,3 +198,19 @@ pub length-each {ℓ κ} : {A : Type ℓ} {B : Type κ} (l : List A) (f : A → 
 unfolding each
 length-each [] f c h = omega arith
 length-each (x ∷ l) f c h = length-append (f x) (each l f) ∙ omega (arith, h x, length-each l f c h)
+
+-- of the numbers below n, one equals c
+pub keep-one : (n c : ℕ) → c < n → keep (λ j. eqb j c) (below n) ≡ c ∷ []
+unfolding below keep
+keep-one zero c h = absurd (omega arith)
+keep-one (suc n) c h = keep-append is (below n) (n ∷ []) ∙ go (keep-one n c) (ℕ-discrete n c)
+  where
+    is : ℕ → Bool
+    is j = eqb j c
+
+    none : n ≡ c → keep is (below n) ≡ []
+    none e = no-element (keep is (below n)) (λ j m. let (k, t) = of-keep is (below n) m in omega (arith, below-lt n k, eqb→eq j c t))
+
+    go : (c < n → keep is (below n) ≡ c ∷ []) → Dec (n ≡ c) → keep is (below n) ++ keep is (n ∷ []) ≡ c ∷ []
+    go ih (yes e) = ap₂ _++_ (none e) (keep-yes is n [] (eqb-yes n c e)) ∙ ap (λ (x : ℕ). x ∷ []) e
+    go ih (no d) = ap₂ _++_ (ih (omega arith)) (keep-no is n [] (not-T (eqb n c) (λ t. d (eqb→eq n c t))))

@@ -40,3 +40,9 @@ eqb-yes i j e = subst (λ (x : ℕ). T (eqb i x)) e (eqb-refl i)
 
 pub eqb-no : (i j : ℕ) → T (not (eqb i j)) → i ≢ j
 eqb-no i j t e = T-not (eqb i j) t (eqb-yes i j e)
+
+-- two tests that pass alike are equal
+pub T-same : (a b : Bool) → (T a → T b) → (T b → T a) → a ≡ b
+T-same true b f g = sym (T-true (f tt))
+T-same false true f g = absurd (g tt)
+T-same false false f g = refl

@@ -298,7 +298,6 @@ size-single n i = at n .0
         go : (size n (2 ^ i) ≤ 1) × (n ≤ i → size n (2 ^ i) ≡ 0) → Dec (i ≡ n) → (size (suc n) (2 ^ i) ≤ 1) × (suc n ≤ i → size (suc n) (2 ^ i) ≡ 0)
         go (a, b) (yes e) = (omega (arith, size-suc n (2 ^ i), b (omega arith)), λ h. absurd (omega arith))
         go (a, b) (no d) = (omega (arith, size-suc n (2 ^ i), one-out i n d), λ h. omega (arith, size-suc n (2 ^ i), one-out i n d, b (omega arith)))
-
 -- the members below n + 1, with n in A and without
 pub members-with : (n A : ℕ) → A ∋ n → members (suc n) A ≡ members n A ++ (n ∷ [])
 unfolding members below keep
@@ -328,3 +327,15 @@ out-difference n A B {i} h a k = go (in-or-out B i)
     go : (B ∋ i) ⊎ (B ∌ i) → B ∋ i
     go (inl c) = c
     go (inr c) = clash (in-difference n A B h a c) k
+
+-- a set and its complement make up all entries
+pub size-complement : (n A : ℕ) → size n (complement n A) + size n A ≡ n
+size-complement n A = go n (omega arith)
+  where
+    bit-sum : (i : ℕ) → i < n → (A ∋ i) ⊎ (A ∌ i) → complement n A / 2 ^ i % 2 + A / 2 ^ i % 2 ≡ 1
+    bit-sum i h (inl k) = omega (arith, not-complement n A h k)
+    bit-sum i h (inr k) = omega (arith, in-complement n A h k)
+
+    go : (m : ℕ) → m ≤ n → size m (complement n A) + size m A ≡ m
+    go zero h = omega (arith, size-le 0 (complement n A), size-le 0 A)
+    go (suc m) h = omega (arith, size-suc m (complement n A), size-suc m A, go m (omega arith), bit-sum m h (in-or-out A m))
