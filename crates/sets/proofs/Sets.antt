@@ -298,6 +298,7 @@ size-single n i = at n .0
         go : (size n (2 ^ i) ≤ 1) × (n ≤ i → size n (2 ^ i) ≡ 0) → Dec (i ≡ n) → (size (suc n) (2 ^ i) ≤ 1) × (suc n ≤ i → size (suc n) (2 ^ i) ≡ 0)
         go (a, b) (yes e) = (omega (arith, size-suc n (2 ^ i), b (omega arith)), λ h. absurd (omega arith))
         go (a, b) (no d) = (omega (arith, size-suc n (2 ^ i), one-out i n d), λ h. omega (arith, size-suc n (2 ^ i), one-out i n d, b (omega arith)))
+
 -- the members below n + 1, with n in A and without
 pub members-with : (n A : ℕ) → A ∋ n → members (suc n) A ≡ members n A ++ (n ∷ [])
 unfolding members below keep
