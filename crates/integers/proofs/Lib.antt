@@ -1,4 +1,7 @@
 pub mod Linear
+pub mod Tests
 pub mod Least
 pub mod Sums
 pub mod Smallest
+pub mod Range
+pub mod Held
