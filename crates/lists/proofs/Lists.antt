@@ -2,12 +2,13 @@
 use mathlib.Core.Path.{_≡_, refl, sym, ap, ap₂, _∙_, subst}
 use mathlib.Core.Bool.{Bool, true, false, not, cond, _&&_}
 use mathlib.Core.Logic.{_⊎_, inl, inr, _≢_}
-use mathlib.Core.List.{List, [], _∷_, _++_, map, List·Memᴰ, List·Memᴰ·head, List·Memᴰ·tail, List·Memᴰ·not-nil, List·Memᴰ·cases-cons, Memᴰ·append-left, Memᴰ·append-right, List·Memᴰ·append-cases, head-eq-of-cons-eq, tail-eq-of-cons-eq}
+use mathlib.Core.List.{List, [], _∷_, _++_, map, List·Memᴰ, List·Memᴰ·head, List·Memᴰ·tail, List·Memᴰ·not-nil, List·Memᴰ·cases-cons, Memᴰ·append-left, Memᴰ·append-right, List·Memᴰ·append-cases, head-eq-of-cons-eq, tail-eq-of-cons-eq, append-nil, append-assoc, map-append}
 use Prim.Native.Nat.{ℕ, zero, suc, _+_, _≤_, _<_}
 use native.Mathlib.Omega.{arith}
 use native.Mathlib.Decide.{ℕ-discrete}
 use lib.Dec.{T}
-use lib.ListN.{length, length-append}
+use lib.ListN.{length, length-append, length-map, getD, List·getD-append}
+use lib.Seq.{getD-at}
 use Rattle.lists.specs.Lists.{_∈_, below, each, keep, all}
 use Rattle.lists.proofs.Tests.{and-T, T-and, T-or-not, T-true, T-false, true-T}
 
@@ -159,3 +160,35 @@ in-or-none x (z ∷ l) = go (ℕ-discrete x z) (in-or-none x l)
     go (yes e) _ = inl (List·Memᴰ·head e)
     go (no f) (inl m) = inl (List·Memᴰ·tail m)
     go (no f) (inr g) = inr (λ y m. rest f g y (List·Memᴰ·cases-cons m))
+
+pub each-append {ℓ κ} : {A : Type ℓ} {B : Type κ} (l m : List A) (f : A → List B) → each (l ++ m) f ≡ each l f ++ each m f
+unfolding each
+each-append [] m f = refl
+each-append (x ∷ l) m f = ap (λ r. f x ++ r) (each-append l m f) ∙ sym (append-assoc (f x) (each l f) (each m f))
+
+pub each-below {ℓ} : {B : Type ℓ} (n : ℕ) (f : ℕ → List B) → each (below (suc n)) f ≡ each (below n) f ++ f n
+unfolding below each
+each-below n f = each-append (below n) (n ∷ []) f ∙ ap (λ r. each (below n) f ++ r) (append-nil (f n))
+
+pub each-cong {ℓ κ} : {A : Type ℓ} {B : Type κ} (l : List A) (f g : A → List B) → ((x : A) → x ∈ l → f x ≡ g x) → each l f ≡ each l g
+unfolding each
+each-cong [] f g h = refl
+each-cong (x ∷ l) f g h = ap₂ _++_ (h x (List·Memᴰ·head refl)) (each-cong l f g (λ y m. h y (List·Memᴰ·tail m)))
+
+-- an element by its place
+pub getD-in {ℓ} : {A : Type ℓ} (l : List A) (i : ℕ) (d : A) → i < length l → getD l i d ∈ l
+getD-in [] i d h = absurd (omega arith)
+getD-in (x ∷ l) zero d h = List·Memᴰ·head refl
+getD-in (x ∷ l) (suc i) d h = List·Memᴰ·tail (getD-in l i d (omega arith))
+
+pub getD-below {ℓ} : {B : Type ℓ} (f : ℕ → B) (n i : ℕ) (d : B) → i < n → getD (map f (below n)) i d ≡ f i
+unfolding below
+getD-below f zero i d h = absurd (omega arith)
+getD-below f (suc n) i d h = ap (λ l. getD l i d) (map-append f (below n) (n ∷ [])) ∙ go (ℕ-discrete i n) (getD-below f n i d)
+  where
+    long : length (map f (below n)) ≡ n
+    long = length-map (below n) f ∙ count-below n
+
+    go : Dec (i ≡ n) → (i < n → getD (map f (below n)) i d ≡ f i) → getD (map f (below n) ++ (f n ∷ [])) i d ≡ f i
+    go (yes e) ih = rw e (getD-at (map f (below n)) (f n) [] d n long)
+    go (no g) ih = List·getD-append (map f (below n)) (f n ∷ []) d i (omega (arith, long)) ∙ ih (omega arith)
