@@ -1,16 +1,15 @@
 -- In which order the blocks left stand in a list is all one: the trees are the same.
-use mathlib.Core.Path.{_≡_, refl, sym, ap, _∙_, subst}
-use mathlib.Core.Bool.{Bool, cond}
+use mathlib.Core.Path.{_≡_, refl, sym, ap, _∙_}
+use mathlib.Core.Bool.{cond}
 use mathlib.Core.Logic.{_≢_}
 use mathlib.Core.List.{List, [], _∷_, Memᴰ·cast}
-use Prim.Native.Nat.{ℕ, _<_}
-use native.Mathlib.Omega.{arith}
+use Prim.Native.Nat.{ℕ}
 use lib.IntN.{ℤ, pos, _+ℤ_}
 use lib.Signed.{_≤ℤ_, _<ℤ_}
-use lib.Dec.{T, eqb, eqb→eq, eqb-refl}
+use lib.Dec.{eqb, eqb→eq, eqb-refl}
 use lib.ListN.{length}
 use Rattle.lists.specs.Lists.{_∈_, erase}
-use Rattle.lists.proofs.Tests.{T-or-not, T-true, T-false, cond-elim}
+use Rattle.lists.proofs.Tests.{T-true, cond-elim}
 use Rattle.lists.proofs.Distinct.{in-erase}
 use Rattle.integers.specs.Integers.{sumOf}
 use Rattle.integers.proofs.Linear.{up, dn, zarith, +at, *at}

@@ -1,10 +1,9 @@
 -- Where a call is turned away (document 01): "Checks run down the table. .. Each number is given if and only if its line holds and
 -- none before it does." A call's checks are a list of numbers, each with its line's condition.
-use mathlib.Core.Bool.{Bool, not, cond, _&&_, _||_}
+use mathlib.Core.Bool.{Bool, not, cond, _||_}
 use mathlib.Core.List.{List, [], _∷_}
 use Prim.Native.Nat.{ℕ}
 use lib.IntN.{ℤ, pos}
-use lib.Signed.{leZ}
 use lib.Dec.{eqb, ltb}
 use Rattle.integers.specs.Integers.{eqZ}
 use Rattle.clusters.specs.Groups.{Kind, strong, clean, splits}

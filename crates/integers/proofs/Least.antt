@@ -1,12 +1,10 @@
 -- Laws of the least and the greatest.
 use mathlib.Core.Path.{_≡_, refl, sym, _∙_}
-use mathlib.Core.Bool.{Bool, true, false, not, cond}
 use mathlib.Core.Logic.{_⊎_, inl, inr}
-use mathlib.Core.List.{List, [], _∷_, map, List·Memᴰ, List·Memᴰ·head, List·Memᴰ·tail, List·Memᴰ·not-nil, Memᴰ·cast}
+use mathlib.Core.List.{List, [], _∷_, map, List·Memᴰ·head, List·Memᴰ·tail, List·Memᴰ·not-nil, Memᴰ·cast}
 use Prim.Native.Nat.{ℕ}
 use lib.IntN.{ℤ, pos}
-use lib.Signed.{_≤ℤ_, _<ℤ_, leZ, ≤ℤ-refl, leZ-yes}
-use lib.Dec.{T}
+use lib.Signed.{_≤ℤ_, leZ, ≤ℤ-refl, leZ-yes}
 use Rattle.lists.specs.Lists.{_∈_, each}
 use Rattle.lists.proofs.Tests.{cond-elim}
 use Rattle.lists.proofs.Lists.{in-each, of-each, in-map, of-map}

@@ -1,19 +1,18 @@
 -- Laws of finite sums.
 use mathlib.Core.Path.{_≡_, refl, sym, ap, ap₂, _∙_, subst, subst₂}
-use mathlib.Core.Bool.{Bool, true, false, not, cond}
+use mathlib.Core.Bool.{Bool, true, false, cond}
 use mathlib.Core.Logic.{_⊎_, inl, inr}
-use mathlib.Core.List.{List, [], _∷_, _++_, map, List·Memᴰ, List·Memᴰ·head, List·Memᴰ·tail, List·Memᴰ·cases-cons}
-use Prim.Native.Nat.{ℕ, zero, suc, _+_, _*_, _≤_, _<_}
-use native.Mathlib.Omega.{arith}
-use lib.IntN.{ℤ, pos, negsuc, _+ℤ_, _-ℤ_, _*ℤ_, +ℤ-idl, +ℤ-idr, +ℤ-assoc, +ℤ-comm, sucℤ-*ℤ, zero-*ℤ, *ℤ-zero}
+use mathlib.Core.List.{List, [], _∷_, _++_, map, List·Memᴰ·head, List·Memᴰ·tail, List·Memᴰ·cases-cons}
+use Prim.Native.Nat.{ℕ, _<_}
+use lib.IntN.{ℤ, pos, _+ℤ_, _-ℤ_, _*ℤ_, +ℤ-idl, +ℤ-idr, +ℤ-assoc, +ℤ-comm, sucℤ-*ℤ, zero-*ℤ, *ℤ-zero}
 use lib.Signed.{_≤ℤ_, _<ℤ_, ≤ℤ-refl, leZ, leZ-yes}
 use lib.Dec.{T, eqb, eqb→eq}
 use lib.ListN.{length}
 use Rattle.lists.specs.Lists.{_∈_, below, each, keep, erase}
 use Rattle.lists.proofs.Tests.{true-T, false-T, eqb-no}
-use Rattle.lists.proofs.Lists.{below-lt, keep-one}
-use Rattle.integers.specs.Integers.{sumOf, sum}
-use Rattle.integers.proofs.Linear.{up, dn, zarith, +at, -at, *at, four, four-sub, *-add, leZ-no}
+use Rattle.lists.proofs.Lists.{keep-one}
+use Rattle.integers.specs.Integers.{sumOf}
+use Rattle.integers.proofs.Linear.{up, dn, zarith, +at, four, four-sub, *-add, leZ-no}
 
 module _ {ℓ} {A : Type ℓ} where
   pub sum-cong : (l : List A) (f g : A → ℤ) → ((x : A) → x ∈ l → f x ≡ g x) → sumOf l f ≡ sumOf l g
