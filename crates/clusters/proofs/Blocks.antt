@@ -12,10 +12,10 @@ use lib.Pow.{pow-lt}
 use Rattle.lists.specs.Lists.{_∈_, below, erase}
 use Rattle.lists.proofs.Tests.{T-true, T-false}
 use Rattle.lists.proofs.Lists.{below-lt, of-map}
-use Rattle.lists.proofs.Distinct.{of-erase, in-erase}
+use Rattle.lists.proofs.Distinct.{of-erase}
 use Rattle.integers.specs.Integers.{sumOf}
 use Rattle.integers.proofs.Linear.{up, dn, zarith, +at, *at}
-use Rattle.integers.proofs.Sums.{sum-cong, sum-append, sum-map, sum-keep, sum-swap, sum-scale, sum-erase, sum-nonneg, some-pos}
+use Rattle.integers.proofs.Sums.{sum-cong, sum-append, sum-map, sum-keep, sum-swap, sum-scale, sum-two, sum-nonneg, some-pos}
 use Rattle.sets.specs.Sets.{has, _∋_, _∌_, members, _∪_, Subset, Disjoint}
 use Rattle.sets.proofs.Sets.{in-or-out, or-bit, ∪-left, ∪-cases, ∪-lt, one-in, one-only, one-out, yes-has, no-has}
 use Rattle.clusters.specs.Linkage.{merged, singles}
@@ -47,12 +47,11 @@ disjoint {bs} p U W hu hw ne i h k =
     omega (
       zarith,
       p .once i h,
-      sum-erase W bs (holds i) hw,
-      sum-erase U (erase W bs) (holds i) (in-erase W bs ne hu),
+      sum-two U W bs (holds i) hu hw ne,
       k .bit,
       r,
-      +at (holds i W) (sumOf (erase W bs) (holds i)),
-      +at (holds i U) rest,
+      +at (holds i U) (holds i W),
+      +at (holds i U +ℤ holds i W) rest,
     )
 
 -- a sum over all entries is the sum over the blocks left of their sums
@@ -97,13 +96,12 @@ module _ (U W : ℕ) (bs : List ℕ) where
           omega (
             zarith,
             p .once i h,
-            sum-erase W bs (holds i) hw,
-            sum-erase U (erase W bs) (holds i) (in-erase W bs ne hu),
+            sum-two U W bs (holds i) hu hw ne,
             or-bit U W i,
             k,
             +at (holds i (U ∪ W)) rest,
-            +at (holds i W) (sumOf (erase W bs) (holds i)),
-            +at (holds i U) rest,
+            +at (holds i U) (holds i W),
+            +at (holds i U +ℤ holds i W) rest,
           )
 
       som : (B : ℕ) → (B ≡ U ∪ W) ⊎ (B ∈ bs) → (i : ℕ) × (i < n) × (B ∋ i)
