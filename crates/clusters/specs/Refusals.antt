@@ -1,11 +1,12 @@
 -- Where a call is turned away (document 01): "Checks run down the table. .. Each number is given if and only if its line holds and
 -- none before it does." A call's checks are a list of numbers, each with its line's condition.
-use mathlib.Core.Bool.{Bool, not, cond, _||_}
+use mathlib.Core.Bool.{Bool, not, cond, _&&_, _||_}
 use mathlib.Core.List.{List, [], _∷_}
 use Prim.Native.Nat.{ℕ}
 use lib.IntN.{ℤ, pos}
 use lib.Dec.{eqb, ltb}
 use Rattle.integers.specs.Integers.{eqZ}
+use Rattle.clusters.specs.PairList.{areDistances}
 use Rattle.clusters.specs.Groups.{Kind, strong, clean, splits}
 
 -- the first number whose condition holds, 0 if none does
@@ -23,3 +24,7 @@ kindOf k = cond (eqZ k (pos 1)) strong (cond (eqZ k (pos 2)) clean splits)
 -- 6: "n is 0 or over 32"
 unfoldable pub wrongCount : ℕ → Bool
 wrongCount n = eqb n 0 || ltb 32 n
+
+-- 12, "pair list, kind 3": "a negative value, or an own value that is not 0"
+unfoldable pub wrongDistances : ℤ → ℕ → List ℤ → Bool
+wrongDistances k n l = eqZ k (pos 3) && not (areDistances n l)
