@@ -1,1 +1,69 @@
 // The listing writer.
+ghost use mathlib.Core.Path.{_≡_};
+ghost use mathlib.Core.List.{_++_, _∷_, []};
+ghost use Prim.Native.Nat.{_+_, _≤_, _<_};
+ghost use lib.ListN.{length};
+ghost use Rattle.sets.specs.Sets.{size};
+ghost use Rattle.listing.specs.Listing.{digit, digits, hexadecimal, decimal};
+ghost use Rattle.listing.specs.Put.{Put};
+
+fn digit(k: u64) -> u8
+    requires { ⌜ k < 16 ⌝ }
+    ensures { λ r. ⌜ r ≡ digit k ⌝ }
+{
+    if k < 10 { 48 + k as u8 } else { 87 + k as u8 }
+}
+
+// Puts the last k digits of n into out, the last one first.
+fn put_digits(out: &mut [u8], at: usize, base: u64, k: usize, n: u64) -> usize
+    requires { ⌜ (0 < base) × (base ≤ 16) × (at + k ≤ length (now out)) ⌝ }
+    ensures { λ r. ⌜ Put (now (out .entry)) at (digits base k n) (now (out .exit)) r ⌝ }
+{
+    let mut i = k;
+    let mut rest = n;
+    while i > 0 {
+        i -= 1;
+        out[at + i] = digit(rest % base);
+        rest /= base;
+    }
+    at + k
+}
+
+// The number of decimal digits.
+fn decimal_length(n: u64) -> usize
+    ensures { λ r. ⌜ r ≡ length (decimal n) ⌝ }
+{
+    let mut k: usize = 1;
+    let mut rest = n;
+    while rest >= 10 {
+        rest /= 10;
+        k += 1;
+    }
+    k
+}
+
+// Puts a set and a space.
+fn put_set(out: &mut [u8], at: usize, set: u32) -> usize
+    requires { ⌜ at + 9 ≤ length (now out) ⌝ }
+    ensures { λ r. ⌜ Put (now (out .entry)) at (hexadecimal set ++ (32 ∷ [])) (now (out .exit)) r ⌝ }
+{
+    let end = put_digits(out, at, 16, 8, set as u64);
+    out[end] = b' ';
+    end + 1
+}
+
+// Puts a number and the byte after it.
+fn put_number(out: &mut [u8], at: usize, n: u64, after: u8) -> usize
+    requires { ⌜ at + length (decimal n) < length (now out) ⌝ }
+    ensures { λ r. ⌜ Put (now (out .entry)) at (decimal n ++ (after ∷ [])) (now (out .exit)) r ⌝ }
+{
+    let end = put_digits(out, at, 10, decimal_length(n), n);
+    out[end] = after;
+    end + 1
+}
+
+fn size(set: u32) -> u64
+    ensures { λ r. ⌜ r ≡ size 32 set ⌝ }
+{
+    u32::count_ones(set) as u64
+}
