@@ -1,3 +1,4 @@
 pub mod Puts
 pub mod Numbers
 pub mod Sizes
+pub mod Lines

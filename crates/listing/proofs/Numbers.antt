@@ -7,9 +7,11 @@ use Prim.Native.Nat.{ℕ, zero, suc, _+_, _-_, _*_, _/_, _%_, _^_, _<_, _≤_}
 use native.Mathlib.Nat.{mod-eq-of-lt, pow-suc}
 use native.Mathlib.Numerals.{add-one}
 use native.Mathlib.Omega.{arith}
-use lib.Dec.{ltb}
+use lib.Dec.{T, ltb}
+use lib.IntN.{ℤ, pos, negsuc, natAbs}
 use lib.ListN.{length, set, length-append}
 use lib.Seq.{sets}
+use lib.Signed.{_≤ℤ_, nonNeg}
 use borrow.Author.Tests.{ltb-true, ltb-false, lt-ltb, le-ltb}
 use Rattle.listing.specs.Listing.{digit, digits, hexadecimal, decimalFrom, decimal}
 use Rattle.listing.proofs.Puts.{sets-last}
@@ -101,3 +103,8 @@ length-decimal (suc k) n h = go (ten n) (length-decimal k (n / 10) (omega (arith
     go : (n < 10) ⊎ (10 ≤ n) → length (decimal (n / 10)) ≤ suc k → length (decimal n) ≤ suc (suc k)
     go (inl s) ih = omega (arith, length-one n s)
     go (inr s) ih = omega (arith, length-more n s)
+
+-- a number that is not negative is its absolute value
+pub natural : (z : ℤ) → pos 0 ≤ℤ z → T (nonNeg z) × (pos (natAbs z) ≡ z)
+natural (pos n) h = (tt, refl)
+natural (negsuc n) h = absurd (h .le)

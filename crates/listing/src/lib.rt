@@ -2,9 +2,11 @@
 ghost use mathlib.Core.Path.{_≡_};
 ghost use mathlib.Core.List.{_++_, _∷_, []};
 ghost use Prim.Native.Nat.{_+_, _≤_, _<_};
-ghost use lib.ListN.{length};
+ghost use lib.IntN.{pos};
+ghost use lib.ListN.{length, getD};
+ghost use lib.Signed.{_≤ℤ_};
 ghost use Rattle.sets.specs.Sets.{size};
-ghost use Rattle.listing.specs.Listing.{digit, digits, hexadecimal, decimal};
+ghost use Rattle.listing.specs.Listing.{digit, digits, hexadecimal, decimal, line, listing};
 ghost use Rattle.listing.specs.Put.{Put};
 
 fn digit(k: u64) -> u8
@@ -66,4 +68,26 @@ fn size(set: u32) -> u64
     ensures { λ r. ⌜ r ≡ size 32 set ⌝ }
 {
     u32::count_ones(set) as u64
+}
+
+fn line_length(set: u32, index: u64) -> usize
+    ensures { λ r. ⌜ r ≡ length (line 32 (set, pos index)) ⌝ }
+{
+    decimal_length(size(set)) + decimal_length(index) + 11
+}
+
+fn put_line(out: &mut [u8], at: usize, set: u32, index: u64) -> usize
+    requires { ⌜ at + length (line 32 (set, pos index)) ≤ length (now out) ⌝ }
+    ensures { λ r. ⌜ Put (now (out .entry)) at (line 32 (set, pos index)) (now (out .exit)) r ⌝ }
+{
+    let a = put_set(out, at, set);
+    let b = put_number(out, a, size(set), b' ');
+    put_number(out, b, index, b'\n')
+}
+
+fn index_at(indices: &[i64], i: usize) -> u64
+    requires { ⌜ (i < length (now indices)) × (pos 0 ≤ℤ getD (now indices) i (pos 0)) ⌝ }
+    ensures { λ r. ⌜ pos r ≡ getD (now (indices .entry)) i (pos 0) ⌝ }
+{
+    indices[i] as u64
 }
