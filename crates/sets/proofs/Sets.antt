@@ -269,3 +269,20 @@ one-out i j ne = go (in-or-out (2 ^ i) j)
     go : ((2 ^ i) ∋ j) ⊎ ((2 ^ i) ∌ j) → (2 ^ i) ∌ j
     go (inl k) = absurd (ne (sym (one-only i k)))
     go (inr k) = k
+
+-- an entry outside for a size of less than n, and the other way round
+pub size-less : (n A : ℕ) → size n A < n → (x : ℕ) × (x < n) × (A ∌ x)
+size-less zero A h = absurd (omega arith)
+size-less (suc n) A h = go (in-or-out A n) (size-less n A)
+  where
+    go : (A ∋ n) ⊎ (A ∌ n) → (size n A < n → (x : ℕ) × (x < n) × (A ∌ x)) → (x : ℕ) × (x < suc n) × (A ∌ x)
+    go (inl k) ih = let (x, l, out) = ih (omega (arith, size-suc n A)) in (x, omega arith, out)
+    go (inr k) ih = (n, omega arith, k)
+
+pub less-size : (n A : ℕ) {x : ℕ} → x < n → A ∌ x → size n A < n
+less-size zero A h k = absurd (omega arith)
+less-size (suc n) A {x} h k = go (ℕ-discrete x n) (λ l. less-size n A l k)
+  where
+    go : Dec (x ≡ n) → (x < n → size n A < n) → size (suc n) A < suc n
+    go (yes e) ih = let last : A ∌ n = subst (λ (j : ℕ). A ∌ j) e k in omega (arith, size-suc n A, size-le n A)
+    go (no f) ih = omega (arith, size-suc n A, ih (omega arith))

@@ -1,1 +1,30 @@
-// Sets of entries as numbers: definitions in specs/, laws in proofs/. No code yet.
+// Sets of up to 32 entries, as numbers: definitions in specs/, laws in proofs/.
+ghost use mathlib.Core.Path.{_≡_};
+ghost use Prim.Native.Nat.{_<_, _^_};
+ghost use Rattle.sets.specs.Sets.{has, size, _∪_};
+
+pub fn has(set: u32, i: usize) -> bool
+    requires { ⌜ i < 32 ⌝ }
+    ensures { λ r. ⌜ r ≡ has set i ⌝ }
+{
+    (set >> i) % 2 == 1
+}
+
+pub fn single(i: usize) -> u32
+    requires { ⌜ i < 32 ⌝ }
+    ensures { λ r. ⌜ r ≡ 2 ^ i ⌝ }
+{
+    1u32 << i
+}
+
+pub fn union(a: u32, b: u32) -> u32
+    ensures { λ r. ⌜ r ≡ a ∪ b ⌝ }
+{
+    a | b
+}
+
+pub fn size(set: u32) -> usize
+    ensures { λ r. ⌜ r ≡ size 32 set ⌝ }
+{
+    u32::count_ones(set) as usize
+}

@@ -11,7 +11,6 @@ use Rattle.listing.proofs.line_length.Tie as tie
 use Rattle.listing.proofs.line_length.Reads as reads
 use Rattle.listing.proofs.line_length.Lts as lts
 use Rattle.listing.proofs.decimal_length.Reads as decimal-length-reads
-use Rattle.listing.proofs.size.Reads as size-reads
 
 -- src/lib.rt:76:20
 size-requires : tie.Need-size-requires

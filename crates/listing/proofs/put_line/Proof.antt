@@ -14,7 +14,6 @@ use Rattle.listing.proofs.put_line.Reads as reads
 use Rattle.listing.proofs.put_line.Lts as lts
 use Rattle.listing.proofs.put_number.Reads as put-number-reads
 use Rattle.listing.proofs.put_set.Reads as put-set-reads
-use Rattle.listing.proofs.size.Reads as size-reads
 
 -- src/lib.rt:83:9
 put-set-requires : tie.Need-put-set-requires
