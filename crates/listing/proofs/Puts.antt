@@ -1,11 +1,11 @@
 -- Texts put one after the other, and a text put from its end.
-use mathlib.Core.Path.{_≡_, refl, _∙_}
+use mathlib.Core.Path.{_≡_, refl, sym, ap, _∙_}
 use mathlib.Core.List.{List, [], _∷_, _++_}
 use Prim.Native.Nat.{ℕ, suc, _+_, _≤_}
-use native.Mathlib.Nat.{add-zero}
+use native.Mathlib.Nat.{add-zero, zero-add}
 use native.Mathlib.Omega.{arith}
-use lib.ListN.{length, set, length-append}
-use lib.Seq.{sets, set-comm}
+use lib.ListN.{length, drop, set, length-append}
+use lib.Seq.{sets, sets-eq, set-comm}
 use Rattle.listing.specs.Put.{Put}
 
 -- two runs of stores, the second where the first ends
@@ -33,3 +33,13 @@ then {l} {m} {n} {xs} {ys} {at} {mid} {end} a b =
 -- a text and the byte after it
 pub then-byte : {l m xs : List ℕ} {at end : ℕ} → Put l at xs m end → (b : ℕ) → Put l at (xs ++ (b ∷ [])) (set m end b) (end + 1)
 then-byte a b = then a (record { place = refl; stored = refl })
+
+-- a text at the start of the buffer
+pub put-start : {l m xs : List ℕ} {end : ℕ} → end ≡ length xs → length xs ≤ length l → m ≡ xs ++ drop (length xs) l → Put l 0 xs m end
+put-start {l} {m} {xs} {end} p h e =
+    record { place = omega arith; stored = e ∙ sym (sets-eq xs l 0 (omega arith) ∙ ap (λ (k : ℕ). xs ++ drop k l) (zero-add (length xs))) }
+
+pub start-put : {l m xs : List ℕ} {end : ℕ} → Put l 0 xs m end → length xs ≤ length l → (end ≡ length xs) × (m ≡ xs ++ drop end l)
+start-put {l} {m} {xs} {end} a h =
+    let p : end ≡ length xs = omega (arith, a .place) in
+    (p, a .stored ∙ sets-eq xs l 0 (omega arith) ∙ ap (λ (k : ℕ). xs ++ drop k l) (zero-add (length xs) ∙ sym p))
