@@ -1,6 +1,6 @@
 -- Laws of lines: their fields, their lengths, and the lines of the groups in two slices, one by one.
 use mathlib.Core.Path.{_≡_, refl, sym, ap, _∙_}
-use mathlib.Core.List.{List, [], _∷_, _++_, append-assoc, append-nil, List·Memᴰ, List·Memᴰ·head, List·Memᴰ·tail}
+use mathlib.Core.List.{List, [], _∷_, _++_, append-assoc, append-nil, List·Memᴰ·head, List·Memᴰ·tail}
 use Prim.Native.Nat.{ℕ, zero, suc, _+_, _^_, _<_, _≤_}
 use native.Mathlib.Numerals.{add-one}
 use native.Mathlib.Omega.{arith}
@@ -19,12 +19,12 @@ pub line-fields : (n A k : ℕ) → line n (A, pos k) ≡ (hexadecimal A ++ (32 
 unfolding line signedDecimal
 line-fields n A k = simp append-assoc
 
-pub length-line : (n A k : ℕ) → length (line n (A, pos k)) ≡ length (decimal (size n A)) + length (decimal k) + 11
+pub length-line : (n A k : ℕ) {s : ℕ} → s ≡ size n A → length (line n (A, pos k)) ≡ length (decimal s) + length (decimal k) + 11
 unfolding line signedDecimal
-length-line n A k = simp (length-append, length-hexadecimal) (omega arith)
+length-line n A k e = rw e (simp (length-append, length-hexadecimal) (omega arith))
 
 pub line-bound : (A k : ℕ) → k < 10 ^ 20 → length (line 32 (A, pos k)) ≤ 33
-line-bound A k h = omega (arith, length-line 32 A k, length-decimal 19 k h, length-decimal 1 (size 32 A) (omega (arith, size-le 32 A)))
+line-bound A k h = omega (arith, length-line 32 A k refl, length-decimal 19 k h, length-decimal 1 (size 32 A) (omega (arith, size-le 32 A)))
 
 pub length-listing : (n : ℕ) (groups : List (ℕ × ℤ)) → length (listing n groups) ≡ 15 + length (each groups (line n))
 unfolding listing firstLine

@@ -1,9 +1,9 @@
 -- Laws of numbers as digits.
 use mathlib.Core.Path.{_≡_, refl, sym, ap, _∙_}
-use mathlib.Core.Bool.{Bool, true, false, cond}
+use mathlib.Core.Bool.{Bool, true, false}
 use mathlib.Core.List.{List, [], _∷_, _++_}
 use mathlib.Core.Logic.{_⊎_, inl, inr}
-use Prim.Native.Nat.{ℕ, zero, suc, _+_, _-_, _*_, _/_, _%_, _^_, _<_, _≤_}
+use Prim.Native.Nat.{ℕ, zero, suc, _+_, _-_, _/_, _%_, _^_, _<_, _≤_}
 use native.Mathlib.Nat.{mod-eq-of-lt, pow-suc}
 use native.Mathlib.Numerals.{add-one}
 use native.Mathlib.Omega.{arith}
@@ -14,6 +14,7 @@ use lib.Seq.{sets}
 use lib.Signed.{_≤ℤ_, nonNeg}
 use borrow.Author.Tests.{ltb-true, ltb-false, lt-ltb, le-ltb}
 use Rattle.listing.specs.Listing.{digit, digits, hexadecimal, decimalFrom, decimal}
+use Rattle.listing.specs.Put.{Put}
 use Rattle.listing.proofs.Puts.{sets-last}
 
 pub length-digits : (base k n : ℕ) → length (digits base k n) ≡ k
@@ -31,9 +32,16 @@ digits-turn base i n l at more =
     ∙ sets-last (digits base (i - 1) (n / base)) l at (digit (n % base))
     ∙ ap (λ (k : ℕ). sets (set l (at + k) (digit (n % base))) at (digits base (i - 1) (n / base))) (length-digits base (i - 1) (n / base))
 
+pub digits-put : (base k n : ℕ) {l m : List ℕ} {at end : ℕ} → end ≡ at + k → m ≡ sets l at (digits base k n) → Put l at (digits base k n) m end
+digits-put base k n p e = record { place = omega (arith, length-digits base k n); stored = e }
+
 pub no-digits : (base n : ℕ) → digits base 0 n ≡ []
 unfolding digits
 no-digits base n = refl
+
+-- a text and a space
+pub length-space : (xs : List ℕ) → length (xs ++ (32 ∷ [])) ≡ length xs + 1
+length-space xs = length-append xs (32 ∷ [])
 
 pub length-hexadecimal : (A : ℕ) → length (hexadecimal A) ≡ 8
 unfolding hexadecimal

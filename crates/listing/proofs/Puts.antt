@@ -27,7 +27,7 @@ pub then : {l m n xs ys : List ℕ} {at mid end : ℕ} → Put l at xs m mid →
 then {l} {m} {n} {xs} {ys} {at} {mid} {end} a b =
     record {
       place = omega (arith, length-append xs ys);
-      stored = b .stored ∙ rw (a .stored, a .place) (sets-sets xs l at ys)
+      stored = b .stored ∙ rw (a .stored, a .place) (sets-sets xs l at ys);
     }
 
 -- a text and the byte after it

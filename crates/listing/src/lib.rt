@@ -4,6 +4,7 @@ ghost use mathlib.Core.List.{_++_, _∷_, []};
 ghost use Prim.Native.Nat.{_+_, _≤_, _<_};
 ghost use lib.IntN.{pos};
 ghost use lib.ListN.{length, drop, getD};
+ghost use lib.Seq.{sets};
 ghost use lib.Signed.{_≤ℤ_};
 ghost use Rattle.lists.specs.Lists.{each};
 ghost use Rattle.listing.specs.Listing.{digit, digits, hexadecimal, decimal, line, listing};
@@ -20,7 +21,7 @@ fn digit(k: usize) -> u8
 // Puts the last k digits of n into out, the last one first.
 fn put_digits(out: &mut [u8], at: usize, base: usize, k: usize, n: usize) -> usize
     requires { ⌜ (0 < base) × (base ≤ 16) × (at + k ≤ length (now out)) ⌝ }
-    ensures { λ r. ⌜ Put (now (out .entry)) at (digits base k n) (now (out .exit)) r ⌝ }
+    ensures { λ r. ⌜ (r ≡ at + k) × (now (out .exit) ≡ sets (now (out .entry)) at (digits base k n)) ⌝ }
 {
     let mut i = k;
     let mut rest = n;

@@ -1,41 +1,41 @@
-use mathlib.Core.Path.{ap}
-use Prim.Native.Nat.{ℕ}
-use lib.ListN.{length}
-use Rattle.listing.specs.Listing.{decimal}
-use Rattle.listing.proofs.Numbers.{length-decimal}
-use Rattle.listing.proofs.Lines.{length-line}
+use mathlib.Core.Path.{_≡_}
+use Prim.Native.Nat.{_+_, _≤_}
 use native.Mathlib.Omega.{arith}
 use borrow.Author.Needs.{needs}
+use lib.IntN.{pos}
+use lib.ListN.{length}
+use Rattle.listing.specs.Listing.{line}
+use Rattle.listing.proofs.Lines.{length-line, line-bound}
 use Rattle.listing.proofs.line_length.Statement.{statement}
 use Rattle.listing.proofs.line_length.Tie as tie
-use Rattle.listing.proofs.line_length.Reads as reads
-use Rattle.listing.proofs.line_length.Lts as lts
-use Rattle.listing.proofs.decimal_length.Reads as decimal-length-reads
 
--- src/lib.rt:76:20
 size-requires : tie.Need-size-requires
 size-requires c κs = search needs
 
--- src/lib.rt:76:5
 decimal-length-requires : tie.Need-decimal-length-requires
 decimal-length-requires c κs = search needs
 
--- src/lib.rt:76:33
 decimal-length-requires-2 : tie.Need-decimal-length-requires-2
 decimal-length-requires-2 c κs = search needs
 
--- src/lib.rt:76:5
+sum : (c : tie.After-decimal-length2) → c .before .decimal-length .result + c .decimal-length2 .result + 11 ≡ length (line 32 (c .before .before .before .args .set, pos (c .before .before .before .args .index)))
+sum c =
+    let a = c .before .before .before .args in
+    omega (arith, length-line 32 (a .set) (a .index) (c .before .before .size .ensures))
+
+bound : (c : tie.After-decimal-length2) → c .before .decimal-length .result + c .decimal-length2 .result + 11 ≤ 33
+bound c =
+    let a = c .before .before .before .args in
+    omega (arith, sum c, line-bound (a .set) (a .index) (search needs))
+
 add-result : tie.Need-add-result
-add-result c = omega (arith, length-decimal 19 (c .before .before .size .result) (search needs), length-decimal 19 (c .before .before .before .args .index) (search needs))
+add-result c = omega (arith, bound c)
 
--- src/lib.rt:76:5
 add-result-2 : tie.Need-add-result-2
-add-result-2 c = omega (arith, length-decimal 19 (c .before .before .size .result) (search needs), length-decimal 19 (c .before .before .before .args .index) (search needs))
+add-result-2 c = omega (arith, bound c)
 
--- src/lib.rt:73:1
 returns : tie.Need-returns
-returns c = let a = c .before .before .before .args in
-    omega (arith, length-line 32 (a .set) (a .index), ap (λ (k : ℕ). length (decimal k)) (c .before .before .size .ensures))
+returns c = sum c
 
 pub line-length-spec : {M : Type 1} → statement M
 line-length-spec =

@@ -1,20 +1,16 @@
-use mathlib.Core.Path.{_≡_, sym, _∙_}
-use Prim.Native.Nat.{_+_, _-_, _≤_, _<_}
-use lib.ListN.{length, getD}
+use mathlib.Core.Path.{_≡_, _∙_}
+use Prim.Native.Nat.{_-_, _≤_, _<_}
+use native.Mathlib.Omega.{arith}
+use borrow.Author.Needs.{needs}
+use lib.ListN.{length}
 use Rattle.lists.specs.Lists.{each}
 use Rattle.listing.specs.Listing.{line}
 use Rattle.listing.specs.Put.{Put}
 use Rattle.listing.specs.Slots.{groupsOf}
-use Rattle.listing.proofs.Puts.{then}
 use Rattle.listing.proofs.Lines.{no-lines, index-natural, lines-next, length-next, lines-room}
-use borrow.Author.Needs.{needs}
-use native.Mathlib.Omega.{arith}
+use Rattle.listing.proofs.Puts.{then}
 use Rattle.listing.proofs.put_lines.Statement.{statement}
 use Rattle.listing.proofs.put_lines.Tie as tie
-use Rattle.listing.proofs.put_lines.Reads as reads
-use Rattle.listing.proofs.put_lines.Lts as lts
-use Rattle.listing.proofs.index_at.Reads as index-at-reads
-use Rattle.listing.proofs.put_line.Reads as put-line-reads
 
 abbrev Inv-loop : tie.InvT-loop
 Inv-loop out₀ at sets indices count end₀ i₀ out end i = (i ≤ count) × (length out ≡ length out₀) × Put out₀ at (each (groupsOf i sets indices) (line 32)) out end
@@ -22,54 +18,48 @@ Inv-loop out₀ at sets indices count end₀ i₀ out end i = (i ≤ count) × (
 abbrev μ-loop : tie.MeasureT-loop
 μ-loop out₀ at sets indices count end₀ i₀ out end i = count - i
 
--- src/lib.rt:119:5
 loop-holds : tie.Need-loop-holds Inv-loop μ-loop
 loop-holds c = (omega arith, search needs, rw no-lines (search needs))
 
--- src/lib.rt:120:34
 mul-put-line : tie.Need-mul-put-line Inv-loop μ-loop
 mul-put-line c = search needs
 
--- src/lib.rt:120:34
 shared-slice-read-put-line : tie.Need-shared-slice-read-put-line Inv-loop μ-loop
 shared-slice-read-put-line c = search needs
 
--- src/lib.rt:120:43
 index-at-requires : tie.Need-index-at-requires Inv-loop μ-loop
-index-at-requires c κs = let l = c .before .before .before .loop in
+index-at-requires c κs =
+    let l = c .before .before .before .loop in
     let s = c .before .before .before .before .before .before .pre .0 in
     (omega (arith, s .indices-hold), index-natural s (l .i) (omega arith))
 
--- src/lib.rt:120:9
 put-line-requires : tie.Need-put-line-requires Inv-loop μ-loop
-put-line-requires c κs = let l = c .before .before .before .before .loop in
+put-line-requires c κs =
+    let l = c .before .before .before .before .loop in
     let s = c .before .before .before .before .before .before .before .pre .0 in
     let h : l .i < c .before .before .before .before .before .before .before .args .count = omega arith in
     omega (arith, length-next s (l .i) h (c .index-at .result) (c .index-at .ensures), lines-room s (l .i) h, l .inv .2 .place)
 
--- src/lib.rt:121:9
 add-i : tie.Need-add-i Inv-loop μ-loop
 add-i c = search needs
 
--- src/lib.rt:119:5
 loop-less : tie.Need-loop-less Inv-loop μ-loop
 loop-less c = search needs
 
--- src/lib.rt:119:5
 loop-again : tie.Need-loop-again Inv-loop μ-loop
-loop-again c = let l = c .before .before .before .before .before .before .before .loop in
+loop-again c =
+    let l = c .before .before .before .before .before .before .before .loop in
     let s = c .before .before .before .before .before .before .before .before .before .before .pre .0 in
     let r = c .before .before .put-line in
     let x = c .before .before .before .index-at in
     (omega arith, r .kept .0 ∙ l .inv .1, rw (lines-next s (l .i) (omega arith) (x .result) (x .ensures)) (then (l .inv .2) (r .ensures)))
 
--- src/lib.rt:112:1
 same-length : tie.Need-same-length Inv-loop μ-loop
 same-length c = c .before .loop .inv .1
 
--- src/lib.rt:112:1
 returns : tie.Need-returns Inv-loop μ-loop
-returns c = let a = c .before .before .before .before .args in
+returns c =
+    let a = c .before .before .before .before .args in
     let l = c .before .loop in
     let e : l .i ≡ a .count = omega arith in
     rw (← e) (l .inv .2)
