@@ -3,6 +3,7 @@ pub mod Indices
 pub mod Farris
 pub mod Linkage
 pub mod Groups
+pub mod Refusals
 pub mod Reordering
 pub mod Stability
 pub mod Bench
