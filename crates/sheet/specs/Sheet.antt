@@ -9,7 +9,7 @@ use Rattle.lists.specs.Lists.{below, all}
 use Rattle.integers.specs.Integers.{eqZ}
 use Rattle.clusters.specs.PairList.{Similarity, pairList}
 use Rattle.clusters.specs.Refusals.{firstOf, wrongCount}
-use Rattle.sheet.specs.Text.{lineFeed, space, minus, isUpper, isDigit, cut, isName, isValue, valueOf}
+use Rattle.text.specs.Text.{lineFeed, space, isAllowed, cut, isName, isValue, valueOf}
 
 -- "Line 1 holds the n entry names, single spaces between. Then n lines of n values .. Each line ends with a line feed."
 unfoldable pub lines : List ℕ → List (List ℕ)
@@ -48,9 +48,6 @@ isAmong w (x ∷ l) = sameBytes w x || isAmong w l
 unfoldable pub hasEqual : List (List ℕ) → Bool
 hasEqual [] = false
 hasEqual (w ∷ l) = isAmong w l || hasEqual l
-
-unfoldable pub isAllowed : ℕ → Bool
-isAllowed b = isUpper b || isDigit b || eqb b minus || eqb b space || eqb b lineFeed
 
 -- Where a call is turned away: the conditions of the table's lines 2 to 9
 -- "0 bytes, or over 12,288"

@@ -22,6 +22,10 @@ isUpper b = leb 65 b && leb b 90
 unfoldable pub isDigit : ℕ → Bool
 isDigit b = leb 48 b && leb b 57
 
+-- "A to Z, 0 to 9, minus, space or line feed"
+unfoldable pub isAllowed : ℕ → Bool
+isAllowed b = isUpper b || isDigit b || eqb b minus || eqb b space || eqb b lineFeed
+
 -- the pieces between the bytes that equal c, the empty ones too: one more than there are such bytes
 unfoldable pub longer : ℕ → List (List ℕ) → List (List ℕ)
 longer b [] = (b ∷ []) ∷ []
