@@ -1,28 +1,15 @@
 ghost use mathlib.Core.Path.{_≡_};
-ghost use mathlib.Core.Bool.{true, false, cond};
-ghost use mathlib.Core.List.{[], _++_, map};
-ghost use Prim.Native.Nat.{suc, _+_, _*_, _≤_, _<_};
-ghost use lib.ListN.{length, getD, drop};
-ghost use lib.Seq.{sets};
-ghost use Rattle.lists.specs.Lists.{all, below};
-ghost use Rattle.text.specs.Text.{space, cut, isName, valueOf};
-ghost use Rattle.text.specs.Reading.{pieceAt};
-ghost use Rattle.clusters.specs.PairList.{pairList, rowStart};
-ghost use Rattle.clusters.specs.Refusals.{firstOf, wrongCount};
-ghost use Rattle.sheet.specs.Sheet.{entries, value, sameBytes, isAmong, hasEqual, isRow, mirrored};
-ghost use Rattle.sheet.specs.Sheet.{wrongLength, wrongByte, wrongNames, equalNames, wrongLines, wrongValues, sheetChecks, nameOf};
-ghost use Rattle.sheet.specs.Answer.{reading, slots, square, Holds};
+ghost use Prim.Native.Nat.{_≤_, _<_};
+ghost use lib.ListN.{length};
+ghost use Rattle.lists.specs.Lists.{all};
+ghost use Rattle.text.specs.Text.{space, cut, isName};
+ghost use Rattle.clusters.specs.Refusals.{wrongCount};
+ghost use Rattle.sheet.specs.Sheet.{entries, sameBytes, isAmong, hasEqual};
+ghost use Rattle.sheet.specs.Sheet.{wrongLength, wrongByte, wrongNames, equalNames, wrongLines};
 use text::Class;
-use text::ValueRead;
-
-// The number of entries, or the number of the refusal.
-pub enum Reading {
-    Entries(usize),
-    Refused(usize),
-}
 
 // Check 2.
-fn wrong_length(sheet: &[u8]) -> bool
+pub fn wrong_length(sheet: &[u8]) -> bool
     ensures { λ r. ⌜ r ≡ wrongLength (now (sheet .entry)) ⌝ }
 {
     if sheet.len() == 0 {
@@ -32,7 +19,7 @@ fn wrong_length(sheet: &[u8]) -> bool
 }
 
 // Check 3.
-fn wrong_byte(sheet: &[u8]) -> bool
+pub fn wrong_byte(sheet: &[u8]) -> bool
     ensures { λ r. ⌜ r ≡ wrongByte (now (sheet .entry)) ⌝ }
 {
     !text::all_in(Class::Allowed, sheet)
@@ -56,7 +43,7 @@ fn are_names(line: &[u8]) -> bool
 }
 
 // Check 4.
-fn wrong_names(sheet: &[u8]) -> bool
+pub fn wrong_names(sheet: &[u8]) -> bool
     ensures { λ r. ⌜ r ≡ wrongNames (now (sheet .entry)) ⌝ }
 {
     let end = text::piece_end(sheet, b'\n', 0);
@@ -118,7 +105,7 @@ fn has_equal(line: &[u8]) -> bool
 }
 
 // Check 5.
-fn equal_names(sheet: &[u8]) -> bool
+pub fn equal_names(sheet: &[u8]) -> bool
     ensures { λ r. ⌜ r ≡ equalNames (now (sheet .entry)) ⌝ }
 {
     let end = text::piece_end(sheet, b'\n', 0);
@@ -126,7 +113,7 @@ fn equal_names(sheet: &[u8]) -> bool
 }
 
 // The number of names.
-fn entry_count(sheet: &[u8]) -> usize
+pub fn entry_count(sheet: &[u8]) -> usize
     requires { ⌜ length (now sheet) ≤ 12288 ⌝ }
     ensures { λ r. ⌜ r ≡ entries (now (sheet .entry)) ⌝ }
 {
@@ -135,7 +122,7 @@ fn entry_count(sheet: &[u8]) -> usize
 }
 
 // Check 6.
-fn wrong_count(n: usize) -> bool
+pub fn wrong_count(n: usize) -> bool
     ensures { λ r. ⌜ r ≡ wrongCount n ⌝ }
 {
     if n == 0 {
@@ -145,7 +132,7 @@ fn wrong_count(n: usize) -> bool
 }
 
 // Check 7.
-fn wrong_lines(sheet: &[u8], n: usize) -> bool
+pub fn wrong_lines(sheet: &[u8], n: usize) -> bool
     requires { ⌜ (0 < length (now sheet)) × (length (now sheet) ≤ 12288) × (n ≡ entries (now sheet)) × (n ≤ 32) ⌝ }
     ensures { λ r. ⌜ r ≡ wrongLines (now (sheet .entry)) ⌝ }
 {

@@ -8,9 +8,9 @@ use lib.Dec.{eqb}
 use lib.ListN.{length, getD, drop}
 use Rattle.clusters.specs.PairList.{Similarity}
 use Rattle.clusters.specs.Refusals.{firstOf}
 use Rattle.sheet.specs.Sheet.{entries, pairs, sheetChecks}
-use Rattle.sheet.specs.declared.Reading.{Reading}
-use Rattle.sheet.specs.declared.Reading.the-variants.{Entries, Refused}
+use Rattle.reader.specs.declared.Reading.{Reading}
+use Rattle.reader.specs.declared.Reading.the-variants.{Entries, Refused}
 
 -- n, or the number of the first of checks 2 to 9 that refuses
 unfoldable pub reading : List ℕ → Reading
