@@ -1,0 +1,113 @@
+ghost use mathlib.Core.Path.{_≡_};
+ghost use mathlib.Core.Bool.{false, cond};
+ghost use mathlib.Core.List.{[], _++_, map};
+ghost use Prim.Native.Nat.{suc, _+_, _≤_, _<_};
+ghost use lib.ListN.{length, getD, drop};
+ghost use lib.Seq.{sets};
+ghost use Rattle.lists.specs.Lists.{all, below};
+ghost use Rattle.integers.specs.Integers.{eqZ};
+ghost use Rattle.text.specs.Text.{space, cut, valueOf};
+ghost use Rattle.text.specs.Reading.{pieceAt};
+ghost use Rattle.clusters.specs.PairList.{pairList, rowStart};
+ghost use Rattle.clusters.specs.Refusals.{firstOf};
+ghost use Rattle.sheet.specs.Sheet.{entries, value, isRow, mirrored, wrongLines, wrongValues, sheetChecks, nameOf};
+ghost use Rattle.reader.specs.Answer.{reading, slots, square, Holds};
+use text::ValueRead;
+
+// The number of entries, or the number of the refusal.
+pub enum Reading {
+    Entries(usize),
+    Refused(usize),
+}
+
+// Reads a line of n values into the slots from base on; answers 8 if the line is refused, else 0.
+fn read_row(line: &[u8], n: usize, base: usize, values: &mut [i32; 1024]) -> usize
+    requires { ⌜ base + n ≤ 1024 ⌝ }
+    ensures { λ r. ⌜ r ≡ cond (isRow n (cut space (now (line .entry)))) 0 8 ⌝ }
+    ensures { λ r. ⌜ (r ≡ 0 → now (values .exit) ≡ sets (now (values .entry)) base (map valueOf (cut space (now (line .entry))))) ⌝ }
+{
+    let mut at: usize = 0;
+    let mut k: usize = 0;
+    while k < n {
+        let ValueRead::Value(v, next) = text::read_value(line, at) else {
+            return 8;
+        };
+        values[base + k] = v;
+        k += 1;
+        let end = next.at;
+        if end >= line.len() {
+            if k < n {
+                return 8;
+            }
+            return 0;
+        }
+        at = end + 1;
+    }
+    8
+}
+
+// Row i equals column i.
+fn is_mirrored_row(values: &[i32; 1024], n: usize, i: usize) -> bool
+    requires { ⌜ (i < n) × (n ≤ 32) ⌝ }
+    ensures { λ r. ⌜ r ≡ all (λ j. eqZ (square (now (values .entry)) i j) (square (now (values .entry)) j i)) (below n) ⌝ }
+{
+    for j in 0..n {
+        let a = i * 32 + j;
+        let b = j * 32 + i;
+        if values[a] != values[b] {
+            return false;
+        }
+    }
+    true
+}
+
+// Check 9.
+fn is_mirrored(values: &[i32; 1024], n: usize) -> bool
+    requires { ⌜ n ≤ 32 ⌝ }
+    ensures { λ r. ⌜ r ≡ mirrored n (square (now (values .entry))) ⌝ }
+{
+    for i in 0..n {
+        if !is_mirrored_row(values, n, i) {
+            return false;
+        }
+    }
+    true
+}
+
+// Writes row i of the lower triangle to the slots from start on.
+fn fill_row(values: &[i32; 1024], i: usize, start: usize, pairs: &mut [i32; 528])
+    requires { ⌜ (i < 32) × (start + i < 528) ⌝ }
+    ensures { λ _. ⌜ now (pairs .exit) ≡ sets (now (pairs .entry)) start (map (square (now (values .entry)) i) (below (suc i))) ⌝ }
+{
+    let count = i + 1;
+    for j in 0..count {
+        let from = i * 32 + j;
+        pairs[start + j] = values[from];
+    }
+}
+
+// Writes the pair list to the first slots.
+fn fill(values: &[i32; 1024], n: usize, pairs: &mut [i32; 528])
+    requires { ⌜ n ≤ 32 ⌝ }
+    ensures { λ _. ⌜ now (pairs .exit) ≡ pairList n (square (now (values .entry))) ++ drop (rowStart n) (now (pairs .entry)) ⌝ }
+{
+    let mut start: usize = 0;
+    for i in 0..n {
+        fill_row(values, i, start, pairs);
+        start += i + 1;
+    }
+}
+
+// The place where piece i of the line starts.
+fn piece_start(line: &[u8], i: usize) -> usize
+    requires { ⌜ i < length (cut space (now line)) ⌝ }
+    ensures { λ r. ⌜ (r ≤ length (now (line .entry))) × (pieceAt space (now (line .entry)) r ≡ getD (cut space (now (line .entry))) i []) ⌝ }
+{
+    let mut at: usize = 0;
+    let mut left = i;
+    while left > 0 {
+        at = text::piece_end(line, b' ', at) + 1;
+        left -= 1;
+    }
+    at
+}
