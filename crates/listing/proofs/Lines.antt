@@ -10,24 +10,24 @@ use lib.Signed.{_≤ℤ_}
 use Rattle.lists.specs.Lists.{_∈_, each}
 use Rattle.sets.specs.Sets.{size}
 use Rattle.sets.proofs.Sets.{size-le}
-use Rattle.listing.specs.Listing.{hexadecimal, decimal, signedDecimal, firstLine, line, listing}
+use Rattle.listing.specs.Listing.{hexadecimal, decimal, signedDecimal, firstText, lineText, firstLine, line, listing}
 use Rattle.listing.specs.Slots.{groupsOf, Slots}
 use Rattle.listing.proofs.Numbers.{length-hexadecimal, length-decimal}
 
 -- the three fields, each with the byte after it
 pub line-fields : (n A k : ℕ) → line n (A, pos k) ≡ (hexadecimal A ++ (32 ∷ [])) ++ (decimal (size n A) ++ (32 ∷ [])) ++ (decimal k ++ (10 ∷ []))
-unfolding line signedDecimal
+unfolding line lineText signedDecimal
 line-fields n A k = simp append-assoc
 
 pub length-line : (n A k : ℕ) {s : ℕ} → s ≡ size n A → length (line n (A, pos k)) ≡ length (decimal s) + length (decimal k) + 11
-unfolding line signedDecimal
+unfolding line lineText signedDecimal
 length-line n A k e = rw e (simp (length-append, length-hexadecimal) (omega arith))
 
 pub line-bound : (A k : ℕ) → k < 10 ^ 20 → length (line 32 (A, pos k)) ≤ 33
 line-bound A k h = omega (arith, length-line 32 A k refl, length-decimal 19 k h, length-decimal 1 (size 32 A) (omega (arith, size-le 32 A)))
 
 pub length-listing : (n : ℕ) (groups : List (ℕ × ℤ)) → length (listing n groups) ≡ 15 + length (each groups (line n))
-unfolding listing firstLine
+unfolding listing firstLine firstText
 length-listing n groups = length-append firstLine (each groups (line n))
 
 -- the lines of the first i groups in two slices, and of one group more

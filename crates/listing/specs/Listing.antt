@@ -34,12 +34,19 @@ signedDecimal (pos n) = decimal n
 signedDecimal (negsuc n) = 45 ∷ decimal (suc n)
 
 -- "First line `set size index`."
-unfoldable pub firstLine : List ℕ
-firstLine = 115 ∷ 101 ∷ 116 ∷ 32 ∷ 115 ∷ 105 ∷ 122 ∷ 101 ∷ 32 ∷ 105 ∷ 110 ∷ 100 ∷ 101 ∷ 120 ∷ 10 ∷ []
+unfoldable pub firstText : List ℕ
+firstText = 115 ∷ 101 ∷ 116 ∷ 32 ∷ 115 ∷ 105 ∷ 122 ∷ 101 ∷ 32 ∷ 105 ∷ 110 ∷ 100 ∷ 101 ∷ 120 ∷ []
 
--- "Then a line per group: the set ..; the number of members; the index; both decimal, single spaces, a line feed after each."
+-- "Then a line per group: the set ..; the number of members; the index; both decimal, single spaces"
+unfoldable pub lineText : ℕ → ℕ × ℤ → List ℕ
+lineText n group = hexadecimal (group .0) ++ (32 ∷ []) ++ decimal (size n (group .0)) ++ (32 ∷ []) ++ signedDecimal (group .1)
+
+-- "a line feed after each"
+unfoldable pub firstLine : List ℕ
+firstLine = firstText ++ (10 ∷ [])
+
 unfoldable pub line : ℕ → ℕ × ℤ → List ℕ
-line n group = hexadecimal (group .0) ++ (32 ∷ []) ++ decimal (size n (group .0)) ++ (32 ∷ []) ++ signedDecimal (group .1) ++ (10 ∷ [])
+line n group = lineText n group ++ (10 ∷ [])
 
 unfoldable pub listing : ℕ → List (ℕ × ℤ) → List ℕ
 listing n groups = firstLine ++ each groups (line n)

@@ -3,7 +3,7 @@ use native.Mathlib.Omega.{arith}
 use borrow.Author.Needs.{needs}
 use lib.ListN.{length}
 use Rattle.lists.specs.Lists.{each}
-use Rattle.listing.specs.Listing.{firstLine, line, listing}
+use Rattle.listing.specs.Listing.{firstText, firstLine, line, listing}
 use Rattle.listing.specs.Slots.{groupsOf}
 use Rattle.listing.proofs.Lines.{length-listing}
 use Rattle.listing.proofs.Puts.{then, put-start, start-put}
@@ -28,7 +28,7 @@ same-length : tie.Need-same-length
 same-length c = search needs
 
 returns : tie.Need-returns
-unfolding firstLine listing
+unfolding firstText firstLine listing
 returns c =
     let lines = c .before .before in
     let first = lines .before .before .before .before in
