@@ -1,0 +1,1 @@
+// The sheet call and the C call.
