@@ -16,8 +16,8 @@ use Rattle.lists.proofs.Tests.{T-true, true-T}
 use Rattle.integers.specs.Integers.{eqZ}
 use Rattle.integers.proofs.Linear.{eqZ-yes, yes-eqZ}
 use lib.IntN.{ℤ, pos, negsuc}
-use lib.ListN.{length, getD, set, length-append, length-map}
-use lib.Seq.{sets}
+use lib.ListN.{length, set, take, drop, length-append, length-map}
+use lib.Seq.{sets, sets-eq, take-at}
 
 -- two runs of stores, the second where the first ends
 pub sets-sets : (vs : List ℤ) (l : List ℤ) (i : ℕ) (ws : List ℤ) → sets (sets l i vs) (i + length vs) ws ≡ sets l i (vs ++ ws)
@@ -87,3 +87,22 @@ pairs-count v (suc n) =
     ∙ length-append (pairList n v) (map (v n) (below (suc n)))
     ∙ h
     ∙ ap rowStart (sym e)
+
+-- one more row
+pub fill-next : (v : Similarity) (i start : ℕ) (l m : List ℤ) → start ≡ rowStart i → l ≡ sets m 0 (pairList i v) → sets l start (map (v i) (below (suc i))) ≡ sets m 0 (pairList (i + 1) v)
+fill-next v i start l m p q =
+    let e : start ≡ 0 + length (pairList i v) = omega (arith, pairs-count v i) in
+    rw (q, e, pairs-next v i) (sets-sets (pairList i v) m 0 (map (v i) (below (suc i))))
+
+pub start-room : (n : ℕ) → n ≤ 32 → rowStart n ≤ 528
+unfolding rowStart
+start-room n h =
+    let p : n + 1 ≤ 33 = omega arith in
+    let q : n * (n + 1) ≤ 32 * 33 = mul-le-mul h p in
+    omega arith
+
+-- the pair list is the first slots
+pub pairs-taken : (v : Similarity) (n : ℕ) (l : List ℤ) → rowStart n ≤ length l → take (rowStart n) (sets l 0 (pairList n v)) ≡ pairList n v
+pairs-taken v n l h =
+    let e = pairs-count v n in
+    rw (sets-eq (pairList n v) l 0 (omega arith)) (take-at (pairList n v) (drop (0 + length (pairList n v)) l) (rowStart n) e)

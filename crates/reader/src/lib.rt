@@ -21,8 +21,8 @@ pub enum Reading {
 }
 
 // Reads a line of n values into the slots from base on; answers 8 if the line is refused, else 0.
-fn read_row(line: &[u8], n: usize, base: usize, values: &mut [i32; 1024]) -> usize
-    requires { ⌜ base + n ≤ 1024 ⌝ }
+fn read_row(line: &[u8], n: usize, base: usize, values: &mut [i32]) -> usize
+    requires { ⌜ base + n ≤ length (now values) ⌝ }
     ensures { λ r. ⌜ r ≡ cond (isRow n (cut space (now (line .entry)))) 0 8 ⌝ }
     ensures { λ r. ⌜ (r ≡ 0 → now (values .exit) ≡ sets (now (values .entry)) base (map valueOf (cut space (now (line .entry))))) ⌝ }
 {
@@ -47,8 +47,8 @@ fn read_row(line: &[u8], n: usize, base: usize, values: &mut [i32; 1024]) -> usi
 }
 
 // Row i equals column i.
-fn is_mirrored_row(values: &[i32; 1024], n: usize, i: usize) -> bool
-    requires { ⌜ (i < n) × (n ≤ 32) ⌝ }
+fn is_mirrored_row(values: &[i32], n: usize, i: usize) -> bool
+    requires { ⌜ (i < n) × (n ≤ 32) × (length (now values) ≡ 1024) ⌝ }
     ensures { λ r. ⌜ r ≡ all (λ j. eqZ (square (now (values .entry)) i j) (square (now (values .entry)) j i)) (below n) ⌝ }
 {
     for j in 0..n {
@@ -62,8 +62,8 @@ fn is_mirrored_row(values: &[i32; 1024], n: usize, i: usize) -> bool
 }
 
 // Check 9.
-fn is_mirrored(values: &[i32; 1024], n: usize) -> bool
-    requires { ⌜ n ≤ 32 ⌝ }
+fn is_mirrored(values: &[i32], n: usize) -> bool
+    requires { ⌜ (n ≤ 32) × (length (now values) ≡ 1024) ⌝ }
     ensures { λ r. ⌜ r ≡ mirrored n (square (now (values .entry))) ⌝ }
 {
     for i in 0..n {
@@ -75,8 +75,8 @@ fn is_mirrored(values: &[i32; 1024], n: usize) -> bool
 }
 
 // Writes row i of the lower triangle to the slots from start on.
-fn fill_row(values: &[i32; 1024], i: usize, start: usize, pairs: &mut [i32; 528])
-    requires { ⌜ (i < 32) × (start + i < 528) ⌝ }
+fn fill_row(values: &[i32], i: usize, start: usize, pairs: &mut [i32; 528])
+    requires { ⌜ (i < 32) × (start + i < 528) × (length (now values) ≡ 1024) ⌝ }
     ensures { λ _. ⌜ now (pairs .exit) ≡ sets (now (pairs .entry)) start (map (square (now (values .entry)) i) (below (suc i))) ⌝ }
 {
     let count = i + 1;
@@ -87,9 +87,9 @@ fn fill_row(values: &[i32; 1024], i: usize, start: usize, pairs: &mut [i32; 528]
 }
 
 // Writes the pair list to the first slots.
-fn fill(values: &[i32; 1024], n: usize, pairs: &mut [i32; 528])
-    requires { ⌜ n ≤ 32 ⌝ }
-    ensures { λ _. ⌜ now (pairs .exit) ≡ pairList n (square (now (values .entry))) ++ drop (rowStart n) (now (pairs .entry)) ⌝ }
+fn fill(values: &[i32], n: usize, pairs: &mut [i32; 528])
+    requires { ⌜ (n ≤ 32) × (length (now values) ≡ 1024) ⌝ }
+    ensures { λ _. ⌜ now (pairs .exit) ≡ sets (now (pairs .entry)) 0 (pairList n (square (now (values .entry)))) ⌝ }
 {
     let mut start: usize = 0;
     for i in 0..n {
@@ -110,4 +110,21 @@ fn piece_start(line: &[u8], i: usize) -> usize
         left -= 1;
     }
     at
+}
+
+// Reads the n value lines; answers 8 if one is refused, else 0.
+fn read_rows(sheet: &[u8], n: usize, values: &mut [i32]) -> usize
+    requires { ⌜ (n ≡ entries (now sheet)) × (n ≤ 32) × (wrongLines (now sheet) ≡ false) × (length (now values) ≡ 1024) ⌝ }
+    ensures { λ r. ⌜ r ≡ cond (wrongValues (now (sheet .entry))) 8 0 ⌝ }
+    ensures { λ r. ⌜ (r ≡ 0 → Holds (now (values .exit)) n (value (now (sheet .entry)))) ⌝ }
+{
+    let mut at = text::piece_end(sheet, b'\n', 0) + 1;
+    for i in 0..n {
+        let end = text::piece_end(sheet, b'\n', at);
+        if read_row(&sheet[at..end], n, i * 32, values) != 0 {
+            return 8;
+        }
+        at = end + 1;
+    }
+    0
 }

@@ -1,13 +1,3 @@
-use Prim.Native.Nat.{ℕ, suc, _+_, _-_, _*_, _≤_, _<_}
-use mathlib.Core.Path.{_≡_, refl, sym, ap, _∙_}
-use mathlib.Core.List.{List, map}
-use lib.IntN.{ℤ}
-use lib.ListN.{length}
-use lib.Seq.{sets, sets-eq}
-use Rattle.lists.specs.Lists.{below}
-use Rattle.clusters.specs.PairList.{pairList, rowStart}
-use Rattle.reader.specs.Answer.{square}
-use Rattle.reader.proofs.Slots.{pairs-next, pairs-count, row-next, row-room}
 use borrow.Author.Needs.{needs}
 use native.Mathlib.Omega.{arith}
 use Rattle.reader.proofs.fill.Statement.{statement}
@@ -17,10 +7,10 @@ use Rattle.reader.proofs.fill.Lts as lts
 use Rattle.reader.proofs.fill_row.Reads as fill-row-reads
 
 abbrev Inv-loop : tie.InvT-loop
-Inv-loop values n pairs₀ start₀ i₀ pairs start i = (i ≤ n) × (start ≡ rowStart i) × (pairs ≡ sets pairs₀ 0 (pairList i (square values)))
+Inv-loop values n pairs₀ start₀ i₀ pairs start i = ?
 
 abbrev μ-loop : tie.MeasureT-loop
-μ-loop values n pairs₀ start₀ i₀ pairs start i = n - i
+μ-loop values n pairs₀ start₀ i₀ pairs start i = ?
 
 -- src/lib.rt:95:5
 loop-holds : tie.Need-loop-holds Inv-loop μ-loop

@@ -1,7 +1,6 @@
 use Prim.Native.Nat.{ℕ, suc, _+_, _-_, _*_, _≤_, _<_}
 use mathlib.Core.Path.{_≡_, refl, sym, ap, _∙_}
 use mathlib.Core.List.{List, map}
-use native.Mathlib.Numerals.{add-one}
 use lib.IntN.{ℤ}
 use lib.ListN.{set}
 use lib.Seq.{sets}
@@ -46,16 +45,16 @@ mul-pairs : tie.Need-mul-pairs Inv-loop μ-loop
 mul-pairs c = search needs
 
 -- src/lib.rt:85:28
-element-copy-out-pairs : tie.Need-element-copy-out-pairs Inv-loop μ-loop
-element-copy-out-pairs c = search needs
+shared-slice-copy-out-pairs : tie.Need-shared-slice-copy-out-pairs Inv-loop μ-loop
+shared-slice-copy-out-pairs c = search needs
 
 -- src/lib.rt:85:15
-add-t13 : tie.Need-add-t13 Inv-loop μ-loop
-add-t13 c = search needs
+add-t12 : tie.Need-add-t12 Inv-loop μ-loop
+add-t12 c = search needs
 
 -- src/lib.rt:85:9
-mul-t14 : tie.Need-mul-t14 Inv-loop μ-loop
-mul-t14 c = search needs
+mul-t13 : tie.Need-mul-t13 Inv-loop μ-loop
+mul-t13 c = search needs
 
 -- src/lib.rt:85:9
 element-set-from-pairs : tie.Need-element-set-from-pairs Inv-loop μ-loop
@@ -103,9 +102,9 @@ fill-row-spec =
     mul-from
     add-from
     mul-pairs
-    element-copy-out-pairs
-    add-t13
-    mul-t14
+    shared-slice-copy-out-pairs
+    add-t12
+    mul-t13
     element-set-from-pairs
     add-j
     loop-less

@@ -1,11 +1,6 @@
 use Prim.Native.Nat.{ℕ, _+_, _-_, _*_, _≤_, _<_}
 use mathlib.Core.Path.{_≡_, refl, sym, ap, _∙_}
-use mathlib.Core.Bool.{Bool, true, false}
-use borrow.Author.Tests.{eq-eqb, ne-eqb}
-use lib.IntN.{pos}
-use lib.ListN.{getD}
-use mir.Val.{SFits}
-use mir.Syntax.{w32}
+use mathlib.Core.Bool.{true, false}
 use Rattle.lists.specs.Lists.{all, below}
 use Rattle.integers.specs.Integers.{eqZ}
 use Rattle.reader.specs.Answer.{square}
@@ -49,16 +44,16 @@ mul-if1 : tie.Need-mul-if1 Inv-loop μ-loop
 mul-if1 c = search needs
 
 -- src/lib.rt:57:12
-element-copy-out-if1 : tie.Need-element-copy-out-if1 Inv-loop μ-loop
-element-copy-out-if1 c = search needs
+shared-slice-copy-out-if1 : tie.Need-shared-slice-copy-out-if1 Inv-loop μ-loop
+shared-slice-copy-out-if1 c = search needs
 
 -- src/lib.rt:57:25
 mul-if1-2 : tie.Need-mul-if1-2 Inv-loop μ-loop
 mul-if1-2 c = search needs
 
 -- src/lib.rt:57:25
-element-copy-out-if1-2 : tie.Need-element-copy-out-if1-2 Inv-loop μ-loop
-element-copy-out-if1-2 c = search needs
+shared-slice-copy-out-if1-2 : tie.Need-shared-slice-copy-out-if1-2 Inv-loop μ-loop
+shared-slice-copy-out-if1-2 c = search needs
 
 -- the two tests of a turn
 same : (c : tie.Else1 Inv-loop μ-loop) → eqZ (square (c .before .before .before .before .before .args .values .now) (c .before .before .before .before .before .args .i) (c .before .before .before .before .loop .j)) (square (c .before .before .before .before .before .args .values .now) (c .before .before .before .before .loop .j) (c .before .before .before .before .before .args .i)) ≡ true
@@ -110,9 +105,9 @@ is-mirrored-row-spec =
     mul-b
     add-b
     mul-if1
-    element-copy-out-if1
+    shared-slice-copy-out-if1
     mul-if1-2
-    element-copy-out-if1-2
+    shared-slice-copy-out-if1-2
     returns
     add-j
     loop-less

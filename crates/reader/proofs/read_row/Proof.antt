@@ -4,7 +4,7 @@ use mathlib.Core.Bool.{true, false}
 use mathlib.Core.List.{map}
 use borrow.Author.Tests.{eq-eqb, ne-eqb}
 use lib.Dec.{eqb}
-use lib.ListN.{length, drop, set}
+use lib.ListN.{length, drop, set, length-set}
 use lib.Seq.{sets}
 use mir.Val.{SFits}
 use mir.Syntax.{w32}
@@ -26,6 +26,7 @@ Inv-loop line n base values₀ at₀ k₀ values at k =
     × (at ≤ length line)
     × (isRow (n - k) (cut 32 (drop at line)) ≡ isRow n (cut 32 line))
     × (sets values (base + k) (map valueOf (cut 32 (drop at line))) ≡ sets values₀ base (map valueOf (cut 32 line)))
+    × (length values ≡ length values₀)
 
 abbrev μ-loop : tie.MeasureT-loop
 μ-loop line n base values₀ at₀ k₀ values at k = n - k
@@ -36,7 +37,11 @@ loop-holds c =
     let a = c .before .args in
     let p : a .n - 0 ≡ a .n = omega arith in
     let q : a .base + 0 ≡ a .base = omega arith in
-    (omega arith, omega arith, ap (λ (m : ℕ). isRow m (cut 32 (a .line .now))) p, ap (λ (i : ℕ). sets (a .values .now) i (map valueOf (cut 32 (a .line .now)))) q)
+    (omega arith,
+    omega arith,
+    ap (λ (m : ℕ). isRow m (cut 32 (a .line .now))) p,
+    ap (λ (i : ℕ). sets (a .values .now) i (map valueOf (cut 32 (a .line .now)))) q,
+    refl)
 
 -- src/lib.rt:32:41
 read-value-requires : tie.Need-read-value-requires Inv-loop μ-loop
@@ -49,6 +54,10 @@ enum-known-v c = search needs
 -- src/lib.rt:33:13
 enum-told : tie.Need-enum-told Inv-loop μ-loop
 enum-told c = search needs
+
+-- src/lib.rt:33:13
+same-length : tie.Need-same-length Inv-loop μ-loop
+same-length c = search needs
 
 -- src/lib.rt:33:13
 returns : tie.Need-returns Inv-loop μ-loop
@@ -67,8 +76,8 @@ mul-v : tie.Need-mul-v Inv-loop μ-loop
 mul-v c = search needs
 
 -- src/lib.rt:35:9
-element-set-from-v : tie.Need-element-set-from-v Inv-loop μ-loop
-element-set-from-v c = search needs
+slice-set-from-v : tie.Need-slice-set-from-v Inv-loop μ-loop
+slice-set-from-v c = search needs
 
 -- src/lib.rt:36:9
 add-k : tie.Need-add-k Inv-loop μ-loop
@@ -79,6 +88,10 @@ got : (c : tie.After-v Inv-loop μ-loop) → Got (c .before .before .before .bef
 got c = value-got _ _ _ _ (sym (c .before .before .read-value .ensures) ∙ c .v .given .1)
 
 -- src/lib.rt:40:17
+same-length-2 : tie.Need-same-length-2 Inv-loop μ-loop
+same-length-2 c = search needs
+
+-- src/lib.rt:40:17
 returns-2 : tie.Need-returns-2 Inv-loop μ-loop
 returns-2 c =
     let s = c .before .before .before .before .before .before .before .before .before .args .line .now in
@@ -87,6 +100,10 @@ returns-2 c =
     let e : eqb 1 (c .before .before .before .before .before .before .before .before .before .args .n - l .k) ≡ false = ne-eqb 1 (c .before .before .before .before .before .before .before .before .before .args .n - l .k) (λ z. omega arith) in
     (row-eight (c .before .before .before .before .before .before .before .before .before .args .n) (cut 32 s) (sym (l .inv .2) ∙ row-last s (l .at) _ (l .inv .1) (g .end) (c .before .before .before .before .before .before .before .before .before .args .n - l .k) (c .before .if1 .taken) (g .good) ∙ e),
     λ z. absurd (omega (arith, z)))
+
+-- src/lib.rt:42:13
+same-length-3 : tie.Need-same-length-3 Inv-loop μ-loop
+same-length-3 c = search needs
 
 -- src/lib.rt:42:13
 returns-3 : tie.Need-returns-3 Inv-loop μ-loop
@@ -119,7 +136,12 @@ loop-again c =
     (omega arith,
     omega arith,
     sym (row-more s (l .at) _ (l .inv .1) (g .end) _ _ e (c .if1 .left) (g .good)) ∙ l .inv .2,
-    rw (toZ-ofZ f, g .is, i) (store-more s (l .at) _ (l .inv .1) (g .end) (l .values) (c .before .before .before .before .before .before .before .before .args .base + l .k) (c .if1 .left) ∙ l .inv .3))
+    rw (toZ-ofZ f, g .is, i) (store-more s (l .at) _ (l .inv .1) (g .end) (l .values) (c .before .before .before .before .before .before .before .before .args .base + l .k) (c .if1 .left) ∙ l .inv .3),
+    length-set (l .values) (c .before .before .before .before .before .before .before .before .args .base + l .k) _ ∙ l .inv .4)
+
+-- src/lib.rt:24:1
+same-length-4 : tie.Need-same-length-4 Inv-loop μ-loop
+same-length-4 c = search needs
 
 -- src/lib.rt:24:1
 returns-4 : tie.Need-returns-4 Inv-loop μ-loop
@@ -139,14 +161,18 @@ read-row-spec =
     read-value-requires
     enum-known-v
     enum-told
+    same-length
     returns
     add-v
     mul-v
-    element-set-from-v
+    slice-set-from-v
     add-k
+    same-length-2
     returns-2
+    same-length-3
     returns-3
     add-at
     loop-less
     loop-again
+    same-length-4
     returns-4)

@@ -1,0 +1,38 @@
+-- The pieces of a line by their number.
+use mathlib.Core.Path.{_≡_, refl, sym, ap, _∙_}
+use mathlib.Core.Bool.{Bool, true, false}
+use mathlib.Core.List.{List, [], _∷_}
+use mathlib.Core.Logic.{_⊎_, inl, inr}
+use Prim.Native.Nat.{ℕ, zero, suc, _+_, _-_, _≤_, _<_}
+use native.Mathlib.Omega.{arith}
+use native.Mathlib.Decide.{decLt}
+use lib.ListN.{length, getD, take, drop, length-drop}
+use lib.Seq.{take-take}
+use Rattle.text.specs.Text.{cut}
+use Rattle.text.specs.Reading.{pieceAt}
+use Rattle.text.proofs.Pieces.{piece-inside, pieces-more, pieces-last}
+
+-- a further piece stands behind the end of this one
+pub record Next (c : ℕ) (s : List ℕ) (at end left : ℕ) : Type 0 where
+  pub inside : end < length s
+  pub count : left - 1 < length (cut c (drop (end + 1) s))
+  pub same : getD (cut c (drop at s)) left [] ≡ getD (cut c (drop (end + 1) s)) (left - 1) []
+
+module _ (c : ℕ) (s : List ℕ) (at end left : ℕ) (inside : at ≤ length s) (is : end ≡ at + length (pieceAt c s at)) (more : 0 < left) (has : left < length (cut c (drop at s))) where
+  next-by : Dec (end < length s) → Next c s at end left
+  next-by (yes h) =
+      let p = pieces-more c s at end inside is h in
+      let e : left ≡ suc (left - 1) = omega arith in
+      record {
+        inside = h;
+        count = omega (arith, ap length p);
+        same = ap (λ (k : ℕ). getD (cut c (drop at s)) k []) e ∙ ap (λ (l : List (List ℕ)). getD l (suc (left - 1)) []) p
+      }
+  next-by (no f) = absurd (omega (arith, ap length (pieces-last c s at end inside is (omega arith))))
+
+  pub piece-next : Next c s at end left
+  piece-next = next-by (decLt end (length s))
+
+pub piece-here : (c : ℕ) (s : List ℕ) (at left : ℕ) → left ≡ 0 → getD (cut c (drop at s)) left [] ≡ pieceAt c s at
+unfolding pieceAt
+piece-here c s at left z = rw z
