@@ -2,3 +2,4 @@ pub mod Below
 pub mod Rows
 pub mod Slots
 pub mod Parts
+pub mod Values

@@ -128,3 +128,66 @@ fn read_rows(sheet: &[u8], n: usize, values: &mut [i32]) -> usize
     }
     0
 }
+
+// Checks 2 to 9 and, if none refuses, the pair list in the first slots.
+pub fn read(sheet: &[u8], pairs: &mut [i32; 528]) -> Reading
+    ensures { λ r. ⌜ r ≡ reading (now (sheet .entry)) ⌝ }
+    ensures { λ _. ⌜ now (pairs .exit) ≡ slots (now (sheet .entry)) (now (pairs .entry)) ⌝ }
+{
+    if sheet::wrong_length(sheet) {
+        return Reading::Refused(2);
+    }
+    if sheet::wrong_byte(sheet) {
+        return Reading::Refused(3);
+    }
+    if sheet::wrong_names(sheet) {
+        return Reading::Refused(4);
+    }
+    if sheet::equal_names(sheet) {
+        return Reading::Refused(5);
+    }
+    let n = sheet::entry_count(sheet);
+    if sheet::wrong_count(n) {
+        return Reading::Refused(6);
+    }
+    if sheet::wrong_lines(sheet, n) {
+        return Reading::Refused(7);
+    }
+    let mut values = [0i32; 1024];
+    if read_rows(sheet, n, &mut values) != 0 {
+        return Reading::Refused(8);
+    }
+    if !is_mirrored(&values, n) {
+        return Reading::Refused(9);
+    }
+    fill(&values, n, pairs);
+    Reading::Entries(n)
+}
+
+// The number of the first of checks 2 to 9 that refuses the sheet, 0 if none does.
+pub fn refusal(sheet: &[u8]) -> usize
+    ensures { λ r. ⌜ r ≡ firstOf (sheetChecks (now (sheet .entry))) ⌝ }
+{
+    let mut pairs = [0i32; 528];
+    let Reading::Refused(number) = read(sheet, &mut pairs) else {
+        return 0;
+    };
+    number
+}
+
+// The name of an entry as its own part of the sheet; the empty part if the sheet is refused or has no such entry.
+pub fn name(sheet: &[u8], entry: usize) -> &[u8]
+    ensures { λ r. ⌜ now r ≡ nameOf (now (sheet .entry)) entry ⌝ }
+{
+    let mut pairs = [0i32; 528];
+    let Reading::Entries(n) = read(sheet, &mut pairs) else {
+        return &sheet[..0];
+    };
+    if entry >= n {
+        return &sheet[..0];
+    }
+    let end = text::piece_end(sheet, b'\n', 0);
+    let from = piece_start(&sheet[..end], entry);
+    let to = text::piece_end(&sheet[..end], b' ', from);
+    &sheet[from..to]
+}

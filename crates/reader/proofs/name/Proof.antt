@@ -1,0 +1,94 @@
+use native.Mathlib.Omega.{arith}
+use borrow.Author.Needs.{needs}
+use Rattle.reader.proofs.name.Statement.{statement}
+use Rattle.reader.proofs.name.Tie as tie
+use Rattle.reader.proofs.name.Reads as reads
+use Rattle.reader.proofs.name.Lts as lts
+use Rattle.reader.proofs.piece_start.Reads as piece-start-reads
+use Rattle.reader.proofs.read.Reads as read-reads
+use Rattle.text.proofs.piece_end.Reads as piece-end-reads
+
+-- src/lib.rt:183:31
+read-requires : tie.Need-read-requires
+read-requires c κs = search needs
+
+-- src/lib.rt:183:26
+enum-known-n : tie.Need-enum-known-n
+enum-known-n c = search needs
+
+-- src/lib.rt:184:16
+enum-told : tie.Need-enum-told
+enum-told c = search needs
+
+-- src/lib.rt:184:9
+slice-aggregate-result : tie.Need-slice-aggregate-result
+slice-aggregate-result c = search needs
+
+-- src/lib.rt:184:9
+returns : tie.Need-returns
+returns c = search needs
+
+-- src/lib.rt:187:9
+slice-aggregate-result-2 : tie.Need-slice-aggregate-result-2
+slice-aggregate-result-2 c = search needs
+
+-- src/lib.rt:187:9
+returns-2 : tie.Need-returns-2
+returns-2 c = search needs
+
+-- src/lib.rt:189:9
+piece-end-requires : tie.Need-piece-end-requires
+piece-end-requires c κs = search needs
+
+-- src/lib.rt:190:28
+slice-aggregate-piece-start : tie.Need-slice-aggregate-piece-start
+slice-aggregate-piece-start c = search needs
+
+-- src/lib.rt:190:9
+piece-start-requires : tie.Need-piece-start-requires
+piece-start-requires c κs = search needs
+
+-- src/lib.rt:191:30
+slice-aggregate-piece-end : tie.Need-slice-aggregate-piece-end
+slice-aggregate-piece-end c = search needs
+
+-- src/lib.rt:191:9
+piece-end-requires-2 : tie.Need-piece-end-requires-2
+piece-end-requires-2 c κs = search needs
+
+-- src/lib.rt:192:5
+sub-result : tie.Need-sub-result
+sub-result c = search needs
+
+-- src/lib.rt:192:5
+part-result-start : tie.Need-part-result-start
+part-result-start c = search needs
+
+-- src/lib.rt:192:5
+part-result-end : tie.Need-part-result-end
+part-result-end c = search needs
+
+-- src/lib.rt:179:1
+returns-3 : tie.Need-returns-3
+returns-3 c = search needs
+
+pub name-spec : {M : Type 1} → statement M
+name-spec =
+    tie.close
+    (tie.spec
+    read-requires
+    enum-known-n
+    enum-told
+    slice-aggregate-result
+    returns
+    slice-aggregate-result-2
+    returns-2
+    piece-end-requires
+    slice-aggregate-piece-start
+    piece-start-requires
+    slice-aggregate-piece-end
+    piece-end-requires-2
+    sub-result
+    part-result-start
+    part-result-end
+    returns-3)
