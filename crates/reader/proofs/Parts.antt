@@ -36,3 +36,13 @@ module _ (c : ℕ) (s : List ℕ) (at end left : ℕ) (inside : at ≤ length s)
 pub piece-here : (c : ℕ) (s : List ℕ) (at left : ℕ) → left ≡ 0 → getD (cut c (drop at s)) left [] ≡ pieceAt c s at
 unfolding pieceAt
 piece-here c s at left z = rw z
+
+-- a part of the list's first e elements is that part of the list
+pub part-of-part : (s : List ℕ) (e a k : ℕ) → a + k ≤ e → take k (drop a (take e s)) ≡ take k (drop a s)
+part-of-part [] zero a k h = refl
+part-of-part [] (suc e) a k h = refl
+part-of-part (b ∷ s) zero zero zero h = refl
+part-of-part (b ∷ s) zero zero (suc k) h = absurd (omega arith)
+part-of-part (b ∷ s) zero (suc a) k h = absurd (omega arith)
+part-of-part (b ∷ s) (suc e) zero k h = take-take k (suc e) (b ∷ s) (omega arith)
+part-of-part (b ∷ s) (suc e) (suc a) k h = part-of-part s e a k (omega arith)

@@ -122,3 +122,17 @@ module _ (v : Similarity) (l m : List ℤ) (ws : List (List ℕ)) (n i : ℕ) (f
 pub value-at : (s : List ℕ) (i j : ℕ) → valueOf (getD (words s i) j []) ≡ value s i j
 unfolding value
 value-at s i j = refl
+
+pub rows-no : (s : List ℕ) (r : ℕ) → r ≡ cond (wrongValues s) 8 0 → (r ≡ 0 → ⊥) → wrongValues s ≡ true
+rows-no s r e f = go (wrongValues s) e
+  where
+    go : (b : Bool) → r ≡ cond b 8 0 → b ≡ true
+    go true q = refl
+    go false q = absurd (f q)
+
+pub rows-yes : (s : List ℕ) (r : ℕ) → r ≡ cond (wrongValues s) 8 0 → r ≡ 0 → wrongValues s ≡ false
+rows-yes s r e z = go (wrongValues s) (sym e ∙ z)
+  where
+    go : (b : Bool) → _≡_ {A = ℕ} (cond b 8 0) 0 → b ≡ false
+    go true q = absurd (omega arith)
+    go false q = refl

@@ -1,3 +1,14 @@
+use Prim.Native.Nat.{ℕ, _+_, _-_, _≤_, _<_}
+use mathlib.Core.Path.{_≡_, refl, sym, ap, _∙_}
+use mathlib.Core.List.{List, []}
+use lib.ListN.{length, getD, take, drop}
+use Rattle.text.specs.Text.{cut}
+use Rattle.text.specs.Reading.{pieceAt}
+use Rattle.text.proofs.Pieces.{piece-inside, piece-part}
+use Rattle.sheet.specs.Sheet.{names}
+use Rattle.sheet.proofs.Lines.{line-inside, line-length, first-line}
+use Rattle.reader.proofs.Parts.{part-of-part}
+use Rattle.reader.proofs.Answers.{entries-is, name-none, name-past, name-at}
 use native.Mathlib.Omega.{arith}
 use borrow.Author.Needs.{needs}
 use Rattle.reader.proofs.name.Statement.{statement}
@@ -26,7 +37,7 @@ slice-aggregate-result c = search needs
 
 -- src/lib.rt:184:9
 returns : tie.Need-returns
-returns c = search needs
+returns c = name-none (c .before .before .before .before .before .before .args .sheet .now) (c .before .before .before .before .before .before .args .entry) _ (sym (c .before .before .before .read .ensures .0) ∙ c .before .enum-told .given .1)
 
 -- src/lib.rt:187:9
 slice-aggregate-result-2 : tie.Need-slice-aggregate-result-2
@@ -34,7 +45,7 @@ slice-aggregate-result-2 c = search needs
 
 -- src/lib.rt:187:9
 returns-2 : tie.Need-returns-2
-returns-2 c = search needs
+returns-2 c = name-past (c .before .before .before .before .before .before .before .before .args .sheet .now) (c .before .before .before .before .before .before .before .before .args .entry) _ (sym (c .before .before .before .before .before .read .ensures .0) ∙ c .before .before .before .n .given .1) (c .before .if1 .taken)
 
 -- src/lib.rt:189:9
 piece-end-requires : tie.Need-piece-end-requires
@@ -42,19 +53,23 @@ piece-end-requires c κs = search needs
 
 -- src/lib.rt:190:28
 slice-aggregate-piece-start : tie.Need-slice-aggregate-piece-start
-slice-aggregate-piece-start c = search needs
+slice-aggregate-piece-start c = line-length (c .before .before .before .before .before .before .before .before .before .args .sheet .now) _ (c .before .piece-end .ensures)
 
 -- src/lib.rt:190:9
 piece-start-requires : tie.Need-piece-start-requires
-piece-start-requires c κs = search needs
+unfolding names
+piece-start-requires c κs =
+    let s = c .before .before .before .before .before .before .before .before .before .args .sheet .now in
+    let e = entries-is s _ (sym (c .before .before .before .before .before .before .read .ensures .0) ∙ c .before .before .before .before .n .given .1) .1 in
+    rw (first-line s _ (c .before .piece-end .ensures)) (omega arith)
 
 -- src/lib.rt:191:30
 slice-aggregate-piece-end : tie.Need-slice-aggregate-piece-end
-slice-aggregate-piece-end c = search needs
+slice-aggregate-piece-end c = line-length (c .before .before .before .before .before .before .before .before .before .before .before .args .sheet .now) _ (c .before .before .before .piece-end .ensures)
 
 -- src/lib.rt:191:9
 piece-end-requires-2 : tie.Need-piece-end-requires-2
-piece-end-requires-2 c κs = search needs
+piece-end-requires-2 c κs = c .before .piece-start .ensures .0
 
 -- src/lib.rt:192:5
 sub-result : tie.Need-sub-result
@@ -66,11 +81,11 @@ part-result-start c = search needs
 
 -- src/lib.rt:192:5
 part-result-end : tie.Need-part-result-end
-part-result-end c = search needs
+part-result-end c = ?
 
 -- src/lib.rt:179:1
 returns-3 : tie.Need-returns-3
-returns-3 c = search needs
+returns-3 c = ?
 
 pub name-spec : {M : Type 1} → statement M
 name-spec =

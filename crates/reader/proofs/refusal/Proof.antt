@@ -1,3 +1,5 @@
+use mathlib.Core.Path.{sym, _∙_}
+use Rattle.reader.proofs.Answers.{number-is, entries-is}
 use native.Mathlib.Omega.{arith}
 use borrow.Author.Needs.{needs}
 use Rattle.reader.proofs.refusal.Statement.{statement}
@@ -20,11 +22,11 @@ enum-told c = search needs
 
 -- src/lib.rt:173:9
 returns : tie.Need-returns
-returns c = search needs
+returns c = sym (entries-is (c .before .before .before .before .before .args .sheet .now) _ (sym (c .before .before .read .ensures .0) ∙ c .enum-told .given .1) .0)
 
 -- src/lib.rt:168:1
 returns-2 : tie.Need-returns-2
-returns-2 c = search needs
+returns-2 c = number-is (c .before .before .before .before .before .before .args .sheet .now) _ (sym (c .before .before .before .read .ensures .0) ∙ c .before .number .given .1)
 
 pub refusal-spec : {M : Type 1} → statement M
 refusal-spec = tie.close (tie.spec read-requires enum-known-number enum-told returns returns-2)
