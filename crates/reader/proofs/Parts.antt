@@ -10,7 +10,9 @@ use lib.ListN.{length, getD, take, drop, length-drop}
 use lib.Seq.{take-take}
 use Rattle.text.specs.Text.{cut}
 use Rattle.text.specs.Reading.{pieceAt}
-use Rattle.text.proofs.Pieces.{piece-inside, pieces-more, pieces-last}
+use Rattle.text.proofs.Pieces.{piece-inside, piece-part, pieces-more, pieces-last}
+use Rattle.sheet.specs.Sheet.{names, entries}
+use Rattle.sheet.proofs.Lines.{line-inside, line-length, first-line}
 
 -- a further piece stands behind the end of this one
 pub record Next (c : ℕ) (s : List ℕ) (at end left : ℕ) : Type 0 where
@@ -46,3 +48,24 @@ part-of-part (b ∷ s) zero zero (suc k) h = absurd (omega arith)
 part-of-part (b ∷ s) zero (suc a) k h = absurd (omega arith)
 part-of-part (b ∷ s) (suc e) zero k h = take-take k (suc e) (b ∷ s) (omega arith)
 part-of-part (b ∷ s) (suc e) (suc a) k h = part-of-part s e a k (omega arith)
+
+-- a name by its place in line 1
+pub entry-in : (s : List ℕ) (end i n : ℕ) → end ≡ 0 + length (pieceAt 10 s 0) → n ≡ entries s → i < n → i < length (cut 32 (take end s))
+unfolding entries names
+entry-in s end i n is e h = rw (first-line s end is) (omega arith)
+
+module _ (s : List ℕ) (end from to i : ℕ) (is : end ≡ 0 + length (pieceAt 10 s 0)) (inside : from ≤ length (take end s))
+    (piece : pieceAt 32 (take end s) from ≡ getD (cut 32 (take end s)) i []) (stop : to ≡ from + length (pieceAt 32 (take end s) from)) where
+  name-end : to ≤ end
+  name-end = omega (arith, piece-inside 32 (take end s) from to inside stop, line-length s end is)
+
+  pub name-inside : to ≤ length s
+  name-inside = omega (arith, name-end, line-inside s end is)
+
+  pub name-part : take (to - from) (drop from s) ≡ getD (names s) i []
+  unfolding names
+  name-part =
+      sym (part-of-part s end from (to - from) (omega (arith, name-end)))
+      ∙ piece-part 32 (take end s) from to inside stop
+      ∙ piece
+      ∙ ap (λ (l : List ℕ). getD (cut 32 l) i []) (first-line s end is)

@@ -6,8 +6,8 @@ use Rattle.text.specs.Text.{cut}
 use Rattle.text.specs.Reading.{pieceAt}
 use Rattle.text.proofs.Pieces.{piece-inside, piece-part}
 use Rattle.sheet.specs.Sheet.{names}
-use Rattle.sheet.proofs.Lines.{line-inside, line-length, first-line}
-use Rattle.reader.proofs.Parts.{part-of-part}
+use Rattle.sheet.proofs.Lines.{line-length}
+use Rattle.reader.proofs.Parts.{entry-in, name-inside, name-part}
 use Rattle.reader.proofs.Answers.{entries-is, name-none, name-past, name-at}
 use native.Mathlib.Omega.{arith}
 use borrow.Author.Needs.{needs}
@@ -57,11 +57,10 @@ slice-aggregate-piece-start c = line-length (c .before .before .before .before .
 
 -- src/lib.rt:190:9
 piece-start-requires : tie.Need-piece-start-requires
-unfolding names
 piece-start-requires c κs =
     let s = c .before .before .before .before .before .before .before .before .before .args .sheet .now in
     let e = entries-is s _ (sym (c .before .before .before .before .before .before .read .ensures .0) ∙ c .before .before .before .before .n .given .1) .1 in
-    rw (first-line s _ (c .before .piece-end .ensures)) (omega arith)
+    entry-in s _ (c .before .before .before .before .before .before .before .before .before .args .entry) _ (c .before .piece-end .ensures) e (c .before .before .if1 .left)
 
 -- src/lib.rt:191:30
 slice-aggregate-piece-end : tie.Need-slice-aggregate-piece-end
@@ -81,11 +80,15 @@ part-result-start c = search needs
 
 -- src/lib.rt:192:5
 part-result-end : tie.Need-part-result-end
-part-result-end c = ?
+part-result-end c =
+    name-inside (c .before .before .before .before .before .before .before .before .before .before .before .before .args .sheet .now) _ _ _ (c .before .before .before .before .before .before .before .before .before .before .before .before .args .entry) (c .before .before .before .before .piece-end .ensures) (c .before .before .piece-start .ensures .0) (c .before .before .piece-start .ensures .1) (c .piece-end2 .ensures)
 
 -- src/lib.rt:179:1
 returns-3 : tie.Need-returns-3
-returns-3 c = ?
+returns-3 c =
+    let s = c .before .before .before .before .before .before .before .before .before .before .before .before .before .args .sheet .now in
+    name-part s _ _ _ (c .before .before .before .before .before .before .before .before .before .before .before .before .before .args .entry) (c .before .before .before .before .before .piece-end .ensures) (c .before .before .before .piece-start .ensures .0) (c .before .before .before .piece-start .ensures .1) (c .before .piece-end2 .ensures)
+    ∙ name-at s (c .before .before .before .before .before .before .before .before .before .before .before .before .before .args .entry) _ (sym (c .before .before .before .before .before .before .before .before .before .before .read .ensures .0) ∙ c .before .before .before .before .before .before .before .before .n .given .1) (c .before .before .before .before .before .before .if1 .left)
 
 pub name-spec : {M : Type 1} → statement M
 name-spec =
