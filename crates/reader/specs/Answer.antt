@@ -1,11 +1,12 @@
 -- What the calls on a sheet answer and write (document 01, The sheet; Where a call is turned away).
 use mathlib.Core.Path.{_≡_}
 use mathlib.Core.Bool.{cond}
-use mathlib.Core.List.{List, _++_}
+use mathlib.Core.List.{List}
 use Prim.Native.Nat.{ℕ, _+_, _*_, _<_}
 use lib.IntN.{ℤ, pos}
 use lib.Dec.{eqb}
-use lib.ListN.{length, getD, drop}
+use lib.ListN.{getD}
+use lib.Seq.{sets}
 use Rattle.clusters.specs.PairList.{Similarity}
 use Rattle.clusters.specs.Refusals.{firstOf}
 use Rattle.sheet.specs.Sheet.{entries, pairs, sheetChecks}
@@ -16,9 +17,9 @@ use Rattle.reader.specs.declared.Reading.the-variants.{Entries, Refused}
 unfoldable pub reading : List ℕ → Reading
 reading s = cond (eqb (firstOf (sheetChecks s)) 0) (Entries (entries s)) (Refused (firstOf (sheetChecks s)))
 
--- the pair list in the first slots, those beyond as they were; "Nothing lent is then written" on refusal
+-- the pair list stored from slot 0 on, the slots beyond as they were; "Nothing lent is then written" on refusal
 unfoldable pub slots : List ℕ → List ℤ → List ℤ
-slots s l = cond (eqb (firstOf (sheetChecks s)) 0) (pairs s ++ drop (length (pairs s)) l) l
+slots s l = cond (eqb (firstOf (sheetChecks s)) 0) (sets l 0 (pairs s)) l
 
 -- the values as they are read: row i stands in the 32 slots from 32·i on
 unfoldable pub square : List ℤ → Similarity

@@ -21,8 +21,8 @@ pub enum Reading {
 }
 
 // Reads a line of n values into the slots from base on; answers 8 if the line is refused, else 0.
-fn read_row(line: &[u8], n: usize, base: usize, values: &mut [i32; 1024]) -> usize
-    requires { ⌜ base + n ≤ 1024 ⌝ }
+fn read_row(line: &[u8], n: usize, base: usize, values: &mut [i32]) -> usize
+    requires { ⌜ base + n ≤ length (now values) ⌝ }
     ensures { λ r. ⌜ r ≡ cond (isRow n (cut space (now (line .entry)))) 0 8 ⌝ }
     ensures { λ r. ⌜ (r ≡ 0 → now (values .exit) ≡ sets (now (values .entry)) base (map valueOf (cut space (now (line .entry))))) ⌝ }
 {
@@ -47,8 +47,8 @@ fn read_row(line: &[u8], n: usize, base: usize, values: &mut [i32; 1024]) -> usi
 }
 
 // Row i equals column i.
-fn is_mirrored_row(values: &[i32; 1024], n: usize, i: usize) -> bool
-    requires { ⌜ (i < n) × (n ≤ 32) ⌝ }
+fn is_mirrored_row(values: &[i32], n: usize, i: usize) -> bool
+    requires { ⌜ (i < n) × (n ≤ 32) × (length (now values) ≡ 1024) ⌝ }
     ensures { λ r. ⌜ r ≡ all (λ j. eqZ (square (now (values .entry)) i j) (square (now (values .entry)) j i)) (below n) ⌝ }
 {
     for j in 0..n {
@@ -62,8 +62,8 @@ fn is_mirrored_row(values: &[i32; 1024], n: usize, i: usize) -> bool
 }
 
 // Check 9.
-fn is_mirrored(values: &[i32; 1024], n: usize) -> bool
-    requires { ⌜ n ≤ 32 ⌝ }
+fn is_mirrored(values: &[i32], n: usize) -> bool
+    requires { ⌜ (n ≤ 32) × (length (now values) ≡ 1024) ⌝ }
     ensures { λ r. ⌜ r ≡ mirrored n (square (now (values .entry))) ⌝ }
 {
     for i in 0..n {
@@ -75,8 +75,8 @@ fn is_mirrored(values: &[i32; 1024], n: usize) -> bool
 }
 
 // Writes row i of the lower triangle to the slots from start on.
-fn fill_row(values: &[i32; 1024], i: usize, start: usize, pairs: &mut [i32; 528])
-    requires { ⌜ (i < 32) × (start + i < 528) ⌝ }
+fn fill_row(values: &[i32], i: usize, start: usize, pairs: &mut [i32; 528])
+    requires { ⌜ (i < 32) × (start + i < 528) × (length (now values) ≡ 1024) ⌝ }
     ensures { λ _. ⌜ now (pairs .exit) ≡ sets (now (pairs .entry)) start (map (square (now (values .entry)) i) (below (suc i))) ⌝ }
 {
     let count = i + 1;
@@ -87,9 +87,9 @@ fn fill_row(values: &[i32; 1024], i: usize, start: usize, pairs: &mut [i32; 528]
 }
 
 // Writes the pair list to the first slots.
-fn fill(values: &[i32; 1024], n: usize, pairs: &mut [i32; 528])
-    requires { ⌜ n ≤ 32 ⌝ }
-    ensures { λ _. ⌜ now (pairs .exit) ≡ pairList n (square (now (values .entry))) ++ drop (rowStart n) (now (pairs .entry)) ⌝ }
+fn fill(values: &[i32], n: usize, pairs: &mut [i32; 528])
+    requires { ⌜ (n ≤ 32) × (length (now values) ≡ 1024) ⌝ }
+    ensures { λ _. ⌜ now (pairs .exit) ≡ sets (now (pairs .entry)) 0 (pairList n (square (now (values .entry)))) ⌝ }
 {
     let mut start: usize = 0;
     for i in 0..n {
@@ -110,4 +110,84 @@ fn piece_start(line: &[u8], i: usize) -> usize
         left -= 1;
     }
     at
+}
+
+// Reads the n value lines; answers 8 if one is refused, else 0.
+fn read_rows(sheet: &[u8], n: usize, values: &mut [i32]) -> usize
+    requires { ⌜ (n ≡ entries (now sheet)) × (n ≤ 32) × (wrongLines (now sheet) ≡ false) × (length (now values) ≡ 1024) ⌝ }
+    ensures { λ r. ⌜ r ≡ cond (wrongValues (now (sheet .entry))) 8 0 ⌝ }
+    ensures { λ r. ⌜ (r ≡ 0 → Holds (now (values .exit)) n (value (now (sheet .entry)))) ⌝ }
+{
+    let mut at = text::piece_end(sheet, b'\n', 0) + 1;
+    for i in 0..n {
+        let end = text::piece_end(sheet, b'\n', at);
+        if read_row(&sheet[at..end], n, i * 32, values) != 0 {
+            return 8;
+        }
+        at = end + 1;
+    }
+    0
+}
+
+// Checks 2 to 9 and, if none refuses, the pair list in the first slots.
+pub fn read(sheet: &[u8], pairs: &mut [i32; 528]) -> Reading
+    ensures { λ r. ⌜ r ≡ reading (now (sheet .entry)) ⌝ }
+    ensures { λ _. ⌜ now (pairs .exit) ≡ slots (now (sheet .entry)) (now (pairs .entry)) ⌝ }
+{
+    if sheet::wrong_length(sheet) {
+        return Reading::Refused(2);
+    }
+    if sheet::wrong_byte(sheet) {
+        return Reading::Refused(3);
+    }
+    if sheet::wrong_names(sheet) {
+        return Reading::Refused(4);
+    }
+    if sheet::equal_names(sheet) {
+        return Reading::Refused(5);
+    }
+    let n = sheet::entry_count(sheet);
+    if sheet::wrong_count(n) {
+        return Reading::Refused(6);
+    }
+    if sheet::wrong_lines(sheet, n) {
+        return Reading::Refused(7);
+    }
+    let mut values = [0i32; 1024];
+    if read_rows(sheet, n, &mut values) != 0 {
+        return Reading::Refused(8);
+    }
+    if !is_mirrored(&values, n) {
+        return Reading::Refused(9);
+    }
+    fill(&values, n, pairs);
+    Reading::Entries(n)
+}
+
+// The number of the first of checks 2 to 9 that refuses the sheet, 0 if none does.
+pub fn refusal(sheet: &[u8]) -> usize
+    ensures { λ r. ⌜ r ≡ firstOf (sheetChecks (now (sheet .entry))) ⌝ }
+{
+    let mut pairs = [0i32; 528];
+    let Reading::Refused(number) = read(sheet, &mut pairs) else {
+        return 0;
+    };
+    number
+}
+
+// The name of an entry as its own part of the sheet; the empty part if the sheet is refused or has no such entry.
+pub fn name(sheet: &[u8], entry: usize) -> &[u8]
+    ensures { λ r. ⌜ now r ≡ nameOf (now (sheet .entry)) entry ⌝ }
+{
+    let mut pairs = [0i32; 528];
+    let Reading::Entries(n) = read(sheet, &mut pairs) else {
+        return &sheet[..0];
+    };
+    if entry >= n {
+        return &sheet[..0];
+    }
+    let end = text::piece_end(sheet, b'\n', 0);
+    let from = piece_start(&sheet[..end], entry);
+    let to = text::piece_end(&sheet[..end], b' ', from);
+    &sheet[from..to]
 }

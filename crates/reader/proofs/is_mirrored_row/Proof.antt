@@ -1,3 +1,11 @@
+use Prim.Native.Nat.{ℕ, _+_, _-_, _*_, _≤_, _<_}
+use mathlib.Core.Path.{_≡_, refl, sym, ap, _∙_}
+use mathlib.Core.Bool.{true, false}
+use Rattle.lists.specs.Lists.{all, below}
+use Rattle.integers.specs.Integers.{eqZ}
+use Rattle.reader.specs.Answer.{square}
+use Rattle.reader.proofs.Below.{below-none, below-next, below-false}
+use Rattle.reader.proofs.Slots.{bits-same, bits-other}
 use borrow.Author.Needs.{needs}
 use native.Mathlib.Omega.{arith}
 use Rattle.reader.proofs.is_mirrored_row.Statement.{statement}
@@ -6,14 +14,14 @@ use Rattle.reader.proofs.is_mirrored_row.Reads as reads
 use Rattle.reader.proofs.is_mirrored_row.Lts as lts
 
 abbrev Inv-loop : tie.InvT-loop
-Inv-loop values n i j₀ j = ?
+Inv-loop values n i j₀ j = (j ≤ n) × (all (λ k. eqZ (square values i k) (square values k i)) (below j) ≡ true)
 
 abbrev μ-loop : tie.MeasureT-loop
-μ-loop values n i j₀ j = ?
+μ-loop values n i j₀ j = n - j
 
 -- src/lib.rt:54:5
 loop-holds : tie.Need-loop-holds Inv-loop μ-loop
-loop-holds c = search needs
+loop-holds c = (omega arith, below-none _)
 
 -- src/lib.rt:55:17
 mul-a : tie.Need-mul-a Inv-loop μ-loop
@@ -36,20 +44,32 @@ mul-if1 : tie.Need-mul-if1 Inv-loop μ-loop
 mul-if1 c = search needs
 
 -- src/lib.rt:57:12
-element-copy-out-if1 : tie.Need-element-copy-out-if1 Inv-loop μ-loop
-element-copy-out-if1 c = search needs
+shared-slice-copy-out-if1 : tie.Need-shared-slice-copy-out-if1 Inv-loop μ-loop
+shared-slice-copy-out-if1 c = search needs
 
 -- src/lib.rt:57:25
 mul-if1-2 : tie.Need-mul-if1-2 Inv-loop μ-loop
 mul-if1-2 c = search needs
 
 -- src/lib.rt:57:25
-element-copy-out-if1-2 : tie.Need-element-copy-out-if1-2 Inv-loop μ-loop
-element-copy-out-if1-2 c = search needs
+shared-slice-copy-out-if1-2 : tie.Need-shared-slice-copy-out-if1-2 Inv-loop μ-loop
+shared-slice-copy-out-if1-2 c = search needs
+
+-- the two tests of a turn
+same : (c : tie.Else1 Inv-loop μ-loop) → eqZ (square (c .before .before .before .before .before .args .values .now) (c .before .before .before .before .before .args .i) (c .before .before .before .before .loop .j)) (square (c .before .before .before .before .before .args .values .now) (c .before .before .before .before .loop .j) (c .before .before .before .before .before .args .i)) ≡ true
+unfolding square
+same c = bits-same _ _ (record { sfits = c .before .before .if12 .given }) (record { sfits = c .before .if13 .given }) (c .if1 .left)
+
+other : (c : tie.Then1 Inv-loop μ-loop) → eqZ (square (c .before .before .before .before .before .args .values .now) (c .before .before .before .before .before .args .i) (c .before .before .before .before .loop .j)) (square (c .before .before .before .before .before .args .values .now) (c .before .before .before .before .loop .j) (c .before .before .before .before .before .args .i)) ≡ false
+unfolding square
+other c = bits-other _ _ (c .if1 .taken)
 
 -- src/lib.rt:58:13
 returns : tie.Need-returns Inv-loop μ-loop
-returns c = search needs
+returns c =
+    let a = c .before .before .before .before .before .args in
+    let v = square (a .values .now) in
+    sym (below-false (λ k. eqZ (v (a .i) k) (v k (a .i))) (a .n) (c .before .before .before .before .loop .j) (omega arith) (other c))
 
 -- src/lib.rt:54:9
 add-j : tie.Need-add-j Inv-loop μ-loop
@@ -61,11 +81,17 @@ loop-less c = search needs
 
 -- src/lib.rt:54:5
 loop-again : tie.Need-loop-again Inv-loop μ-loop
-loop-again c = search needs
+loop-again c =
+    let a = c .before .before .before .before .before .args in
+    let v = square (a .values .now) in
+    (omega arith, below-next (λ k. eqZ (v (a .i) k) (v k (a .i))) (c .before .before .before .before .loop .j) (c .before .before .before .before .loop .inv .1) (same c))
 
 -- src/lib.rt:50:1
 returns-2 : tie.Need-returns-2 Inv-loop μ-loop
-returns-2 c = search needs
+returns-2 c =
+    let a = c .before .before .args in
+    let z : c .before .loop .j ≡ a .n = omega arith in
+    sym (rw z at (c .before .loop .inv .1))
 
 pub is-mirrored-row-spec : {M : Type 1} → statement M
 is-mirrored-row-spec =
@@ -79,9 +105,9 @@ is-mirrored-row-spec =
     mul-b
     add-b
     mul-if1
-    element-copy-out-if1
+    shared-slice-copy-out-if1
     mul-if1-2
-    element-copy-out-if1-2
+    shared-slice-copy-out-if1-2
     returns
     add-j
     loop-less
