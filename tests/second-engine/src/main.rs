@@ -1,4 +1,4 @@
-//! `second-engine selfcheck SECONDS SEED` and
+//! `second-engine selfcheck ROUNDS SEED` and
 //! `second-engine listing KIND < SHEET`.
 
 use second_engine::{engine, selfcheck};
@@ -9,8 +9,8 @@ fn main() -> ExitCode {
     let words: Vec<String> = std::env::args().skip(1).collect();
     let words: Vec<&str> = words.iter().map(String::as_str).collect();
     match words[..] {
-        ["selfcheck", seconds, seed] => match (seconds.parse(), seed.parse()) {
-            (Ok(seconds), Ok(seed)) => run_selfcheck(seconds, seed),
+        ["selfcheck", rounds, seed] => match (rounds.parse(), seed.parse()) {
+            (Ok(rounds), Ok(seed)) => run_selfcheck(rounds, seed),
             _ => usage(),
         },
         ["listing", kind] => match kind.parse() {
@@ -22,7 +22,7 @@ fn main() -> ExitCode {
 }
 
 fn usage() -> ExitCode {
-    eprintln!("second-engine selfcheck SECONDS SEED\nsecond-engine listing KIND < SHEET");
+    eprintln!("second-engine selfcheck ROUNDS SEED\nsecond-engine listing KIND < SHEET");
     ExitCode::from(2)
 }
 
@@ -31,8 +31,8 @@ fn fail(message: &str) -> ExitCode {
     ExitCode::FAILURE
 }
 
-fn run_selfcheck(seconds: u64, seed: u64) -> ExitCode {
-    match selfcheck::run(seconds, seed) {
+fn run_selfcheck(rounds: u64, seed: u64) -> ExitCode {
+    match selfcheck::run(rounds, seed) {
         Ok(report) => {
             print!("{report}");
             ExitCode::SUCCESS

@@ -6,7 +6,6 @@ use crate::compare::{Tally, SHEET_REFUSALS};
 use crate::engine::{self, Method, Scores, Way};
 use crate::generate::{self, Random, Table};
 use std::fmt;
-use std::time::{Duration, Instant};
 
 /// What a run went through.
 #[derive(Clone, Debug, Default)]
@@ -50,12 +49,11 @@ impl fmt::Display for Report {
     }
 }
 
-/// Rounds for so long; the first disagreement ends the run.
-pub fn run(seconds: u64, seed: u64) -> Result<Report, String> {
-    let end = Instant::now() + Duration::from_secs(seconds);
+/// So many rounds; the first disagreement ends the run.
+pub fn run(rounds: u64, seed: u64) -> Result<Report, String> {
     let mut random = Random::new(seed);
     let mut report = Report::default();
-    while Instant::now() < end {
+    for _ in 0..rounds {
         round(&mut random, &mut report)?;
     }
     match report.tally.missed() {

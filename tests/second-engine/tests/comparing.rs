@@ -133,7 +133,7 @@ fn the_program() {
     let long = vec![b'\n'; 200_000];
     assert_eq!(program(&["listing", "1"], &long), (Some(0), refused.into()));
     assert_eq!(program(&["listing"], b"").0, Some(2));
-    // No time, so no refusal is met.
+    // No round, so no refusal is met.
     assert_eq!(program(&["selfcheck", "0", "1"], b"").0, Some(1));
-    assert_eq!(program(&["selfcheck", "5", "1"], b"").0, Some(0));
+    assert_eq!(program(&["selfcheck", "20", "1"], b"").0, Some(0));
 }
