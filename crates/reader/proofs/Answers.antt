@@ -19,6 +19,7 @@ use Rattle.reader.specs.declared.Reading.{Reading}
 use Rattle.reader.specs.declared.Reading.the-variants.{Entries, Refused}
 use Rattle.reader.specs.Answer.{reading, slots, square, Holds}
 use Rattle.reader.proofs.Below.{below-cong}
+use Rattle.reader.proofs.Rows.{or-none}
 use Rattle.reader.proofs.Slots.{pairs-next, pairs-taken}
 
 -- the first line of a table holds, or not
@@ -35,20 +36,16 @@ unfolding firstOf
 none = refl
 
 -- what the tests that precede a call of `wrong_lines` and `read_rows` say
-or-false : (a b : Bool) → (a || b) ≡ false → (a ≡ false) × (b ≡ false)
-or-false true b e = let z : _≡_ {A = ℕ} 0 1 = cc in absurd (omega arith)
-or-false false b e = (refl, e)
-
 pub length-right : (s : List ℕ) → wrongLength s ≡ false → (0 < length s) × (length s ≤ 12288)
 unfolding wrongLength
 length-right s e =
-    let p = or-false (eqb (length s) 0) (ltb 12288 (length s)) e in
+    let p = or-none (eqb (length s) 0) (ltb 12288 (length s)) e in
     let f = eqb-false (length s) 0 (p .0) in
     (omega arith, ltb-false 12288 (length s) (p .1))
 
 pub count-right : (n : ℕ) → wrongCount n ≡ false → n ≤ 32
 unfolding wrongCount
-count-right n e = ltb-false 32 n (or-false (eqb n 0) (ltb 32 n) e .1)
+count-right n e = ltb-false 32 n (or-none (eqb n 0) (ltb 32 n) e .1)
 
 -- the square in place of the values
 pub mirrored-same : (l : List ℤ) (n : ℕ) (v : Similarity) → Holds l n v → mirrored n (square l) ≡ mirrored n v

@@ -1,5 +1,5 @@
 ghost use mathlib.Core.Path.{_≡_};
-ghost use mathlib.Core.Bool.{false, cond};
+ghost use mathlib.Core.Bool.{false, not, cond};
 ghost use mathlib.Core.List.{[], _++_, map};
 ghost use Prim.Native.Nat.{suc, _+_, _≤_, _<_};
 ghost use lib.ListN.{length, getD, drop};
@@ -23,7 +23,7 @@ pub enum Reading {
 // Reads a line of n values into the slots from base on; answers 8 if the line is refused, else 0.
 fn read_row(line: &[u8], n: usize, base: usize, values: &mut [i32]) -> usize
     requires { ⌜ base + n ≤ length (now values) ⌝ }
-    ensures { λ r. ⌜ r ≡ cond (isRow n (cut space (now (line .entry)))) 0 8 ⌝ }
+    ensures { λ r. ⌜ r ≡ cond (not (isRow n (cut space (now (line .entry))))) 8 0 ⌝ }
     ensures { λ r. ⌜ (r ≡ 0 → now (values .exit) ≡ sets (now (values .entry)) base (map valueOf (cut space (now (line .entry))))) ⌝ }
 {
     let mut at: usize = 0;

@@ -45,7 +45,9 @@ slice-aggregate-result-2 c = search needs
 
 -- src/lib.rt:187:9
 returns-2 : tie.Need-returns-2
-returns-2 c = name-past (c .before .before .before .before .before .before .before .before .args .sheet .now) (c .before .before .before .before .before .before .before .before .args .entry) _ (sym (c .before .before .before .before .before .read .ensures .0) ∙ c .before .before .before .n .given .1) (c .before .if1 .taken)
+returns-2 c =
+    let h : c .before .before .before .n .given .0 .0 ≤ c .before .before .before .before .before .before .before .before .args .entry = omega arith in
+    name-past (c .before .before .before .before .before .before .before .before .args .sheet .now) (c .before .before .before .before .before .before .before .before .args .entry) _ (sym (c .before .before .before .before .before .read .ensures .0) ∙ c .before .before .before .n .given .1) h
 
 -- src/lib.rt:189:9
 piece-end-requires : tie.Need-piece-end-requires

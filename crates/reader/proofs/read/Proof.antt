@@ -7,7 +7,7 @@ use lib.ListN.{length, drop}
 use Rattle.clusters.specs.Refusals.{firstOf, wrongCount}
 use Rattle.sheet.specs.Sheet.{entries, value, wrongLength, wrongLines, wrongValues, mirrored, sheetChecks}
 use Rattle.reader.specs.Answer.{square, Holds}
-use Rattle.reader.proofs.Values.{rows-no, rows-yes}
+use Rattle.reader.proofs.Rows.{refuses, passes}
 use Rattle.reader.proofs.Answers.{hit, skip, none, length-right, count-right, mirrored-same, refused, passed}
 use native.Mathlib.Omega.{arith}
 use borrow.Author.Needs.{needs}
@@ -134,11 +134,11 @@ read-rows-requires c κs = (c .before .before .before .before .before .entry-cou
 returns-7 : tie.Need-returns-7
 unfolding sheetChecks
 returns-7 c =
-    refused (c .before .before .before .before .before .before .before .before .before .before .before .before .before .before .before .before .before .before .args .sheet .now) _ 8 (left8 (c .before .before .before .before) ∙ hit 8 _ (rows-no (c .before .before .before .before .before .before .before .before .before .before .before .before .before .before .before .before .before .before .args .sheet .now) _ (c .before .before .read-rows .ensures .0) (c .if7 .taken))) (λ z. omega (arith, z))
+    refused (c .before .before .before .before .before .before .before .before .before .before .before .before .before .before .before .before .before .before .args .sheet .now) _ 8 (left8 (c .before .before .before .before) ∙ hit 8 _ (refuses _ _ (c .before .before .read-rows .ensures .0) (c .if7 .taken))) (λ z. omega (arith, z))
 
 left9 : (c : tie.Else7) → firstOf (sheetChecks (c .before .before .before .before .before .before .before .before .before .before .before .before .before .before .before .before .before .before .args .sheet .now)) ≡ firstOf (drop 7 (sheetChecks (c .before .before .before .before .before .before .before .before .before .before .before .before .before .before .before .before .before .before .args .sheet .now)))
 unfolding sheetChecks
-left9 c = left8 (c .before .before .before .before) ∙ skip 8 _ (rows-yes (c .before .before .before .before .before .before .before .before .before .before .before .before .before .before .before .before .before .before .args .sheet .now) _ (c .before .before .read-rows .ensures .0) (c .if7 .left))
+left9 c = left8 (c .before .before .before .before) ∙ skip 8 _ (passes _ _ (c .before .before .read-rows .ensures .0) (c .if7 .left))
 
 held : (c : tie.Else7) → Holds (c .before .before .read-rows .last .1 .1 .0) (c .before .before .before .before .before .before .before .before .entry-count .result) (value (c .before .before .before .before .before .before .before .before .before .before .before .before .before .before .before .before .before .before .args .sheet .now))
 held c = c .before .before .read-rows .ensures .1 (c .if7 .left)

@@ -3,15 +3,16 @@ use lib.Seq.{sets}
 use Rattle.text.specs.Text.{valueOf}
 use Prim.Native.Nat.{ℕ, suc, _+_, _-_, _*_, _≤_, _<_}
 use mathlib.Core.Path.{_≡_, refl, sym, ap, _∙_}
-use mathlib.Core.Bool.{true, false, cond}
+use mathlib.Core.Bool.{true, not, cond}
+use borrow.Author.Tests.{not-true, not-false}
 use lib.ListN.{length, drop}
 use Rattle.lists.specs.Lists.{all, below}
 use Rattle.text.specs.Text.{cut}
 use Rattle.sheet.specs.Sheet.{lines, entries, words, value, isRow}
 use Rattle.reader.specs.Answer.{square}
 use Rattle.reader.proofs.Below.{below-none, below-next}
-use Rattle.reader.proofs.Rows.{row-length}
-use Rattle.reader.proofs.Values.{Line, line-count, line-at, first-at, line-words, row-yes, row-no, values-wrong, values-right, square-next, value-at}
+use Rattle.reader.proofs.Rows.{row-length, refuses, passes}
+use Rattle.reader.proofs.Values.{Line, line-count, line-at, first-at, line-words, values-wrong, values-right, square-next, value-at}
 use borrow.Author.Needs.{needs}
 use native.Mathlib.Omega.{arith}
 use Rattle.reader.proofs.read_rows.Statement.{statement}
@@ -94,10 +95,10 @@ returns c =
     let a = c .before .before .before .before .before .before .before .before .before .before .args in
     let l = c .before .before .before .before .before .before .before .loop in
     let r = c .before .before .read-row in
-    let e : r .result ≡ cond (isRow (a .n) (words (a .sheet .now) (l .i))) 0 8 =
-        r .ensures .0 ∙ ap (λ ws. cond (isRow (a .n) ws) 0 8) (line-words _ _ _ _ (line (c .before .before .before .before .before)))
+    let e : r .result ≡ cond (not (isRow (a .n) (words (a .sheet .now) (l .i)))) 8 0 =
+        r .ensures .0 ∙ ap (λ ws. cond (not (isRow (a .n) ws)) 8 0) (line-words _ _ _ _ (line (c .before .before .before .before .before)))
     in
-    (values-wrong (a .sheet .now) (a .n) (l .i) (c .before .before .before .before .before .before .before .before .before .before .pre .0) (omega arith) (row-no (a .n) (r .result) _ e (c .if1 .taken)), λ z. absurd (omega (arith, z)))
+    (values-wrong (a .sheet .now) (a .n) (l .i) (c .before .before .before .before .before .before .before .before .before .before .pre .0) (omega arith) (not-true _ (refuses _ (r .result) e (c .if1 .taken))), λ z. absurd (omega (arith, z)))
 
 -- src/lib.rt:127:14
 add-at-2 : tie.Need-add-at-2 Inv-loop μ-loop
@@ -119,7 +120,7 @@ loop-again c =
     let l = c .before .before .before .before .before .before .before .loop in
     let r = c .before .before .read-row in
     let w = line-words s _ _ _ (line (c .before .before .before .before .before)) in
-    let y : isRow (a .n) (words s (l .i)) ≡ true = row-yes (a .n) (r .result) _ (r .ensures .0 ∙ ap (λ ws. cond (isRow (a .n) ws) 0 8) w) (c .if1 .left) in
+    let y : isRow (a .n) (words s (l .i)) ≡ true = not-false _ (passes _ (r .result) (r .ensures .0 ∙ ap (λ ws. cond (not (isRow (a .n) ws)) 8 0) w) (c .if1 .left)) in
     let m = r .ensures .1 (c .if1 .left) ∙ ap (λ ws. sets (l .values) (l .i * 32) (map valueOf ws)) w in
     (omega arith,
     omega (arith, line (c .before .before .before .before .before) .inside),

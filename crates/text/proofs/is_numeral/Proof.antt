@@ -1,4 +1,4 @@
-use Prim.Native.Nat.{_<_}
+use Prim.Native.Nat.{_≤_, _<_}
 use mathlib.Core.Path.{_≡_, refl, sym, _∙_}
 use mathlib.Core.Bool.{true, false, and-false}
 use borrow.Author.Tests.{lt-leb, le-leb, eq-eqb, ne-eqb, not-true, not-false}
@@ -24,7 +24,8 @@ returns-2 : tie.Need-returns-2
 returns-2 c =
     let s = c .before .before .before .args .word .now in
     let h : 0 < length s = omega arith in
-    sym (numeral-is s h ∙ simp (lt-leb _ _ (c .if2 .taken), and-false))
+    let l : 7 < length s = omega arith in
+    sym (numeral-is s h ∙ simp (lt-leb _ _ l, and-false))
 
 -- src/lib.rt:147:9
 all-in-requires : tie.Need-all-in-requires
@@ -47,16 +48,18 @@ returns-4 : tie.Need-returns-4
 returns-4 c =
     let s = c .before .before .before .before .before .before .before .args .word .now in
     let h : 0 < length s = omega arith in
+    let l : length s ≤ 7 = omega arith in
     let e : all isDigit s ≡ true = sym (c .before .before .before .all-in .ensures) ∙ not-false _ (c .before .before .if3 .left) in
-    sym (numeral-is s h ∙ simp (e, le-leb _ _ (c .before .before .before .before .if2 .left), ne-eqb _ _ (c .if4 .taken)))
+    sym (numeral-is s h ∙ simp (e, le-leb _ _ l, ne-eqb _ _ (c .if4 .taken)))
 
 -- src/lib.rt:137:1
 returns-5 : tie.Need-returns-5
 returns-5 c =
     let s = c .before .before .before .before .before .before .before .args .word .now in
     let h : 0 < length s = omega arith in
+    let l : length s ≤ 7 = omega arith in
     let e : all isDigit s ≡ true = sym (c .before .before .before .all-in .ensures) ∙ not-false _ (c .before .before .if3 .left) in
-    sym (numeral-is s h ∙ simp (e, le-leb _ _ (c .before .before .before .before .if2 .left), eq-eqb _ _ (c .if4 .left)))
+    sym (numeral-is s h ∙ simp (e, le-leb _ _ l, eq-eqb _ _ (c .if4 .left)))
 
 pub is-numeral-spec : {M : Type 1} → statement M
 is-numeral-spec =

@@ -52,7 +52,8 @@ returns-4 : tie.Need-returns-4
 returns-4 c =
     let s = c .before .before .before .before .before .before .before .args .word .now in
     let h : 0 < length s = omega arith in
-    sym (value-minus s h (c .before .before .before .if2 .left) ∙ simp (eq-eqb _ _ (c .if4 .taken), and-false))
+    let z : getD s 1 0 ≡ 48 = c .if4 .taken in
+    sym (value-minus s h (c .before .before .before .if2 .left) ∙ simp (eq-eqb _ _ z, and-false))
 
 -- src/lib.rt:172:16
 sub-is-numeral : tie.Need-sub-is-numeral
