@@ -1,8 +1,8 @@
 -- The table of checks, line by line, and the answers.
 use mathlib.Core.Path.{_≡_, refl, sym, ap, ap₂, _∙_}
-use mathlib.Core.Bool.{Bool, true, false, not, cond, _&&_, _||_}
-use mathlib.Core.List.{List, [], _∷_, _++_, map}
-use Prim.Native.Nat.{ℕ, zero, suc, _+_, _-_, _≤_, _<_}
+use mathlib.Core.Bool.{Bool, true, false, not, cond, _&&_}
+use mathlib.Core.List.{List, [], _∷_, _++_}
+use Prim.Native.Nat.{ℕ, zero, suc, _+_, _≤_, _<_}
 use native.Mathlib.Omega.{arith}
 use borrow.Author.Tests.{not-false, ne-eqb, eqb-true, eqb-false, ltb-false, lt-ltb, le-ltb}
 use lib.Dec.{eqb, ltb}
@@ -14,9 +14,7 @@ use Rattle.lists.proofs.Lists.{map-cong, below-lt}
 use Rattle.integers.specs.Integers.{eqZ}
 use Rattle.clusters.specs.PairList.{Similarity, pairList, rowStart}
 use Rattle.clusters.specs.Refusals.{firstOf, wrongCount}
-use Rattle.sheet.specs.Sheet.{names, entries, value, pairs, mirrored, sheetChecks, nameOf}
-use Rattle.sheet.specs.Sheet.{wrongLength, wrongByte, wrongNames, equalNames, wrongLines, wrongValues}
-use Rattle.reader.specs.declared.Reading.{Reading}
+use Rattle.sheet.specs.Sheet.{names, entries, value, pairs, mirrored, sheetChecks, nameOf, wrongLength, wrongByte, wrongNames, equalNames, wrongLines, wrongValues}
 use Rattle.reader.specs.declared.Reading.the-variants.{Entries, Refused}
 use Rattle.reader.specs.Answer.{reading, slots, square, Holds}
 use Rattle.reader.proofs.Below.{below-cong}
@@ -152,7 +150,7 @@ passes-all s e =
       count = f .0;
       lines = g .0;
       values = h .0;
-      mirror = not-false _ (m .0)
+      mirror = not-false _ (m .0);
     }
 
 pub passes-few : (s : List ℕ) → firstOf (sheetChecks s) ≡ 0 → entries s ≤ 32

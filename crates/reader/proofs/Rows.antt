@@ -1,20 +1,19 @@
 -- A line of values, piece by piece.
-use mathlib.Core.Path.{_≡_, refl, sym, ap, _∙_}
-use mathlib.Core.Bool.{Bool, true, false, not, cond, _&&_, _||_, and-true, and-false}
-use mathlib.Core.List.{List, [], _∷_, map}
-use Prim.Native.Nat.{ℕ, zero, suc, _+_, _-_, _≤_, _<_}
+use mathlib.Core.Path.{_≡_, refl, ap}
+use mathlib.Core.Bool.{Bool, true, false, not, cond, _||_, and-true, and-false}
+use mathlib.Core.List.{List, map}
+use Prim.Native.Nat.{ℕ, suc, _+_, _≤_, _<_}
 use native.Mathlib.Numerals.{add-one}
 use native.Mathlib.Omega.{arith}
 use borrow.Author.Tests.{eqb-true, ne-eqb}
 use lib.Dec.{eqb, eqb·suc-suc}
 use lib.IntN.{ℤ}
-use lib.ListN.{length, getD, set, drop}
+use lib.ListN.{length, set, drop}
 use lib.Seq.{sets}
 use Rattle.lists.specs.Lists.{all}
 use Rattle.text.specs.Text.{cut, isValue, valueOf}
 use Rattle.text.specs.Reading.{pieceAt, valueAt}
 use Rattle.text.specs.declared.Cursor.{Cursor}
-use Rattle.text.specs.declared.ValueRead.{ValueRead}
 use Rattle.text.specs.declared.ValueRead.the-variants.{Value, Refused}
 use Rattle.text.proofs.Pieces.{some-piece, pieces-more, pieces-last}
 use Rattle.text.proofs.Words.{and-left}

@@ -1,11 +1,11 @@
 -- The value lines, one after the other, and the square of their values.
 use mathlib.Core.Path.{_≡_, refl, sym, ap, _∙_}
-use mathlib.Core.Bool.{Bool, true, false, not, cond, _||_}
-use mathlib.Core.List.{List, [], _∷_, _++_, map}
+use mathlib.Core.Bool.{true, false, not, cond}
+use mathlib.Core.List.{List, [], _++_, map}
 use mathlib.Core.Logic.{⊎-elim}
-use Prim.Native.Nat.{ℕ, zero, suc, _+_, _-_, _*_, _≤_, _<_}
+use Prim.Native.Nat.{ℕ, suc, _+_, _-_, _*_, _≤_, _<_}
 use native.Mathlib.Numerals.{add-one}
-use native.Mathlib.Nat.{eq-or-lt-of-le, le-of-suc-le-suc, add-zero}
+use native.Mathlib.Nat.{eq-or-lt-of-le, le-of-suc-le-suc}
 use native.Mathlib.Omega.{arith}
 use native.Mathlib.Decide.{decLt}
 use borrow.Author.Tests.{eqb-true, not-false}
@@ -42,7 +42,7 @@ module _ (s : List ℕ) (at end i : ℕ) (within : at ≤ length s) (is : end �
       record {
         inside = h;
         part = piece-part 10 s at end within is ∙ ap (λ (l : List (List ℕ)). getD l 0 []) here ∙ getD-drop i (lines s) 0 [] ∙ ap (λ (k : ℕ). getD (lines s) k []) z;
-        next = ap (drop 1) (sym (pieces-more 10 s at end within is h) ∙ here) ∙ drop-drop 1 i (lines s)
+        next = ap (drop 1) (sym (pieces-more 10 s at end within is h) ∙ here) ∙ drop-drop 1 i (lines s);
       }
   line-by (no f) =
       absurd (omega (arith, ap length (sym (pieces-last 10 s at end within is (omega arith)) ∙ here), length-drop i (lines s)))

@@ -1,14 +1,14 @@
 ghost use mathlib.Core.Path.{_≡_};
 ghost use mathlib.Core.Bool.{false, not, cond};
-ghost use mathlib.Core.List.{[], _++_, map};
+ghost use mathlib.Core.List.{[], map};
 ghost use Prim.Native.Nat.{suc, _+_, _≤_, _<_};
-ghost use lib.ListN.{length, getD, drop};
+ghost use lib.ListN.{length, getD};
 ghost use lib.Seq.{sets};
 ghost use Rattle.lists.specs.Lists.{all, below};
 ghost use Rattle.integers.specs.Integers.{eqZ};
 ghost use Rattle.text.specs.Text.{space, cut, valueOf};
 ghost use Rattle.text.specs.Reading.{pieceAt};
-ghost use Rattle.clusters.specs.PairList.{pairList, rowStart};
+ghost use Rattle.clusters.specs.PairList.{pairList};
 ghost use Rattle.clusters.specs.Refusals.{firstOf};
 ghost use Rattle.sheet.specs.Sheet.{entries, value, isRow, mirrored, wrongLines, wrongValues, sheetChecks, nameOf};
 ghost use Rattle.reader.specs.Answer.{reading, slots, square, Holds};
