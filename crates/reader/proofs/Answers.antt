@@ -19,7 +19,7 @@ use Rattle.reader.specs.declared.Reading.the-variants.{Entries, Refused}
 use Rattle.reader.specs.Answer.{reading, slots, square, Holds}
 use Rattle.reader.proofs.Below.{below-cong}
 use Rattle.reader.proofs.Rows.{or-none}
-use Rattle.reader.proofs.Slots.{pairs-next, pairs-count, pairs-taken}
+use Rattle.reader.proofs.Slots.{pairs-next, pairs-count, pairs-taken, start-room}
 
 -- the first line of a table holds, or not
 pub hit : (k : ℕ) {b : Bool} (l : List (ℕ × Bool)) → b ≡ true → firstOf ((k, b) ∷ l) ≡ k
@@ -71,11 +71,6 @@ module _ (s : List ℕ) (l : List ℤ) where
   unfolding reading slots pairs
   passed n m e is h = (rw (e, is), rw (e, pairs-same n (square m) (value s) h, is))
 
--- the first slots of a sheet that passes are its pair list
-pub slots-pairs : (s : List ℕ) (l : List ℤ) → firstOf (sheetChecks s) ≡ 0 → rowStart (entries s) ≤ length l → take (rowStart (entries s)) (slots s l) ≡ pairs s
-unfolding slots pairs
-slots-pairs s l e h = rw e (pairs-taken (value s) (entries s) l h)
-
 -- the number of the refusal in an answer, and the entries
 pub number-is : (s : List ℕ) (k : ℕ) → reading s ≡ Refused k → k ≡ firstOf (sheetChecks s)
 unfolding reading
@@ -122,7 +117,7 @@ unhit k true l f e = absurd (f e)
 unhit k false l f e = (refl, e)
 
 pub record Passes (s : List ℕ) : Type 0 where
-  pub length : wrongLength s ≡ false
+  pub size : wrongLength s ≡ false
   pub bytes : wrongByte s ≡ false
   pub names : wrongNames s ≡ false
   pub distinct : equalNames s ≡ false
@@ -143,7 +138,7 @@ passes-all s e =
     let h = unhit 8 (wrongValues s) _ (λ z. omega arith) (g .1) in
     let m = unhit 9 (not (mirrored (entries s) (value s))) _ (λ z. omega arith) (h .1) in
     record {
-      length = a .0;
+      size = a .0;
       bytes = b .0;
       names = c .0;
       distinct = d .0;
@@ -159,3 +154,8 @@ passes-few s e = count-right (entries s) (passes-all s e .count)
 pub pairs-length : (s : List ℕ) → length (pairs s) ≡ rowStart (entries s)
 unfolding pairs
 pairs-length s = pairs-count (value s) (entries s)
+
+-- the first slots of a sheet that passes are its pair list
+pub slots-pairs : (s : List ℕ) (l : List ℤ) → length l ≡ 528 → firstOf (sheetChecks s) ≡ 0 → take (rowStart (entries s)) (slots s l) ≡ pairs s
+unfolding slots pairs
+slots-pairs s l h e = rw e (pairs-taken (value s) (entries s) l (omega (arith, start-room (entries s) (passes-few s e))))

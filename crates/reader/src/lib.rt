@@ -46,6 +46,23 @@ fn read_row(line: &[u8], n: usize, base: usize, values: &mut [i32]) -> usize
     8
 }
 
+// Reads the n value lines; answers 8 if one is refused, else 0.
+fn read_rows(sheet: &[u8], n: usize, values: &mut [i32]) -> usize
+    requires { ⌜ (n ≡ entries (now sheet)) × (n ≤ 32) × (wrongLines (now sheet) ≡ false) × (length (now values) ≡ 1024) ⌝ }
+    ensures { λ r. ⌜ r ≡ cond (wrongValues (now (sheet .entry))) 8 0 ⌝ }
+    ensures { λ r. ⌜ (r ≡ 0 → Holds (now (values .exit)) n (value (now (sheet .entry)))) ⌝ }
+{
+    let mut at = text::piece_end(sheet, b'\n', 0) + 1;
+    for i in 0..n {
+        let end = text::piece_end(sheet, b'\n', at);
+        if read_row(&sheet[at..end], n, i * 32, values) != 0 {
+            return 8;
+        }
+        at = end + 1;
+    }
+    0
+}
+
 // Row i equals column i.
 fn is_mirrored_row(values: &[i32], n: usize, i: usize) -> bool
     requires { ⌜ (i < n) × (n ≤ 32) × (length (now values) ≡ 1024) ⌝ }
@@ -98,37 +115,6 @@ fn fill(values: &[i32], n: usize, pairs: &mut [i32; 528])
     }
 }
 
-// The place where piece i of the line starts.
-fn piece_start(line: &[u8], i: usize) -> usize
-    requires { ⌜ i < length (cut space (now line)) ⌝ }
-    ensures { λ r. ⌜ (r ≤ length (now (line .entry))) × (pieceAt space (now (line .entry)) r ≡ getD (cut space (now (line .entry))) i []) ⌝ }
-{
-    let mut at: usize = 0;
-    let mut left = i;
-    while left > 0 {
-        at = text::piece_end(line, b' ', at) + 1;
-        left -= 1;
-    }
-    at
-}
-
-// Reads the n value lines; answers 8 if one is refused, else 0.
-fn read_rows(sheet: &[u8], n: usize, values: &mut [i32]) -> usize
-    requires { ⌜ (n ≡ entries (now sheet)) × (n ≤ 32) × (wrongLines (now sheet) ≡ false) × (length (now values) ≡ 1024) ⌝ }
-    ensures { λ r. ⌜ r ≡ cond (wrongValues (now (sheet .entry))) 8 0 ⌝ }
-    ensures { λ r. ⌜ (r ≡ 0 → Holds (now (values .exit)) n (value (now (sheet .entry)))) ⌝ }
-{
-    let mut at = text::piece_end(sheet, b'\n', 0) + 1;
-    for i in 0..n {
-        let end = text::piece_end(sheet, b'\n', at);
-        if read_row(&sheet[at..end], n, i * 32, values) != 0 {
-            return 8;
-        }
-        at = end + 1;
-    }
-    0
-}
-
 // Checks 2 to 9 and, if none refuses, the pair list in the first slots.
 pub fn read(sheet: &[u8], pairs: &mut [i32; 528]) -> Reading
     ensures { λ r. ⌜ r ≡ reading (now (sheet .entry)) ⌝ }
@@ -173,6 +159,20 @@ pub fn refusal(sheet: &[u8]) -> usize
         return 0;
     };
     number
+}
+
+// The place where piece i of the line starts.
+fn piece_start(line: &[u8], i: usize) -> usize
+    requires { ⌜ i < length (cut space (now line)) ⌝ }
+    ensures { λ r. ⌜ (r ≤ length (now (line .entry))) × (pieceAt space (now (line .entry)) r ≡ getD (cut space (now (line .entry))) i []) ⌝ }
+{
+    let mut at: usize = 0;
+    let mut left = i;
+    while left > 0 {
+        at = text::piece_end(line, b' ', at) + 1;
+        left -= 1;
+    }
+    at
 }
 
 // The name of an entry as its own part of the sheet; the empty part if the sheet is refused or has no such entry.

@@ -1,12 +1,12 @@
-use Prim.Native.Nat.{ℕ, _-_, _≤_}
 use mathlib.Core.Path.{_≡_, refl, ap, _∙_}
+use Prim.Native.Nat.{ℕ, _-_, _≤_}
+use native.Mathlib.Omega.{arith}
+use borrow.Author.Needs.{needs}
 use lib.Seq.{sets}
 use Rattle.lists.specs.Lists.{below, each}
 use Rattle.clusters.specs.PairList.{pairList, rowStart}
 use Rattle.reader.specs.Answer.{square}
 use Rattle.reader.proofs.Slots.{row-next, row-room, fill-next}
-use borrow.Author.Needs.{needs}
-use native.Mathlib.Omega.{arith}
 use Rattle.reader.proofs.fill.Statement.{statement}
 use Rattle.reader.proofs.fill.Tie as tie
 

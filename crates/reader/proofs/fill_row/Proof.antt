@@ -1,17 +1,15 @@
-use Prim.Native.Nat.{ℕ, suc, _+_, _-_, _≤_}
-use mathlib.Core.Path.{_≡_, refl, sym, ap, _∙_}
-use mathlib.Core.List.{List, map}
-use lib.IntN.{ℤ}
-use lib.ListN.{set}
+use mathlib.Core.Path.{_≡_, refl, ap, _∙_}
+use mathlib.Core.List.{map}
+use Prim.Native.Nat.{ℕ, suc, _-_, _≤_}
+use native.Mathlib.Omega.{arith}
+use borrow.Author.Needs.{needs}
 use lib.Seq.{sets}
 use mir.Val.{SFits}
 use mir.Syntax.{w32}
 use mir.Facts.{toZ-ofZ}
 use Rattle.lists.specs.Lists.{below}
 use Rattle.reader.specs.Answer.{square}
-use Rattle.reader.proofs.Slots.{sets-next, map-next, map-count}
-use borrow.Author.Needs.{needs}
-use native.Mathlib.Omega.{arith}
+use Rattle.reader.proofs.Slots.{row-store}
 use Rattle.reader.proofs.fill_row.Statement.{statement}
 use Rattle.reader.proofs.fill_row.Tie as tie
 
@@ -62,12 +60,7 @@ loop-again c =
     let l = c .before .before .loop in
     let v = square (a .values .now) (a .i) in
     let f : SFits w32 (v (l .j)) = record { sfits = c .pairs .given } in
-    let p : set (l .pairs) (a .start + l .j) (v (l .j)) ≡ sets (a .pairs .now) (a .start) (map v (below (l .j + 1))) =
-    ap (λ (m : List ℤ). set m (a .start + l .j) (v (l .j))) (l .inv .1)
-    ∙ sets-next (a .pairs .now) (a .start) (l .j) (map v (below (l .j))) (v (l .j)) (map-count v (l .j))
-    ∙ sym (ap (sets (a .pairs .now) (a .start)) (map-next v (l .j)))
-    in
-    (omega arith, rw (toZ-ofZ f) p)
+    (omega arith, rw (toZ-ofZ f) (row-store v (l .pairs) (a .pairs .now) (a .start) (l .j) (l .inv .1)))
 
 returns : tie.Need-returns Inv-loop μ-loop
 returns c =

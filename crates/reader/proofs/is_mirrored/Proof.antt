@@ -1,14 +1,14 @@
-use Prim.Native.Nat.{_-_, _≤_}
 use mathlib.Core.Path.{_≡_, sym, _∙_}
 use mathlib.Core.Bool.{true}
+use Prim.Native.Nat.{_-_, _≤_}
+use native.Mathlib.Omega.{arith}
 use borrow.Author.Tests.{not-true, not-false}
+use borrow.Author.Needs.{needs}
 use Rattle.lists.specs.Lists.{all, below}
 use Rattle.integers.specs.Integers.{eqZ}
 use Rattle.sheet.specs.Sheet.{mirrored}
 use Rattle.reader.specs.Answer.{square}
 use Rattle.reader.proofs.Below.{below-none, below-next, below-false}
-use borrow.Author.Needs.{needs}
-use native.Mathlib.Omega.{arith}
 use Rattle.reader.proofs.is_mirrored.Statement.{statement}
 use Rattle.reader.proofs.is_mirrored.Tie as tie
 

@@ -1,13 +1,13 @@
-use Prim.Native.Nat.{_-_, _≤_}
 use mathlib.Core.Path.{_≡_, sym}
 use mathlib.Core.Bool.{true, false}
+use Prim.Native.Nat.{_-_, _≤_}
+use native.Mathlib.Omega.{arith}
+use borrow.Author.Needs.{needs}
 use Rattle.lists.specs.Lists.{all, below}
 use Rattle.integers.specs.Integers.{eqZ}
 use Rattle.reader.specs.Answer.{square}
 use Rattle.reader.proofs.Below.{below-none, below-next, below-false}
 use Rattle.reader.proofs.Slots.{bits-same, bits-other}
-use borrow.Author.Needs.{needs}
-use native.Mathlib.Omega.{arith}
 use Rattle.reader.proofs.is_mirrored_row.Statement.{statement}
 use Rattle.reader.proofs.is_mirrored_row.Tie as tie
 

@@ -1,10 +1,10 @@
-use Prim.Native.Nat.{_≤_}
 use mathlib.Core.Path.{sym, _∙_}
+use Prim.Native.Nat.{_≤_}
+use native.Mathlib.Omega.{arith}
+use borrow.Author.Needs.{needs}
 use Rattle.sheet.proofs.Lines.{line-length}
 use Rattle.reader.proofs.Parts.{entry-in, name-inside, name-part}
 use Rattle.reader.proofs.Answers.{entries-is, name-none, name-past, name-at}
-use native.Mathlib.Omega.{arith}
-use borrow.Author.Needs.{needs}
 use Rattle.reader.proofs.name.Statement.{statement}
 use Rattle.reader.proofs.name.Tie as tie
 

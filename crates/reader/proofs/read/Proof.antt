@@ -1,14 +1,14 @@
-use Prim.Native.Nat.{ℕ, _≤_, _<_}
 use mathlib.Core.Path.{_≡_, sym, ap, _∙_}
 use mathlib.Core.Bool.{not}
+use Prim.Native.Nat.{ℕ, _≤_, _<_}
+use native.Mathlib.Omega.{arith}
+use borrow.Author.Needs.{needs}
 use lib.ListN.{length, drop}
 use Rattle.clusters.specs.Refusals.{firstOf, wrongCount}
 use Rattle.sheet.specs.Sheet.{entries, value, mirrored, sheetChecks}
 use Rattle.reader.specs.Answer.{Holds}
 use Rattle.reader.proofs.Rows.{refuses, passes}
 use Rattle.reader.proofs.Answers.{hit, skip, none, length-right, count-right, mirrored-same, refused, passed}
-use native.Mathlib.Omega.{arith}
-use borrow.Author.Needs.{needs}
 use Rattle.reader.proofs.read.Statement.{statement}
 use Rattle.reader.proofs.read.Tie as tie
 

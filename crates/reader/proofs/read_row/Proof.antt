@@ -1,8 +1,10 @@
-use Prim.Native.Nat.{ℕ, suc, _+_, _-_, _≤_}
 use mathlib.Core.Path.{_≡_, refl, sym, ap, _∙_}
 use mathlib.Core.Bool.{true, false}
 use mathlib.Core.List.{map}
+use Prim.Native.Nat.{ℕ, suc, _+_, _-_, _≤_}
+use native.Mathlib.Omega.{arith}
 use borrow.Author.Tests.{eq-eqb, ne-eqb}
+use borrow.Author.Needs.{needs}
 use lib.Dec.{eqb}
 use lib.ListN.{length, drop, length-set}
 use lib.Seq.{sets}
@@ -12,8 +14,6 @@ use mir.Facts.{toZ-ofZ}
 use Rattle.text.specs.Text.{cut, valueOf}
 use Rattle.sheet.specs.Sheet.{isRow}
 use Rattle.reader.proofs.Rows.{Got, value-got, value-not, row-none, row-refused, row-last, row-more, store-last, store-more, row-eight, row-zero}
-use borrow.Author.Needs.{needs}
-use native.Mathlib.Omega.{arith}
 use Rattle.reader.proofs.read_row.Statement.{statement}
 use Rattle.reader.proofs.read_row.Tie as tie
 

@@ -1,19 +1,19 @@
 use mathlib.Core.List.{map}
-use lib.Seq.{sets}
-use Rattle.text.specs.Text.{valueOf, cut}
-use Prim.Native.Nat.{ℕ, _+_, _-_, _*_, _≤_, _<_}
 use mathlib.Core.Path.{_≡_, sym, ap, _∙_}
 use mathlib.Core.Bool.{true, not, cond}
+use Prim.Native.Nat.{ℕ, _+_, _-_, _*_, _≤_, _<_}
+use native.Mathlib.Omega.{arith}
 use borrow.Author.Tests.{not-true, not-false}
+use borrow.Author.Needs.{needs}
+use lib.Seq.{sets}
 use lib.ListN.{length, drop}
 use Rattle.lists.specs.Lists.{all, below}
+use Rattle.text.specs.Text.{valueOf, cut}
 use Rattle.sheet.specs.Sheet.{lines, words, value, isRow}
 use Rattle.reader.specs.Answer.{square}
 use Rattle.reader.proofs.Below.{below-none, below-next}
 use Rattle.reader.proofs.Rows.{row-length, refuses, passes}
 use Rattle.reader.proofs.Values.{Line, line-count, line-at, first-at, line-words, values-wrong, values-right, square-next, value-at}
-use borrow.Author.Needs.{needs}
-use native.Mathlib.Omega.{arith}
 use Rattle.reader.proofs.read_rows.Statement.{statement}
 use Rattle.reader.proofs.read_rows.Tie as tie
 
@@ -71,18 +71,18 @@ mul-read-row c = search needs
 read-row-requires : tie.Need-read-row-requires Inv-loop μ-loop
 read-row-requires c κs = omega arith
 
+-- the answer of a turn
+answer : (c : tie.After-read-row Inv-loop μ-loop) → c .read-row .result ≡ cond (not (isRow (c .before .before .before .before .before .before .before .before .args .n) (words (c .before .before .before .before .before .before .before .before .args .sheet .now) (c .before .before .before .before .before .loop .i)))) 8 0
+answer c = c .read-row .ensures .0 ∙ ap (λ ws. cond (not (isRow (c .before .before .before .before .before .before .before .before .args .n) ws)) 8 0) (line-words _ _ _ _ (line (c .before .before .before)))
+
 same-length : tie.Need-same-length Inv-loop μ-loop
 same-length c = c .before .before .read-row .kept .1 .1 .1 .0 ∙ c .before .before .before .before .before .before .before .loop .inv .5 ∙ sym (c .before .before .before .before .before .before .before .before .before .before .pre .3)
 
 returns : tie.Need-returns Inv-loop μ-loop
 returns c =
     let a = c .before .before .before .before .before .before .before .before .before .before .args in
-    let l = c .before .before .before .before .before .before .before .loop in
-    let r = c .before .before .read-row in
-    let e : r .result ≡ cond (not (isRow (a .n) (words (a .sheet .now) (l .i)))) 8 0 =
-    r .ensures .0 ∙ ap (λ ws. cond (not (isRow (a .n) ws)) 8 0) (line-words _ _ _ _ (line (c .before .before .before .before .before)))
-    in
-    (values-wrong (a .sheet .now) (a .n) (l .i) (c .before .before .before .before .before .before .before .before .before .before .pre .0) (omega arith) (not-true _ (refuses _ (r .result) e (c .if1 .taken))), λ z. absurd (omega (arith, z)))
+    let n = not-true _ (refuses _ _ (answer (c .before .before)) (c .if1 .taken)) in
+    (values-wrong (a .sheet .now) (a .n) (c .before .before .before .before .before .before .before .loop .i) (c .before .before .before .before .before .before .before .before .before .before .pre .0) (omega arith) n, λ z. absurd (omega (arith, z)))
 
 add-at-2 : tie.Need-add-at-2 Inv-loop μ-loop
 add-at-2 c = omega (arith, line (c .before .before .before .before .before) .inside)
@@ -99,9 +99,8 @@ loop-again c =
     let s = a .sheet .now in
     let l = c .before .before .before .before .before .before .before .loop in
     let r = c .before .before .read-row in
-    let w = line-words s _ _ _ (line (c .before .before .before .before .before)) in
-    let y : isRow (a .n) (words s (l .i)) ≡ true = not-false _ (passes _ (r .result) (r .ensures .0 ∙ ap (λ ws. cond (not (isRow (a .n) ws)) 8 0) w) (c .if1 .left)) in
-    let m = r .ensures .1 (c .if1 .left) ∙ ap (λ ws. sets (l .values) (l .i * 32) (map valueOf ws)) w in (
+    let y = not-false _ (passes _ _ (answer (c .before .before)) (c .if1 .left)) in
+    let m = r .ensures .1 (c .if1 .left) ∙ ap (λ ws. sets (l .values) (l .i * 32) (map valueOf ws)) (line-words s _ _ _ (line (c .before .before .before .before .before))) in (
       omega arith,
       omega (arith, line (c .before .before .before .before .before) .inside),
       line (c .before .before .before .before .before) .next,

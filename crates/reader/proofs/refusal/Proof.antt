@@ -1,6 +1,6 @@
 use mathlib.Core.Path.{sym, _∙_}
-use Rattle.reader.proofs.Answers.{number-is, entries-is}
 use borrow.Author.Needs.{needs}
+use Rattle.reader.proofs.Answers.{number-is, entries-is}
 use Rattle.reader.proofs.refusal.Statement.{statement}
 use Rattle.reader.proofs.refusal.Tie as tie
 

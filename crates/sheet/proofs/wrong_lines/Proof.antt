@@ -1,5 +1,5 @@
-use Rattle.sheet.proofs.Lines.{lines-wrong, lines-right}
 use borrow.Author.Needs.{needs}
+use Rattle.sheet.proofs.Lines.{lines-wrong, lines-right}
 use Rattle.sheet.proofs.wrong_lines.Statement.{statement}
 use Rattle.sheet.proofs.wrong_lines.Tie as tie
 

@@ -2,11 +2,11 @@ use mathlib.Core.Path.{ap, _∙_}
 use mathlib.Core.List.{List}
 use mathlib.Core.Bool.{not}
 use Prim.Native.Nat.{ℕ}
+use borrow.Author.Needs.{needs}
 use Rattle.lists.specs.Lists.{all}
 use Rattle.text.specs.Text.{cut, isName}
 use Rattle.sheet.specs.Sheet.{names}
 use Rattle.sheet.proofs.Lines.{line-length, first-line, no-feed, names-left}
-use borrow.Author.Needs.{needs}
 use Rattle.sheet.proofs.wrong_names.Statement.{statement}
 use Rattle.sheet.proofs.wrong_names.Tie as tie
 

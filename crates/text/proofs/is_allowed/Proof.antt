@@ -1,7 +1,7 @@
 use mathlib.Core.Path.{sym, _∙_}
 use borrow.Author.Tests.{eq-eqb, ne-eqb}
-use Rattle.text.specs.Text.{isAllowed}
 use borrow.Author.Needs.{needs}
+use Rattle.text.specs.Text.{isAllowed}
 use Rattle.text.proofs.is_allowed.Statement.{statement}
 use Rattle.text.proofs.is_allowed.Tie as tie
 

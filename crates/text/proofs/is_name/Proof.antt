@@ -1,16 +1,16 @@
 use mathlib.Core.Path.{ap, _≡_, refl, sym, _∙_}
+use mathlib.Core.Bool.{true, false, and-true, and-false}
+use Prim.Native.Nat.{_<_}
+use native.Mathlib.Omega.{arith}
+use borrow.Author.Tests.{lt-leb, le-leb, not-true, not-false}
+use borrow.Author.Needs.{needs}
+use lib.ListN.{length, getD, drop}
 use Rattle.lists.specs.Lists.{all}
 use Rattle.text.specs.Reading.{inClass}
 use Rattle.text.specs.declared.Class.the-variants.{NameByte}
-use Prim.Native.Nat.{_<_}
-use mathlib.Core.Bool.{true, false, and-true, and-false}
-use borrow.Author.Tests.{lt-leb, le-leb, not-true, not-false}
-use lib.ListN.{length, getD, drop}
 use Rattle.text.specs.Text.{isUpper, isName}
 use Rattle.text.proofs.Pieces.{rest}
 use Rattle.text.proofs.Words.{name-is, empty}
-use native.Mathlib.Omega.{arith}
-use borrow.Author.Needs.{needs}
 use Rattle.text.proofs.is_name.Statement.{statement}
 use Rattle.text.proofs.is_name.Tie as tie
 

@@ -1,13 +1,13 @@
-use Prim.Native.Nat.{_≤_, _<_}
 use mathlib.Core.Path.{_≡_, refl, sym, _∙_}
 use mathlib.Core.Bool.{true, false, and-false}
+use Prim.Native.Nat.{_≤_, _<_}
+use native.Mathlib.Omega.{arith}
 use borrow.Author.Tests.{lt-leb, le-leb, eq-eqb, ne-eqb, not-true, not-false}
+use borrow.Author.Needs.{needs}
 use lib.ListN.{length}
 use Rattle.lists.specs.Lists.{all}
 use Rattle.text.specs.Text.{isDigit, isNumeral}
 use Rattle.text.proofs.Words.{numeral-is, empty}
-use native.Mathlib.Omega.{arith}
-use borrow.Author.Needs.{needs}
 use Rattle.text.proofs.is_numeral.Statement.{statement}
 use Rattle.text.proofs.is_numeral.Tie as tie
 

@@ -1,13 +1,13 @@
-use Prim.Native.Nat.{_<_}
 use mathlib.Core.Path.{_≡_, refl, sym, _∙_}
 use mathlib.Core.Bool.{false, and-true, and-false}
+use Prim.Native.Nat.{_<_}
+use native.Mathlib.Omega.{arith}
 use borrow.Author.Tests.{eq-eqb, ne-eqb}
+use borrow.Author.Needs.{needs}
 use lib.ListN.{length, getD, drop, length-drop}
 use Rattle.text.specs.Text.{isNumeral, isValue}
 use Rattle.text.proofs.Pieces.{rest}
 use Rattle.text.proofs.Words.{value-plain, value-minus, empty}
-use native.Mathlib.Omega.{arith}
-use borrow.Author.Needs.{needs}
 use Rattle.text.proofs.is_value.Statement.{statement}
 use Rattle.text.proofs.is_value.Tie as tie
 

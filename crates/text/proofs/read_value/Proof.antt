@@ -1,12 +1,12 @@
+use mathlib.Core.Path.{sym, ap, _∙_}
+use borrow.Author.Tests.{not-true, not-false}
+use borrow.Author.Needs.{needs}
 use mir.Val.{SFits}
 use mir.Syntax.{w32}
 use mir.Facts.{toZ-ofZ}
-use mathlib.Core.Path.{sym, ap, _∙_}
-use borrow.Author.Tests.{not-true, not-false}
 use Rattle.text.specs.Text.{isValue, valueOf}
 use Rattle.text.proofs.Pieces.{piece-inside, piece-part}
 use Rattle.text.proofs.Words.{value-read, value-refused}
-use borrow.Author.Needs.{needs}
 use Rattle.text.proofs.read_value.Statement.{statement}
 use Rattle.text.proofs.read_value.Tie as tie
 

@@ -1,12 +1,12 @@
 use mathlib.Core.Path.{_≡_, sym, ap, _∙_}
+use native.Mathlib.Omega.{arith}
+use borrow.Author.Needs.{needs}
 use lib.IntN.{pos, negℤ}
 use lib.ListN.{drop}
 use mir.Facts.{toZ-ofZ}
 use Rattle.text.specs.Text.{numberFrom}
 use Rattle.text.proofs.Pieces.{rest}
 use Rattle.text.proofs.Words.{value-some, plain-digits, minus-digits, plain-value, minus-value, neg-fits, plus, minus}
-use native.Mathlib.Omega.{arith}
-use borrow.Author.Needs.{needs}
 use Rattle.text.proofs.value_of.Statement.{statement}
 use Rattle.text.proofs.value_of.Tie as tie
 
