@@ -1,0 +1,6 @@
+pub mod Below
+pub mod Rows
+pub mod Slots
+pub mod Parts
+pub mod Values
+pub mod Answers

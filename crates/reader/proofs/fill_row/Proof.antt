@@ -1,0 +1,90 @@
+use mathlib.Core.Path.{_≡_, refl, ap, _∙_}
+use mathlib.Core.List.{map}
+use Prim.Native.Nat.{ℕ, suc, _-_, _≤_}
+use native.Mathlib.Omega.{arith}
+use borrow.Author.Needs.{needs}
+use lib.Seq.{sets}
+use mir.Val.{SFits}
+use mir.Syntax.{w32}
+use mir.Facts.{toZ-ofZ}
+use Rattle.lists.specs.Lists.{below}
+use Rattle.reader.specs.Answer.{square}
+use Rattle.reader.proofs.Slots.{row-store}
+use Rattle.reader.proofs.fill_row.Statement.{statement}
+use Rattle.reader.proofs.fill_row.Tie as tie
+
+abbrev Inv-loop : tie.InvT-loop
+Inv-loop values i start pairs₀ count j₀ pairs j = (j ≤ count) × (pairs ≡ sets pairs₀ start (map (square values i) (below j)))
+
+abbrev μ-loop : tie.MeasureT-loop
+μ-loop values i start pairs₀ count j₀ pairs j = count - j
+
+add-count : tie.Need-add-count Inv-loop μ-loop
+add-count c = search needs
+
+loop-holds : tie.Need-loop-holds Inv-loop μ-loop
+unfolding below
+loop-holds c = (omega arith, refl)
+
+mul-from : tie.Need-mul-from Inv-loop μ-loop
+mul-from c = search needs
+
+add-from : tie.Need-add-from Inv-loop μ-loop
+add-from c = search needs
+
+mul-pairs : tie.Need-mul-pairs Inv-loop μ-loop
+mul-pairs c = search needs
+
+shared-slice-copy-out-pairs : tie.Need-shared-slice-copy-out-pairs Inv-loop μ-loop
+shared-slice-copy-out-pairs c = search needs
+
+add-t12 : tie.Need-add-t12 Inv-loop μ-loop
+add-t12 c = search needs
+
+mul-t13 : tie.Need-mul-t13 Inv-loop μ-loop
+mul-t13 c = search needs
+
+element-set-from-pairs : tie.Need-element-set-from-pairs Inv-loop μ-loop
+element-set-from-pairs c = search needs
+
+add-j : tie.Need-add-j Inv-loop μ-loop
+add-j c = search needs
+
+loop-less : tie.Need-loop-less Inv-loop μ-loop
+loop-less c = search needs
+
+loop-again : tie.Need-loop-again Inv-loop μ-loop
+unfolding square
+loop-again c =
+    let a = c .before .before .before .args in
+    let l = c .before .before .loop in
+    let v = square (a .values .now) (a .i) in
+    let f : SFits w32 (v (l .j)) = record { sfits = c .pairs .given } in
+    (omega arith, rw (toZ-ofZ f) (row-store v (l .pairs) (a .pairs .now) (a .start) (l .j) (l .inv .1)))
+
+returns : tie.Need-returns Inv-loop μ-loop
+returns c =
+    let a = c .before .before .args in
+    let l = c .before .loop in
+    let z : l .j ≡ suc (a .i) = omega arith in
+    l .inv .1 ∙ ap (λ (k : ℕ). sets (a .pairs .now) (a .start) (map (square (a .values .now) (a .i)) (below k))) z
+
+pub fill-row-spec : {M : Type 1} → statement M
+fill-row-spec =
+    tie.close
+    (tie.spec
+    Inv-loop
+    μ-loop
+    add-count
+    loop-holds
+    mul-from
+    add-from
+    mul-pairs
+    shared-slice-copy-out-pairs
+    add-t12
+    mul-t13
+    element-set-from-pairs
+    add-j
+    loop-less
+    loop-again
+    returns)

@@ -1,0 +1,99 @@
+use mathlib.Core.Path.{_≡_, sym}
+use mathlib.Core.Bool.{true, false}
+use Prim.Native.Nat.{_-_, _≤_}
+use native.Mathlib.Omega.{arith}
+use borrow.Author.Needs.{needs}
+use Rattle.lists.specs.Lists.{all, below}
+use Rattle.integers.specs.Integers.{eqZ}
+use Rattle.reader.specs.Answer.{square}
+use Rattle.reader.proofs.Below.{below-none, below-next, below-false}
+use Rattle.reader.proofs.Slots.{bits-same, bits-other}
+use Rattle.reader.proofs.is_mirrored_row.Statement.{statement}
+use Rattle.reader.proofs.is_mirrored_row.Tie as tie
+
+abbrev Inv-loop : tie.InvT-loop
+Inv-loop values n i j₀ j = (j ≤ n) × (all (λ k. eqZ (square values i k) (square values k i)) (below j) ≡ true)
+
+abbrev μ-loop : tie.MeasureT-loop
+μ-loop values n i j₀ j = n - j
+
+loop-holds : tie.Need-loop-holds Inv-loop μ-loop
+loop-holds c = (omega arith, below-none _)
+
+mul-a : tie.Need-mul-a Inv-loop μ-loop
+mul-a c = search needs
+
+add-a : tie.Need-add-a Inv-loop μ-loop
+add-a c = search needs
+
+mul-b : tie.Need-mul-b Inv-loop μ-loop
+mul-b c = search needs
+
+add-b : tie.Need-add-b Inv-loop μ-loop
+add-b c = search needs
+
+mul-if1 : tie.Need-mul-if1 Inv-loop μ-loop
+mul-if1 c = search needs
+
+shared-slice-copy-out-if1 : tie.Need-shared-slice-copy-out-if1 Inv-loop μ-loop
+shared-slice-copy-out-if1 c = search needs
+
+mul-if1-2 : tie.Need-mul-if1-2 Inv-loop μ-loop
+mul-if1-2 c = search needs
+
+shared-slice-copy-out-if1-2 : tie.Need-shared-slice-copy-out-if1-2 Inv-loop μ-loop
+shared-slice-copy-out-if1-2 c = search needs
+
+-- the two tests of a turn
+same : (c : tie.Else1 Inv-loop μ-loop) → eqZ (square (c .before .before .before .before .before .args .values .now) (c .before .before .before .before .before .args .i) (c .before .before .before .before .loop .j)) (square (c .before .before .before .before .before .args .values .now) (c .before .before .before .before .loop .j) (c .before .before .before .before .before .args .i)) ≡ true
+unfolding square
+same c = bits-same _ _ (record { sfits = c .before .before .if12 .given }) (record { sfits = c .before .if13 .given }) (c .if1 .left)
+
+other : (c : tie.Then1 Inv-loop μ-loop) → eqZ (square (c .before .before .before .before .before .args .values .now) (c .before .before .before .before .before .args .i) (c .before .before .before .before .loop .j)) (square (c .before .before .before .before .before .args .values .now) (c .before .before .before .before .loop .j) (c .before .before .before .before .before .args .i)) ≡ false
+unfolding square
+other c = bits-other _ _ (c .if1 .taken)
+
+returns : tie.Need-returns Inv-loop μ-loop
+returns c =
+    let a = c .before .before .before .before .before .args in
+    let v = square (a .values .now) in
+    sym (below-false (λ k. eqZ (v (a .i) k) (v k (a .i))) (a .n) (c .before .before .before .before .loop .j) (omega arith) (other c))
+
+add-j : tie.Need-add-j Inv-loop μ-loop
+add-j c = search needs
+
+loop-less : tie.Need-loop-less Inv-loop μ-loop
+loop-less c = search needs
+
+loop-again : tie.Need-loop-again Inv-loop μ-loop
+loop-again c =
+    let a = c .before .before .before .before .before .args in
+    let v = square (a .values .now) in
+    (omega arith, below-next (λ k. eqZ (v (a .i) k) (v k (a .i))) (c .before .before .before .before .loop .j) (c .before .before .before .before .loop .inv .1) (same c))
+
+returns-2 : tie.Need-returns-2 Inv-loop μ-loop
+returns-2 c =
+    let a = c .before .before .args in
+    let z : c .before .loop .j ≡ a .n = omega arith in
+    sym (rw z at (c .before .loop .inv .1))
+
+pub is-mirrored-row-spec : {M : Type 1} → statement M
+is-mirrored-row-spec =
+    tie.close
+    (tie.spec
+    Inv-loop
+    μ-loop
+    loop-holds
+    mul-a
+    add-a
+    mul-b
+    add-b
+    mul-if1
+    shared-slice-copy-out-if1
+    mul-if1-2
+    shared-slice-copy-out-if1-2
+    returns
+    add-j
+    loop-less
+    loop-again
+    returns-2)

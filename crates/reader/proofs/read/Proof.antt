@@ -1,0 +1,171 @@
+use mathlib.Core.Path.{_≡_, sym, ap, _∙_}
+use mathlib.Core.Bool.{not}
+use Prim.Native.Nat.{ℕ, _≤_, _<_}
+use native.Mathlib.Omega.{arith}
+use borrow.Author.Needs.{needs}
+use lib.ListN.{length, drop}
+use Rattle.clusters.specs.Refusals.{firstOf, wrongCount}
+use Rattle.sheet.specs.Sheet.{entries, value, mirrored, sheetChecks}
+use Rattle.reader.specs.Answer.{Holds}
+use Rattle.reader.proofs.Rows.{refuses, passes}
+use Rattle.reader.proofs.Answers.{hit, skip, none, length-right, count-right, mirrored-same, refused, passed}
+use Rattle.reader.proofs.read.Statement.{statement}
+use Rattle.reader.proofs.read.Tie as tie
+
+wrong-length-requires : tie.Need-wrong-length-requires
+wrong-length-requires c κs = search needs
+
+returns : tie.Need-returns
+unfolding sheetChecks
+returns c =
+    refused (c .before .before .before .args .sheet .now) _ 2 (hit 2 _ (sym (c .before .wrong-length .ensures) ∙ c .if1 .taken)) (λ z. omega (arith, z))
+
+-- the lines of the table that are left at each place
+left3 : (c : tie.Else1) → firstOf (sheetChecks (c .before .before .before .args .sheet .now)) ≡ firstOf (drop 1 (sheetChecks (c .before .before .before .args .sheet .now)))
+unfolding sheetChecks
+left3 c = skip 2 _ (sym (c .before .wrong-length .ensures) ∙ c .if1 .left)
+
+wrong-byte-requires : tie.Need-wrong-byte-requires
+wrong-byte-requires c κs = search needs
+
+returns-2 : tie.Need-returns-2
+unfolding sheetChecks
+returns-2 c =
+    refused (c .before .before .before .before .before .args .sheet .now) _ 3 (left3 (c .before .before) ∙ hit 3 _ (sym (c .before .wrong-byte .ensures) ∙ c .if2 .taken)) (λ z. omega (arith, z))
+
+left4 : (c : tie.Else2) → firstOf (sheetChecks (c .before .before .before .before .before .args .sheet .now)) ≡ firstOf (drop 2 (sheetChecks (c .before .before .before .before .before .args .sheet .now)))
+unfolding sheetChecks
+left4 c = left3 (c .before .before) ∙ skip 3 _ (sym (c .before .wrong-byte .ensures) ∙ c .if2 .left)
+
+wrong-names-requires : tie.Need-wrong-names-requires
+wrong-names-requires c κs = search needs
+
+returns-3 : tie.Need-returns-3
+unfolding sheetChecks
+returns-3 c =
+    refused (c .before .before .before .before .before .before .before .args .sheet .now) _ 4 (left4 (c .before .before) ∙ hit 4 _ (sym (c .before .wrong-names .ensures) ∙ c .if3 .taken)) (λ z. omega (arith, z))
+
+left5 : (c : tie.Else3) → firstOf (sheetChecks (c .before .before .before .before .before .before .before .args .sheet .now)) ≡ firstOf (drop 3 (sheetChecks (c .before .before .before .before .before .before .before .args .sheet .now)))
+unfolding sheetChecks
+left5 c = left4 (c .before .before) ∙ skip 4 _ (sym (c .before .wrong-names .ensures) ∙ c .if3 .left)
+
+equal-names-requires : tie.Need-equal-names-requires
+equal-names-requires c κs = search needs
+
+returns-4 : tie.Need-returns-4
+unfolding sheetChecks
+returns-4 c =
+    refused (c .before .before .before .before .before .before .before .before .before .args .sheet .now) _ 5 (left5 (c .before .before) ∙ hit 5 _ (sym (c .before .equal-names .ensures) ∙ c .if4 .taken)) (λ z. omega (arith, z))
+
+left6 : (c : tie.Else4) → firstOf (sheetChecks (c .before .before .before .before .before .before .before .before .before .args .sheet .now)) ≡ firstOf (drop 4 (sheetChecks (c .before .before .before .before .before .before .before .before .before .args .sheet .now)))
+unfolding sheetChecks
+left6 c = left5 (c .before .before) ∙ skip 5 _ (sym (c .before .equal-names .ensures) ∙ c .if4 .left)
+
+long : (c : tie.Else4) → (0 < length (c .before .before .before .before .before .before .before .before .before .args .sheet .now)) × (length (c .before .before .before .before .before .before .before .before .before .args .sheet .now) ≤ 12288)
+long c = length-right (c .before .before .before .before .before .before .before .before .before .args .sheet .now) (sym (c .before .before .before .before .before .before .before .wrong-length .ensures) ∙ c .before .before .before .before .before .before .if1 .left)
+
+entry-count-requires : tie.Need-entry-count-requires
+entry-count-requires c κs = long c .1
+
+wrong-count-requires : tie.Need-wrong-count-requires
+wrong-count-requires c κs = search needs
+
+returns-5 : tie.Need-returns-5
+unfolding sheetChecks
+returns-5 c =
+    let e = sym (c .before .wrong-count .ensures ∙ ap wrongCount (c .before .before .entry-count .ensures)) ∙ c .if5 .taken in
+    refused (c .before .before .before .before .before .before .before .before .before .before .before .before .args .sheet .now) _ 6 (left6 (c .before .before .before) ∙ hit 6 _ e) (λ z. omega (arith, z))
+
+left7 : (c : tie.Else5) → firstOf (sheetChecks (c .before .before .before .before .before .before .before .before .before .before .before .before .args .sheet .now)) ≡ firstOf (drop 5 (sheetChecks (c .before .before .before .before .before .before .before .before .before .before .before .before .args .sheet .now)))
+unfolding sheetChecks
+left7 c = left6 (c .before .before .before) ∙ skip 6 _ (sym (c .before .wrong-count .ensures ∙ ap wrongCount (c .before .before .entry-count .ensures)) ∙ c .if5 .left)
+
+few : (c : tie.Else5) → c .before .before .entry-count .result ≤ 32
+few c = count-right (c .before .before .entry-count .result) (sym (c .before .wrong-count .ensures) ∙ c .if5 .left)
+
+wrong-lines-requires : tie.Need-wrong-lines-requires
+wrong-lines-requires c κs = (long (c .before .before .before) .0, long (c .before .before .before) .1, c .before .before .entry-count .ensures, few c)
+
+returns-6 : tie.Need-returns-6
+unfolding sheetChecks
+returns-6 c =
+    refused (c .before .before .before .before .before .before .before .before .before .before .before .before .before .before .args .sheet .now) _ 7 (left7 (c .before .before) ∙ hit 7 _ (sym (c .before .wrong-lines .ensures) ∙ c .if6 .taken)) (λ z. omega (arith, z))
+
+left8 : (c : tie.Else6) → firstOf (sheetChecks (c .before .before .before .before .before .before .before .before .before .before .before .before .before .before .args .sheet .now)) ≡ firstOf (drop 6 (sheetChecks (c .before .before .before .before .before .before .before .before .before .before .before .before .before .before .args .sheet .now)))
+unfolding sheetChecks
+left8 c = left7 (c .before .before) ∙ skip 7 _ (sym (c .before .wrong-lines .ensures) ∙ c .if6 .left)
+
+slice-aggregate-read-rows : tie.Need-slice-aggregate-read-rows
+slice-aggregate-read-rows c = search needs
+
+read-rows-requires : tie.Need-read-rows-requires
+read-rows-requires c κs = (c .before .before .before .before .before .entry-count .ensures, few (c .before .before .before), sym (c .before .before .wrong-lines .ensures) ∙ c .before .if6 .left, search needs)
+
+returns-7 : tie.Need-returns-7
+unfolding sheetChecks
+returns-7 c =
+    refused (c .before .before .before .before .before .before .before .before .before .before .before .before .before .before .before .before .before .before .args .sheet .now) _ 8 (left8 (c .before .before .before .before) ∙ hit 8 _ (refuses _ _ (c .before .before .read-rows .ensures .0) (c .if7 .taken))) (λ z. omega (arith, z))
+
+left9 : (c : tie.Else7) → firstOf (sheetChecks (c .before .before .before .before .before .before .before .before .before .before .before .before .before .before .before .before .before .before .args .sheet .now)) ≡ firstOf (drop 7 (sheetChecks (c .before .before .before .before .before .before .before .before .before .before .before .before .before .before .before .before .before .before .args .sheet .now)))
+unfolding sheetChecks
+left9 c = left8 (c .before .before .before .before) ∙ skip 8 _ (passes _ _ (c .before .before .read-rows .ensures .0) (c .if7 .left))
+
+held : (c : tie.Else7) → Holds (c .before .before .read-rows .last .1 .1 .0) (c .before .before .before .before .before .before .before .before .entry-count .result) (value (c .before .before .before .before .before .before .before .before .before .before .before .before .before .before .before .before .before .before .args .sheet .now))
+held c = c .before .before .read-rows .ensures .1 (c .if7 .left)
+
+slice-aggregate-is-mirrored : tie.Need-slice-aggregate-is-mirrored
+slice-aggregate-is-mirrored c = sym (c .before .before .before .read-rows .kept .1 .1 .0)
+
+is-mirrored-requires : tie.Need-is-mirrored-requires
+is-mirrored-requires c κs = (few (c .before .before .before .before .before .before .before), c .before .before .before .read-rows .kept .1 .1 .0)
+
+mirror : (c : tie.After-is-mirrored) → not (c .is-mirrored .result) ≡ not (mirrored (entries (c .before .before .before .before .before .before .before .before .before .before .before .before .before .before .before .before .before .before .before .before .args .sheet .now)) (value (c .before .before .before .before .before .before .before .before .before .before .before .before .before .before .before .before .before .before .before .before .args .sheet .now)))
+mirror c =
+    let s = c .before .before .before .before .before .before .before .before .before .before .before .before .before .before .before .before .before .before .before .before .args .sheet .now in
+    ap not (c .is-mirrored .ensures ∙ mirrored-same _ _ (value s) (held (c .before .before)) ∙ ap (λ (k : ℕ). mirrored k (value s)) (c .before .before .before .before .before .before .before .before .before .before .entry-count .ensures))
+
+returns-8 : tie.Need-returns-8
+unfolding sheetChecks
+returns-8 c =
+    refused (c .before .before .before .before .before .before .before .before .before .before .before .before .before .before .before .before .before .before .before .before .before .args .sheet .now) _ 9 (left9 (c .before .before .before) ∙ hit 9 _ (sym (mirror (c .before)) ∙ c .if8 .taken)) (λ z. omega (arith, z))
+
+slice-aggregate-fill : tie.Need-slice-aggregate-fill
+slice-aggregate-fill c = sym (c .before .before .before .before .before .before .read-rows .kept .1 .1 .0)
+
+fill-requires : tie.Need-fill-requires
+fill-requires c κs = (few (c .before .before .before .before .before .before .before .before .before .before .before), c .before .before .before .before .before .before .before .read-rows .kept .1 .1 .0)
+
+returns-9 : tie.Need-returns-9
+unfolding sheetChecks
+returns-9 c =
+    let s = c .before .before .before .before .before .before .before .before .before .before .before .before .before .before .before .before .before .before .before .before .before .before .before .before .args .sheet .now in
+    let z = left9 (c .before .before .before .before .before .before) ∙ skip 9 _ (sym (mirror (c .before .before .before .before)) ∙ c .before .before .before .if8 .left) ∙ none in
+    let p = passed s (c .before .before .before .before .before .before .before .before .before .before .before .before .before .before .before .before .before .before .before .before .before .before .before .before .args .pairs .now) (c .before .before .before .before .before .before .before .before .before .before .before .before .before .before .entry-count .result) (c .before .before .before .before .before .before .before .before .read-rows .last .1 .1 .0) z (c .before .before .before .before .before .before .before .before .before .before .before .before .before .before .entry-count .ensures) (held (c .before .before .before .before .before .before)) in
+    (p .0, c .fill .ensures ∙ p .1)
+
+pub read-spec : {M : Type 1} → statement M
+read-spec =
+    tie.close
+    (tie.spec
+    wrong-length-requires
+    returns
+    wrong-byte-requires
+    returns-2
+    wrong-names-requires
+    returns-3
+    equal-names-requires
+    returns-4
+    entry-count-requires
+    wrong-count-requires
+    returns-5
+    wrong-lines-requires
+    returns-6
+    slice-aggregate-read-rows
+    read-rows-requires
+    returns-7
+    slice-aggregate-is-mirrored
+    is-mirrored-requires
+    returns-8
+    slice-aggregate-fill
+    fill-requires
+    returns-9)

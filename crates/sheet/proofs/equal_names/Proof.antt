@@ -1,0 +1,27 @@
+use mathlib.Core.Path.{ap, _∙_}
+use mathlib.Core.List.{List}
+use Prim.Native.Nat.{ℕ}
+use borrow.Author.Needs.{needs}
+use Rattle.text.specs.Text.{cut}
+use Rattle.sheet.specs.Sheet.{names, hasEqual, equalNames}
+use Rattle.sheet.proofs.Lines.{line-length, first-line}
+use Rattle.sheet.proofs.equal_names.Statement.{statement}
+use Rattle.sheet.proofs.equal_names.Tie as tie
+
+piece-end-requires : tie.Need-piece-end-requires
+piece-end-requires c κs = search needs
+
+slice-aggregate-has-equal : tie.Need-slice-aggregate-has-equal
+slice-aggregate-has-equal c = line-length (c .before .before .before .args .sheet .now) _ (c .before .piece-end .ensures)
+
+has-equal-requires : tie.Need-has-equal-requires
+has-equal-requires c κs = search needs
+
+returns : tie.Need-returns
+unfolding names equalNames
+returns c =
+    c .has-equal .ensures ∙ ap (λ (l : List ℕ). hasEqual (cut 32 l)) (first-line (c .before .before .before .before .args .sheet .now) _ (c .before .before .piece-end .ensures))
+
+pub equal-names-spec : {M : Type 1} → statement M
+equal-names-spec =
+    tie.close (tie.spec piece-end-requires slice-aggregate-has-equal has-equal-requires returns)

@@ -1,0 +1,75 @@
+use mathlib.Core.Path.{_≡_, refl, sym, _∙_}
+use Prim.Native.Nat.{_-_, _≤_}
+use native.Mathlib.Omega.{arith}
+use borrow.Author.Tests.{eq-eqb, ne-eqb}
+use borrow.Author.Needs.{needs}
+use lib.ListN.{length, drop}
+use Rattle.sheet.specs.Sheet.{sameBytes}
+use Rattle.sheet.proofs.Names.{same-step, same-short, same-end}
+use Rattle.sheet.proofs.same_bytes.Statement.{statement}
+use Rattle.sheet.proofs.same_bytes.Tie as tie
+
+abbrev Inv-loop : tie.InvT-loop
+Inv-loop a b i₀ i = (i ≤ length a) × (i ≤ length b) × (sameBytes (drop i a) (drop i b) ≡ sameBytes a b)
+
+abbrev μ-loop : tie.MeasureT-loop
+μ-loop a b i₀ i = length a - i
+
+loop-holds : tie.Need-loop-holds Inv-loop μ-loop
+loop-holds c = (omega arith, omega arith, refl)
+
+returns : tie.Need-returns Inv-loop μ-loop
+returns c =
+    let s = c .before .before .before .args .a .now in
+    let t = c .before .before .before .args .b .now in
+    let l = c .before .before .loop in
+    sym (sym (l .inv .2) ∙ same-short s t (l .i) (omega arith) (omega arith))
+
+shared-slice-read-if2 : tie.Need-shared-slice-read-if2 Inv-loop μ-loop
+shared-slice-read-if2 c = search needs
+
+shared-slice-read-if2-2 : tie.Need-shared-slice-read-if2-2 Inv-loop μ-loop
+shared-slice-read-if2-2 c = search needs
+
+returns-2 : tie.Need-returns-2 Inv-loop μ-loop
+returns-2 c =
+    let s = c .before .before .before .before .before .before .args .a .now in
+    let t = c .before .before .before .before .before .before .args .b .now in
+    let l = c .before .before .before .before .before .loop in
+    sym (sym (l .inv .2) ∙ same-step s t (l .i) (omega arith) (omega arith) ∙ rw (ne-eqb _ _ (c .if2 .taken)))
+
+add-i : tie.Need-add-i Inv-loop μ-loop
+add-i c = search needs
+
+loop-less : tie.Need-loop-less Inv-loop μ-loop
+loop-less c = search needs
+
+loop-again : tie.Need-loop-again Inv-loop μ-loop
+loop-again c =
+    let s = c .before .before .before .before .before .before .args .a .now in
+    let t = c .before .before .before .before .before .before .args .b .now in
+    let l = c .before .before .before .before .before .loop in
+    (omega arith, omega arith, sym (same-step s t (l .i) (omega arith) (omega arith) ∙ rw (eq-eqb _ _ (c .if2 .left))) ∙ l .inv .2)
+
+returns-3 : tie.Need-returns-3 Inv-loop μ-loop
+returns-3 c =
+    let s = c .before .before .args .a .now in
+    let t = c .before .before .args .b .now in
+    let l = c .before .loop in
+    sym (same-end s t (l .i) (omega arith) (omega arith)) ∙ l .inv .2
+
+pub same-bytes-spec : {M : Type 1} → statement M
+same-bytes-spec =
+    tie.close
+    (tie.spec
+    Inv-loop
+    μ-loop
+    loop-holds
+    returns
+    shared-slice-read-if2
+    shared-slice-read-if2-2
+    returns-2
+    add-i
+    loop-less
+    loop-again
+    returns-3)

@@ -1,0 +1,136 @@
+-- The pieces of a list from a place on, one after the other.
+use mathlib.Core.Path.{_≡_, refl, ap, _∙_}
+use mathlib.Core.Bool.{Bool, true, false, cond}
+use mathlib.Core.List.{List, [], _∷_}
+use Prim.Native.Nat.{ℕ, suc, _+_, _-_, _≤_, _<_}
+use native.Mathlib.Numerals.{add-one}
+use native.Mathlib.Nat.{add-sub-cancel-left}
+use native.Mathlib.Omega.{arith}
+use borrow.Author.Tests.{eq-eqb, ne-eqb}
+use lib.Dec.{eqb}
+use lib.ListN.{length, getD, take, drop, length-drop, drop-of-length-le}
+use lib.Seq.{drop-cons, drop-drop, take-all}
+use Rattle.text.specs.Text.{longer, cut}
+use Rattle.text.specs.Reading.{pieceAt}
+
+-- the list from a place on is its first byte and the list from the next place on
+pub here : (s : List ℕ) (i : ℕ) → i < length s → drop i s ≡ getD s i 0 ∷ drop (i + 1) s
+here s i h = rw add-one (drop-cons s i 0 h)
+
+-- the part from a place to the end
+pub rest : (s : List ℕ) (i : ℕ) → take (length s - i) (drop i s) ≡ drop i s
+rest s i = take-all (length s - i) (drop i s) (omega (arith, length-drop i s))
+
+longer-first : (b : ℕ) (ws : List (List ℕ)) → getD (longer b ws) 0 [] ≡ b ∷ getD ws 0 []
+unfolding longer
+longer-first b [] = refl
+longer-first b (w ∷ ws) = refl
+
+module _ (c : ℕ) where
+  -- the first piece is the start of the list
+  first-le : (t : List ℕ) → length (getD (cut c t) 0 []) ≤ length t
+  unfolding cut
+  first-le [] = omega arith
+  first-le (b ∷ t) = go (eqb b c) (first-le t)
+    where
+      go : (x : Bool) → length (getD (cut c t) 0 []) ≤ length t → length (getD (cond x ([] ∷ cut c t) (longer b (cut c t))) 0 []) ≤ suc (length t)
+      go true h = omega arith
+      go false h = rw (longer-first b (cut c t)) (omega arith)
+
+  first-take : (t : List ℕ) → take (length (getD (cut c t) 0 [])) t ≡ getD (cut c t) 0 []
+  unfolding cut
+  first-take [] = refl
+  first-take (b ∷ t) = go (eqb b c) (first-take t)
+    where
+      go : (x : Bool) → take (length (getD (cut c t) 0 [])) t ≡ getD (cut c t) 0 [] → take (length (getD (cond x ([] ∷ cut c t) (longer b (cut c t))) 0 [])) (b ∷ t) ≡ getD (cond x ([] ∷ cut c t) (longer b (cut c t))) 0 []
+      go true e = refl
+      go false e = rw (longer-first b (cut c t)) (ap (λ (l : List ℕ). b ∷ l) e)
+
+  -- a piece that c ends, and the last
+  first-more : (t : List ℕ) → length (getD (cut c t) 0 []) < length t → cut c t ≡ getD (cut c t) 0 [] ∷ cut c (drop (suc (length (getD (cut c t) 0 []))) t)
+  unfolding cut longer
+  first-more [] h = absurd (omega arith)
+  first-more (b ∷ t) h = go (eqb b c) (first-more t) h
+    where
+      go : (x : Bool) → (length (getD (cut c t) 0 []) < length t → cut c t ≡ getD (cut c t) 0 [] ∷ cut c (drop (suc (length (getD (cut c t) 0 []))) t)) → length (getD (cond x ([] ∷ cut c t) (longer b (cut c t))) 0 []) < suc (length t) → cond x ([] ∷ cut c t) (longer b (cut c t)) ≡ getD (cond x ([] ∷ cut c t) (longer b (cut c t))) 0 [] ∷ cut c (drop (suc (length (getD (cond x ([] ∷ cut c t) (longer b (cut c t))) 0 []))) (b ∷ t))
+      go true ih p = refl
+      go false ih p =
+          let q : length (getD (cut c t) 0 []) < length t = omega (arith, ap length (longer-first b (cut c t))) in
+          rw (longer-first b (cut c t)) (ap (longer b) (ih q))
+
+  first-last : (t : List ℕ) → length t ≤ length (getD (cut c t) 0 []) → cut c t ≡ getD (cut c t) 0 [] ∷ []
+  unfolding cut longer
+  first-last [] h = refl
+  first-last (b ∷ t) h = go (eqb b c) (first-last t) h
+    where
+      go : (x : Bool) → (length t ≤ length (getD (cut c t) 0 []) → cut c t ≡ getD (cut c t) 0 [] ∷ []) → suc (length t) ≤ length (getD (cond x ([] ∷ cut c t) (longer b (cut c t))) 0 []) → cond x ([] ∷ cut c t) (longer b (cut c t)) ≡ getD (cond x ([] ∷ cut c t) (longer b (cut c t))) 0 [] ∷ []
+      go true ih p = absurd (omega arith)
+      go false ih p =
+          let q : length t ≤ length (getD (cut c t) 0 []) = omega (arith, ap length (longer-first b (cut c t))) in
+          rw (longer-first b (cut c t)) (ap (longer b) (ih q))
+
+  -- there is a piece
+  pub some-piece : (t : List ℕ) → 0 < length (cut c t)
+  unfolding cut longer
+  some-piece [] = omega arith
+  some-piece (b ∷ t) = go (eqb b c) (some-piece t)
+    where
+      long : (ws : List (List ℕ)) → 0 < length (longer b ws)
+      long [] = omega arith
+      long (w ∷ ws) = omega arith
+
+      go : (x : Bool) → 0 < length (cut c t) → 0 < length (cond x ([] ∷ cut c t) (longer b (cut c t)))
+      go true h = omega arith
+      go false h = long (cut c t)
+
+longer-length : (b : ℕ) (ws : List (List ℕ)) → 0 < length ws → length (longer b ws) ≡ length ws
+unfolding longer
+longer-length b [] h = absurd (omega arith)
+longer-length b (w ∷ ws) h = refl
+
+-- a byte that is c, and another
+module _ (c : ℕ) (s : List ℕ) (i : ℕ) (h : i < length s) where
+  pub piece-stop : getD s i 0 ≡ c → pieceAt c s i ≡ []
+  unfolding pieceAt cut
+  piece-stop e = rw (here s i h, eq-eqb _ _ e)
+
+  pub piece-step : (getD s i 0 ≡ c → ⊥) → pieceAt c s i ≡ getD s i 0 ∷ pieceAt c s (i + 1)
+  unfolding pieceAt cut
+  piece-step f = rw (here s i h, ne-eqb _ _ f) (longer-first (getD s i 0) (cut c (drop (i + 1) s)))
+
+  pub count-stop : getD s i 0 ≡ c → length (cut c (drop i s)) ≡ suc (length (cut c (drop (i + 1) s)))
+  unfolding cut
+  count-stop e = rw (here s i h, eq-eqb _ _ e)
+
+  pub count-step : (getD s i 0 ≡ c → ⊥) → length (cut c (drop i s)) ≡ length (cut c (drop (i + 1) s))
+  unfolding cut
+  count-step f = rw (here s i h, ne-eqb _ _ f) (longer-length (getD s i 0) (cut c (drop (i + 1) s)) (some-piece c (drop (i + 1) s)))
+
+pub count-end : (c : ℕ) (s : List ℕ) (i : ℕ) → length s ≤ i → length (cut c (drop i s)) ≡ 1
+unfolding cut
+count-end c s i h = rw (drop-of-length-le s h)
+
+pub piece-none : (c : ℕ) (s : List ℕ) (i : ℕ) → length s ≤ i → pieceAt c s i ≡ []
+unfolding pieceAt cut
+piece-none c s i h = rw (drop-of-length-le s h)
+
+-- the piece from a place to its end
+module _ (c : ℕ) (s : List ℕ) (from end : ℕ) (inside : from ≤ length s) (is : end ≡ from + length (pieceAt c s from)) where
+  pub piece-inside : end ≤ length s
+  unfolding pieceAt
+  piece-inside = omega (arith, first-le c (drop from s), length-drop from s)
+
+  pub piece-part : take (end - from) (drop from s) ≡ pieceAt c s from
+  unfolding pieceAt
+  piece-part = rw (is, add-sub-cancel-left) (first-take c (drop from s))
+
+  pub pieces-more : end < length s → cut c (drop from s) ≡ pieceAt c s from ∷ cut c (drop (end + 1) s)
+  unfolding pieceAt
+  pieces-more h =
+      let p : length (getD (cut c (drop from s)) 0 []) < length (drop from s) = omega (arith, length-drop from s) in
+      let q : from + suc (length (getD (cut c (drop from s)) 0 [])) ≡ end + 1 = omega arith in
+      first-more c (drop from s) p ∙ ap (λ (l : List ℕ). getD (cut c (drop from s)) 0 [] ∷ cut c l) (drop-drop _ from s ∙ ap (λ (k : ℕ). drop k s) q)
+
+  pub pieces-last : length s ≤ end → cut c (drop from s) ≡ pieceAt c s from ∷ []
+  unfolding pieceAt
+  pieces-last h = first-last c (drop from s) (omega (arith, length-drop from s))
