@@ -1,0 +1,1 @@
+// The anchored scores and the way back.
