@@ -22,20 +22,16 @@ unfolding countOf answer
 count-refused zero c h = absurd (omega arith)
 count-refused (suc k) c h = refl
 
--- the two ways out of a call whose checks give k
-pub answer-refused : (k c : ℕ) → (k ≡ 0 → ⊥) → Refused k ≡ answer k c
-unfolding answer
-answer-refused zero c f = absurd (f refl)
-answer-refused (suc k) c f = refl
+-- the two ways out of a call whose checks give k: r is what the code found them to give
+module _ {ℓ} {A : Type ℓ} {k r : ℕ} (c : ℕ) (result lent : List A) (e : r ≡ k) where
+  pub refused : (r ≡ 0 → ⊥) → (Refused r ≡ answer k c) × (lent ≡ slots k result lent)
+  unfolding answer slots
+  refused f = (go r k e f, rw (sym e, ne-eqb r 0 f))
+    where
+      go : (r k : ℕ) → r ≡ k → (r ≡ 0 → ⊥) → Refused r ≡ answer k c
+      go zero k e f = absurd (f refl)
+      go (suc r) k e f = rw (sym e)
 
-pub answer-count : {k c m : ℕ} → k ≡ 0 → m ≡ c → Count m ≡ answer k c
-unfolding answer
-answer-count e q = rw (e, q)
-
-pub slots-refused {ℓ} : {A : Type ℓ} (k : ℕ) (result lent : List A) → (k ≡ 0 → ⊥) → lent ≡ slots k result lent
-unfolding slots
-slots-refused k result lent f = rw (ne-eqb k 0 f)
-
-pub slots-written {ℓ} : {A : Type ℓ} (k m : ℕ) (result lent : List A) → k ≡ 0 → length result ≡ m → result ++ drop m lent ≡ slots k result lent
-unfolding slots
-slots-written k m result lent e q = rw (eq-eqb k 0 e, q)
+  pub counted : {m : ℕ} {o : List A} → r ≡ 0 → m ≡ c → length result ≡ c → o ≡ result ++ drop c lent → (Count m ≡ answer k c) × (o ≡ slots k result lent)
+  unfolding answer slots
+  counted z p q h = (rw (sym e ∙ z, p), h ∙ rw (eq-eqb k 0 (sym e ∙ z), q))

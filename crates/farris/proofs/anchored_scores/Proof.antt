@@ -1,36 +1,42 @@
-use native.Mathlib.Omega.{arith}
+use mathlib.Core.Path.{_≡_, sym, _∙_}
+use Prim.Native.Nat.{_≤_, _<_}
 use borrow.Author.Needs.{needs}
+use lib.Dec.{T}
+use lib.ListN.{length}
+use Rattle.clusters.specs.PairList.{rowStart, score, inRange}
+use Rattle.clusters.specs.Farris.{farris, anchoredScores}
+use Rattle.clusters.proofs.PairList.{length-pairList}
+use Rattle.answers.proofs.Answers.{refused, counted}
+use Rattle.farris.proofs.Refusals.{anchored-passes}
 use Rattle.farris.proofs.anchored_scores.Statement.{statement}
 use Rattle.farris.proofs.anchored_scores.Tie as tie
-use Rattle.farris.proofs.anchored_scores.Reads as reads
-use Rattle.farris.proofs.anchored_scores.Lts as lts
-use Rattle.farris.proofs.anchor.Reads as anchor-reads
-use Rattle.farris.proofs.anchored_refusal.Reads as anchored-refusal-reads
-use Rattle.matrix.proofs.pair_count.Reads as pair-count-reads
 
--- src/lib.rt:98:9
+-- what the call relies on once no check refuses it
+passes : (c : tie.Else1) → let a = c .before .before .args in
+    (a .n ≤ 32) × (a .x < a .n) × (length (a .pairs .now) ≡ rowStart (a .n)) × T (inRange (a .pairs .now)) × (rowStart (a .n) ≤ length (a .out .now))
+passes c = let a = c .before .before .args in anchored-passes (a .n) (a .x) (a .pairs .now) (length (a .out .now)) (sym (c .before .anchored-refusal .ensures) ∙ c .if1 .left)
+
 anchored-refusal-requires : tie.Need-anchored-refusal-requires
 anchored-refusal-requires c κs = search needs
 
--- src/lib.rt:100:9
 returns : tie.Need-returns
-returns c = search needs
+returns c = let a = c .before .before .args in
+    refused (rowStart (a .n)) (anchoredScores (a .n) (a .x) (a .pairs .now)) (a .out .now) (c .before .anchored-refusal .ensures) (c .if1 .taken)
 
--- src/lib.rt:102:5
 anchor-requires : tie.Need-anchor-requires
-anchor-requires c κs = search needs
+anchor-requires c κs = passes (c .before)
 
--- src/lib.rt:103:19
 pair-count-requires : tie.Need-pair-count-requires
-pair-count-requires c κs = search needs
+pair-count-requires c κs = passes (c .before .before .before) .0
 
--- src/lib.rt:94:1
 same-length : tie.Need-same-length
 same-length c = search needs
 
--- src/lib.rt:94:1
 returns-2 : tie.Need-returns-2
-returns-2 c = search needs
+unfolding anchoredScores
+returns-2 c = let e = c .before .before .before .before in let a = e .before .before .args in
+    counted (rowStart (a .n)) (anchoredScores (a .n) (a .x) (a .pairs .now)) (a .out .now) (e .before .anchored-refusal .ensures) (e .if1 .left)
+    (c .pair-count .ensures) (length-pairList (a .n) (farris (score (a .pairs .now)) (a .x))) (c .before .before .anchor .ensures)
 
 pub anchored-scores-spec : {M : Type 1} → statement M
 anchored-scores-spec =
