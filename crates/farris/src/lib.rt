@@ -159,7 +159,8 @@ fn is_own(n: usize, x: usize, scores: &[i32], a: usize) -> bool
     requires { ⌜ (n ≤ 32) × (x < n) × (length (now scores) ≡ rowStart n) × (a < n) ⌝ }
     ensures { λ r. ⌜ r ≡ (eqZ (score (now (scores .entry)) a x) (pos 0) && even (score (now (scores .entry)) a a)) ⌝ }
 {
-    integers::is_equal(listed_score(scores, a, x), 0) && integers::is_even(listed_score(scores, a, a))
+    integers::is_equal(listed_score(scores, a, x), 0)
+        && integers::is_even(listed_score(scores, a, a))
 }
 
 fn are_own(n: usize, x: usize, scores: &[i32]) -> bool

@@ -5,7 +5,6 @@ use Prim.Native.Nat.{ℕ}
 use borrow.Author.Needs.{needs}
 use lib.Dec.{leb, ltb}
 use Rattle.clusters.specs.PairList.{rowStart, hasLength}
-use Rattle.clusters.specs.Farris.{isAnchored}
 use Rattle.clusters.specs.Refusals.{wrongCount}
 use Rattle.farris.specs.Calls.{backChecks, backRefusal}
 use Rattle.farris.proofs.Refusals.{gives, first-yes, first-no, none, or-first, or-second, right-count, right-length, in-place}
