@@ -5,8 +5,8 @@ use Rattle.integers.proofs.Held.{passed}
 use Rattle.integers.proofs.Tests.{and-second, and-first}
 use Rattle.matrix.proofs.Places.{score-asks}
 use Rattle.farris.proofs.Bounds.{addend}
-use Rattle.farris.proofs.is_own.Statement.{statement}
-use Rattle.farris.proofs.is_own.Tie as tie
+use Rattle.farris.proofs.is_anchored_entry.Statement.{statement}
+use Rattle.farris.proofs.is_anchored_entry.Tie as tie
 
 listed-score-requires : tie.Need-listed-score-requires
 listed-score-requires c κs = score-asks {n = c .args .n} (c .args .scores .now) (c .pre .0) (c .pre .2) (omega arith) (omega arith)
@@ -28,8 +28,8 @@ returns-2 : tie.Need-returns-2
 returns-2 c = let e = c .before in let u = e .before .listed-score in
     and-first _ (rw (passed w64 (u .ok) (u .ensures .0)) at (e .is-equal .ensures)) (c .if1 .left)
 
-pub is-own-spec : {M : Type 1} → statement M
-is-own-spec =
+pub is-anchored-entry-spec : {M : Type 1} → statement M
+is-anchored-entry-spec =
     tie.close
     (tie.spec
     listed-score-requires
