@@ -6,7 +6,7 @@ use lib.ListN.{length}
 use Rattle.clusters.specs.PairList.{rowStart, score, inRange}
 use Rattle.clusters.specs.Farris.{farris, anchoredScores}
 use Rattle.clusters.proofs.PairList.{length-pairList}
-use Rattle.answers.proofs.Answers.{refused, counted}
+use Rattle.answers.proofs.WaysOut.{refused, counted}
 use Rattle.farris.proofs.Refusals.{anchored-passes}
 use Rattle.farris.proofs.anchored_scores.Statement.{statement}
 use Rattle.farris.proofs.anchored_scores.Tie as tie

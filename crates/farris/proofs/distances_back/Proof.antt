@@ -6,7 +6,7 @@ use lib.ListN.{length}
 use Rattle.clusters.specs.PairList.{rowStart, score, inRange}
 use Rattle.clusters.specs.Farris.{unfarris, distancesBack}
 use Rattle.clusters.proofs.PairList.{length-pairList}
-use Rattle.answers.proofs.Answers.{refused, counted}
+use Rattle.answers.proofs.WaysOut.{refused, counted}
 use Rattle.farris.proofs.Refusals.{back-passes}
 use Rattle.farris.proofs.distances_back.Statement.{statement}
 use Rattle.farris.proofs.distances_back.Tie as tie
