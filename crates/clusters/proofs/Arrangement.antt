@@ -1,20 +1,18 @@
 -- In which order the blocks left stand in a list is all one: the trees are the same.
-use mathlib.Core.Path.{_≡_, refl, sym, ap, _∙_, subst}
-use mathlib.Core.Bool.{Bool, cond}
+use mathlib.Core.Path.{_≡_, refl, sym, ap, _∙_}
+use mathlib.Core.Bool.{cond}
 use mathlib.Core.Logic.{_≢_}
 use mathlib.Core.List.{List, [], _∷_, Memᴰ·cast}
-use Prim.Native.Nat.{ℕ, _<_}
-use native.Mathlib.Omega.{arith}
+use Prim.Native.Nat.{ℕ}
 use lib.IntN.{ℤ, pos, _+ℤ_}
 use lib.Signed.{_≤ℤ_, _<ℤ_}
-use lib.Dec.{T, eqb, eqb→eq, eqb-refl}
+use lib.Dec.{eqb, eqb→eq, eqb-refl}
 use lib.ListN.{length}
 use Rattle.lists.specs.Lists.{_∈_, erase}
-use Rattle.lists.proofs.Tests.{T-or-not, T-true, T-false, cond-elim}
-use Rattle.lists.proofs.Distinct.{in-erase}
+use Rattle.lists.proofs.Tests.{T-true, cond-elim}
 use Rattle.integers.specs.Integers.{sumOf}
 use Rattle.integers.proofs.Linear.{up, dn, zarith, +at, *at}
-use Rattle.integers.proofs.Sums.{sum-const, sum-erase, sum-nonneg, some-pos}
+use Rattle.integers.proofs.Sums.{sum-const, sum-erase, sum-two, sum-nonneg, some-pos}
 use Rattle.sets.specs.Sets.{_∪_}
 use Rattle.clusters.specs.Linkage.{Quotient, Greatest, merged, Merges}
 use Rattle.clusters.proofs.Blocks.{Partition, holds}
@@ -60,11 +58,10 @@ same-in {bs} {cs} e {B} m =
 -- what a merge leaves, by its sums
 pub sum-merged : (U W : ℕ) (bs : List ℕ) (f : ℕ → ℤ) → U ∈ bs → W ∈ bs → U ≢ W → sumOf (merged U W bs) f +ℤ (f U +ℤ f W) ≡ f (U ∪ W) +ℤ sumOf bs f
 unfolding merged sumOf
-sum-merged U W bs f hu hw ne =
-    end (f (U ∪ W)) (f U) (f W) (sumOf (erase U (erase W bs)) f) (sumOf (erase W bs) f) (sumOf bs f) (sum-erase W bs f hw) (sum-erase U (erase W bs) f (in-erase W bs ne hu))
+sum-merged U W bs f hu hw ne = end (f (U ∪ W)) (f U +ℤ f W) (sumOf (erase U (erase W bs)) f) (sumOf bs f) (sum-two U W bs f hu hw ne)
   where
-    end : (j u w r e b : ℤ) → b ≡ w +ℤ e → e ≡ u +ℤ r → (j +ℤ r) +ℤ (u +ℤ w) ≡ j +ℤ b
-    end j u w r e b p q = omega (zarith, +at w e, +at u r, +at j r, +at u w, +at (j +ℤ r) (u +ℤ w), +at j b)
+    end : (j uw r b : ℤ) → b ≡ uw +ℤ r → (j +ℤ r) +ℤ uw ≡ j +ℤ b
+    end j uw r b p = omega (zarith, +at uw r, +at j r, +at (j +ℤ r) uw, +at j b)
 
 pub same-merged : {bs cs : List ℕ} → SameBlocks bs cs → (U W : ℕ) → U ∈ bs → W ∈ bs → U ≢ W → SameBlocks (merged U W bs) (merged U W cs)
 same-merged {bs} {cs} e U W hu hw ne = record { sums = λ f. end f (sum-merged U W bs f hu hw ne) (sum-merged U W cs f (same-in e hu) (same-in e hw) ne) }

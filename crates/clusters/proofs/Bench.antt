@@ -1,6 +1,6 @@
 -- Every starred case of document 01 holds of the definitions.
 use mathlib.Core.Path.{_≡_, refl}
-use mathlib.Core.List.{List, map}
+use mathlib.Core.List.{map}
 use Rattle.lists.specs.Lists.{_∈_, below, each, keep}
 use Rattle.lists.proofs.Lists.{of-map-cong}
 use Rattle.integers.specs.Integers.{minZ, maxZ, least, sumOf, sum, insert, sort, sumOfSmallest}

@@ -1,24 +1,23 @@
 -- The blocks left while a tree is built: what holds of them from the single entries on, and is kept by every merge.
 use mathlib.Core.Path.{_≡_, refl, sym, ap, _∙_, subst}
-use mathlib.Core.Bool.{Bool, true, false, not, cond}
+use mathlib.Core.Bool.{cond}
 use mathlib.Core.Logic.{_≢_, _⊎_, inl, inr}
-use mathlib.Core.List.{List, [], _∷_, _++_, map, List·Memᴰ, List·Memᴰ·head, List·Memᴰ·tail, List·Memᴰ·not-nil, List·Memᴰ·cases-cons}
-use Prim.Native.Nat.{ℕ, zero, suc, _+_, _*_, _/_, _%_, _^_, _≤_, _<_}
+use mathlib.Core.List.{List, [], _∷_, _++_, List·Memᴰ·cases-cons}
+use Prim.Native.Nat.{ℕ, zero, suc, _/_, _%_, _^_, _≤_, _<_}
 use native.Mathlib.Decide.{ℕ-discrete}
 use native.Mathlib.Omega.{arith}
-use lib.IntN.{ℤ, pos, negsuc, _+ℤ_, _-ℤ_, _*ℤ_, +ℤ-idr, +ℤ-idl, *ℤ-zero}
-use lib.Signed.{_≤ℤ_, _<ℤ_}
-use lib.ListN.{length}
+use lib.IntN.{ℤ, pos, _+ℤ_, _*ℤ_, +ℤ-idr, *ℤ-zero}
+use lib.Signed.{_<ℤ_}
 use lib.Pow.{pow-lt}
 use Rattle.lists.specs.Lists.{_∈_, below, erase}
 use Rattle.lists.proofs.Tests.{T-true, T-false}
 use Rattle.lists.proofs.Lists.{below-lt, of-map}
-use Rattle.lists.proofs.Distinct.{of-erase, in-erase}
+use Rattle.lists.proofs.Distinct.{of-erase}
 use Rattle.integers.specs.Integers.{sumOf}
-use Rattle.integers.proofs.Linear.{up, dn, zarith, +at, -at, *at}
-use Rattle.integers.proofs.Sums.{sum-cong, sum-append, sum-map, sum-mono, sum-zero, sum-keep, sum-swap, sum-scale, sum-erase, sum-nonneg, some-pos}
+use Rattle.integers.proofs.Linear.{up, dn, zarith, +at, *at}
+use Rattle.integers.proofs.Sums.{sum-cong, sum-append, sum-map, sum-keep, sum-swap, sum-scale, sum-two, sum-nonneg, some-pos}
 use Rattle.sets.specs.Sets.{has, _∋_, _∌_, members, _∪_, Subset, Disjoint}
-use Rattle.sets.proofs.Sets.{in-or-out, clash, same, or-bit, ∪-left, ∪-right, ∪-cases, ∪-lt, one-in, one-only, one-out, yes-has, no-has}
+use Rattle.sets.proofs.Sets.{in-or-out, or-bit, ∪-left, ∪-cases, ∪-lt, one-in, one-only, one-out, yes-has, no-has}
 use Rattle.clusters.specs.Linkage.{merged, singles}
 
 -- 1 where B holds the entry i, else 0
@@ -48,12 +47,11 @@ disjoint {bs} p U W hu hw ne i h k =
     omega (
       zarith,
       p .once i h,
-      sum-erase W bs (holds i) hw,
-      sum-erase U (erase W bs) (holds i) (in-erase W bs ne hu),
+      sum-two U W bs (holds i) hu hw ne,
       k .bit,
       r,
-      +at (holds i W) (sumOf (erase W bs) (holds i)),
-      +at (holds i U) rest,
+      +at (holds i U) (holds i W),
+      +at (holds i U +ℤ holds i W) rest,
     )
 
 -- a sum over all entries is the sum over the blocks left of their sums
@@ -98,13 +96,12 @@ module _ (U W : ℕ) (bs : List ℕ) where
           omega (
             zarith,
             p .once i h,
-            sum-erase W bs (holds i) hw,
-            sum-erase U (erase W bs) (holds i) (in-erase W bs ne hu),
+            sum-two U W bs (holds i) hu hw ne,
             or-bit U W i,
             k,
             +at (holds i (U ∪ W)) rest,
-            +at (holds i W) (sumOf (erase W bs) (holds i)),
-            +at (holds i U) rest,
+            +at (holds i U) (holds i W),
+            +at (holds i U +ℤ holds i W) rest,
           )
 
       som : (B : ℕ) → (B ≡ U ∪ W) ⊎ (B ∈ bs) → (i : ℕ) × (i < n) × (B ∋ i)

@@ -1,12 +1,12 @@
 -- A tree exists for every n ≥ 1; every tree has n − 1 merges, and all entries are one of its blocks.
 use mathlib.Core.Path.{_≡_, refl, sym, ap, _∙_, subst}
-use mathlib.Core.Bool.{Bool, not}
+use mathlib.Core.Bool.{not}
 use mathlib.Core.Logic.{_≢_, _⊎_, inl, inr, ⊎-elim}
-use mathlib.Core.List.{List, [], _∷_, _++_, map, List·Memᴰ, List·Memᴰ·head, List·Memᴰ·tail, List·Memᴰ·not-nil, List·Memᴰ·cases-cons}
-use Prim.Native.Nat.{ℕ, zero, suc, _+_, _*_, _^_, _≤_, _<_}
+use mathlib.Core.List.{List, [], _∷_, map, List·Memᴰ·head, List·Memᴰ·tail, List·Memᴰ·not-nil, List·Memᴰ·cases-cons}
+use Prim.Native.Nat.{ℕ, zero, suc, _^_, _≤_, _<_}
 use native.Mathlib.Omega.{arith}
-use lib.IntN.{ℤ, pos, _+ℤ_}
-use lib.Dec.{T, eqb, eqb→eq, not-T}
+use lib.IntN.{_+ℤ_}
+use lib.Dec.{eqb, eqb→eq, not-T}
 use lib.ListN.{length, length-map}
 use Rattle.lists.specs.Lists.{_∈_, below, each, keep, erase}
 use Rattle.lists.proofs.Tests.{eqb-no}

@@ -7,7 +7,7 @@ use Prim.Native.Nat.{ℕ, zero, suc, _^_, _≤_, _<_}
 use native.Mathlib.Omega.{arith}
 use lib.IntN.{ℤ, pos}
 use lib.Signed.{_≤ℤ_, leZ, leZ-yes}
-use lib.Dec.{T, eqb, leb, leb→le, ltb→lt, eqb→eq, eqb-refl}
+use lib.Dec.{T, eqb, leb, ltb, leb→le, le→leb, ltb→lt, lt→ltb, eqb→eq, eqb-refl}
 use Rattle.lists.specs.Lists.{_∈_, below, each, keep, Distinct}
 use Rattle.lists.proofs.Tests.{and-T, T-and, cond-elim}
 use Rattle.lists.proofs.Lists.{below-lt, lt-below, in-each, of-each, each-below, in-keep, of-keep, keep-append, in-map, of-map}
@@ -16,17 +16,32 @@ use Rattle.sets.proofs.Sets.{has-no, size-le, size-member, size-less}
 use Rattle.clusters.specs.PairList.{Similarity}
 use Rattle.clusters.specs.Groups.{Kind, strong, clean, splits, index, proper, speaksOf, listed, sets, groupSets, groups, Before, Rising}
 
--- a set that a kind speaks of is neither empty nor X
-speaks-some : (k : Kind) (n A : ℕ) → T (speaksOf k n A) → (1 ≤ size n A) × (size n A < n)
-unfolding speaksOf proper
-speaks-some strong n A t = let (l, p) = and-T (leb 1 (size n A)) (proper n A) t in (leb→le 1 (size n A) l, ltb→lt (size n A) n p)
-speaks-some clean n A t = let (l, p) = and-T (leb 2 (size n A)) (proper n A) t in (omega (arith, leb→le 2 (size n A) l), ltb→lt (size n A) n p)
-speaks-some splits n A t =
-    let (q, _) = and-T (leb 1 (size n A) && proper n A) (not (has A 0)) t in
-    let (l, p) = and-T (leb 1 (size n A)) (proper n A) q in (leb→le 1 (size n A) l, ltb→lt (size n A) n p)
+-- the least size of the sets that a kind speaks of
+unfoldable pub leastSize : Kind → ℕ
+leastSize strong = 1
+leastSize clean = 2
+leastSize splits = 1
+
+pub between : (c m n : ℕ) → T (leb c m && ltb m n) ↔ ((c ≤ m) × (m < n))
+between c m n = (
+  λ t. let (l, u) = and-T (leb c m) (ltb m n) t in (leb→le c m l, ltb→lt m n u),
+  λ (l, u). T-and (leb c m) (ltb m n) (le→leb c m l) (lt→ltb m n u),
+)
+
+pub speaks-size : (k : Kind) (n A : ℕ) → T (speaksOf k n A) → (leastSize k ≤ size n A) × (size n A < n)
+unfolding speaksOf proper leastSize
+speaks-size strong n A t = between 1 (size n A) n .0 t
+speaks-size clean n A t = between 2 (size n A) n .0 t
+speaks-size splits n A t = between 1 (size n A) n .0 (and-T (leb 1 (size n A) && proper n A) (not (has A 0)) t .0)
+
+leastSize-some : (k : Kind) → 1 ≤ leastSize k
+unfolding leastSize
+leastSize-some strong = omega arith
+leastSize-some clean = omega arith
+leastSize-some splits = omega arith
 
 module _ (k : Kind) (n : ℕ) (s : Similarity) (A : ℕ) where
-  of-listed : T (listed k n s A) → T (speaksOf k n A) × T (leZ (pos 1) (index k n s A))
+  pub of-listed : T (listed k n s A) → T (speaksOf k n A) × T (leZ (pos 1) (index k n s A))
   unfolding listed
   of-listed t = and-T (speaksOf k n A) (leZ (pos 1) (index k n s A)) t
 
@@ -38,14 +53,14 @@ module _ (k : Kind) (n : ℕ) (s : Similarity) (A : ℕ) where
   listed-index t = leZ-yes (of-listed t .1)
 
   pub listed-some : T (listed k n s A) → (a : ℕ) × (a < n) × (A ∋ a)
-  listed-some t = size-member n A (speaks-some k n A (of-listed t .0) .0)
+  listed-some t = size-member n A (omega (arith, leastSize-some k, speaks-size k n A (of-listed t .0) .0))
 
   pub listed-proper : T (listed k n s A) → (x : ℕ) × (x < n) × (A ∌ x)
-  listed-proper t = size-less n A (speaks-some k n A (of-listed t .0) .1)
+  listed-proper t = size-less n A (speaks-size k n A (of-listed t .0) .1)
 
 pub listed-clean-two : (n : ℕ) (s : Similarity) (A : ℕ) → T (listed clean n s A) → 2 ≤ size n A
-unfolding speaksOf
-listed-clean-two n s A t = leb→le 2 (size n A) (and-T (leb 2 (size n A)) (proper n A) (of-listed clean n s A t .0) .0)
+unfolding leastSize
+listed-clean-two n s A t = speaks-size clean n A (of-listed clean n s A t .0) .0
 
 pub listed-split-first : (n : ℕ) (d : Similarity) (A : ℕ) → T (listed splits n d A) → A ∌ 0
 unfolding speaksOf

@@ -1,20 +1,20 @@
 -- Laws of the links: symmetric in the two blocks, and compared by a total order.
-use mathlib.Core.Path.{_≡_, refl, sym, ap, ap₂, _∙_, subst, subst₂}
-use mathlib.Core.Logic.{_⊎_, inl, inr}
-use mathlib.Core.List.{List, map, Memᴰ·cast}
+use mathlib.Core.Path.{_≡_, sym, ap, ap₂, _∙_}
+use mathlib.Core.Logic.{_⊎_}
+use mathlib.Core.List.{map, Memᴰ·cast}
 use Prim.Native.Nat.{ℕ, zero, suc, _*_, _≤_, _<_}
 use native.Mathlib.Nat.{mul-comm}
 use native.Mathlib.Omega.{arith}
 use lib.IntN.{ℤ, pos, _*ℤ_}
-use lib.Signed.{_≤ℤ_, _<ℤ_}
-use Rattle.lists.specs.Lists.{_∈_, each}
+use lib.Signed.{_<ℤ_}
+use Rattle.lists.specs.Lists.{_∈_}
 use Rattle.lists.proofs.Lists.{in-each, of-each, in-map, of-map}
-use Rattle.integers.specs.Integers.{greatest, sumOf, sum}
+use Rattle.integers.specs.Integers.{sumOf, sum}
 use Rattle.integers.proofs.Linear.{zarith, up, dn, *at, le-or-le, quotient-trans}
-use Rattle.integers.proofs.Least.{greatest-ge, greatest-of, greatest-same}
+use Rattle.integers.proofs.Least.{greatest-same}
 use Rattle.integers.proofs.Sums.{sum-cong, sum-swap, sum-each, sum-map}
 use Rattle.sets.specs.Sets.{_∋_, members, size}
-use Rattle.sets.proofs.Sets.{in-members, of-members, member-size}
+use Rattle.sets.proofs.Sets.{in-members, of-members}
 use Rattle.clusters.specs.PairList.{Similarity, Symmetric}
 use Rattle.clusters.specs.Linkage.{Quotient, _≼_, between, Linkage, single, average, link}
 use Rattle.clusters.proofs.Trees.{_≺_}

@@ -6,10 +6,10 @@ use mathlib.Core.List.{List, Memᴰ·cast}
 use Prim.Native.Nat.{ℕ, _-_, _^_, _≤_, _<_}
 use native.Mathlib.Omega.{arith}
 use lib.IntN.{ℤ, pos, _+ℤ_, _-ℤ_}
-use lib.Signed.{_≤ℤ_, leZ}
-use lib.Dec.{T, leb, ltb, leb→le, le→leb, ltb→lt, lt→ltb}
+use lib.Signed.{_≤ℤ_}
+use lib.Dec.{T, leb}
 use Rattle.lists.specs.Lists.{_∈_}
-use Rattle.lists.proofs.Tests.{and-T, T-and, cond-elim}
+use Rattle.lists.proofs.Tests.{T-and, cond-elim}
 use Rattle.integers.specs.Integers.{maxZ, least, sumOf, sumOfSmallest}
 use Rattle.integers.proofs.Linear.{up, dn, zarith}
 use Rattle.integers.proofs.Least.{least-same}
@@ -19,12 +19,12 @@ use Rattle.sets.specs.Sets.{has, _∋_, _∌_, members, others, size, complemen
 use Rattle.sets.proofs.Sets.{has-yes, yes-has, has-no, no-has, mask-lt, mask-has, of-others, complement-lt, not-complement, size-complement}
 use Rattle.clusters.specs.PairList.{Similarity, Symmetric}
 use Rattle.clusters.specs.Indices.{strongValues, strongIndex, weight, weights, cleanIndex, separationValues, separationIndex}
-use Rattle.clusters.specs.Groups.{Kind, strong, clean, splits, index, proper, speaksOf, listed, groups, writtenSet}
+use Rattle.clusters.specs.Groups.{Kind, strong, clean, splits, index, proper, speaksOf, groups, writtenSet}
 use Rattle.clusters.specs.Reordering.{Permutation, Reordered, image}
 use Rattle.clusters.proofs.Weights.{weight-symm, weights-sum}
 use Rattle.clusters.proofs.Strong.{in-strongValues, of-strongValues, in-separationValues, of-separationValues}
 use Rattle.clusters.proofs.Farris.{separation-either-side}
-use Rattle.clusters.proofs.Groups.{is-listed, listed-index, in-groups}
+use Rattle.clusters.proofs.Groups.{leastSize, between, speaks-size, of-listed, is-listed, listed-index, in-groups}
 use Rattle.clusters.proofs.Reindex.{Image, reindex-members, reindex-others, reindex-pairs}
 
 pub image-lt : (n : ℕ) (p : Permutation n) (A : ℕ) → image n p A < 2 ^ n
@@ -123,18 +123,6 @@ index-image strong n p old new r _ _ A = strong-image n p old new r A
 index-image clean n p old new r old-symm new-symm A = clean-image n p old new r old-symm new-symm A
 index-image splits n p old new r _ _ A = separation-image n p old new r A
 
--- a kind speaks of sets of this size or more
-leastSize : Kind → ℕ
-leastSize strong = 1
-leastSize clean = 2
-leastSize splits = 1
-
-between : (c m n : ℕ) → T (leb c m && ltb m n) ↔ ((c ≤ m) × (m < n))
-between c m n = (
-  λ t. let (l, u) = and-T (leb c m) (ltb m n) t in (leb→le c m l, ltb→lt m n u),
-  λ (l, u). T-and (leb c m) (ltb m n) (le→leb c m l) (lt→ltb m n u),
-)
-
 -- of a split both sides have such a size, or neither has
 speaks-written : (k : Kind) (n A : ℕ) → T (speaksOf k n (writtenSet k n A)) ↔ ((leastSize k ≤ size n A) × (size n A < n))
 unfolding speaksOf proper writtenSet leastSize
@@ -148,7 +136,7 @@ speaks-written splits n A = cond-elim (has A 0) (complement n A) A (λ B. T (spe
     (λ t. (sizes A, λ r. speaks A r t))
   where
     sizes : (B : ℕ) → T (speaksOf splits n B) → (1 ≤ size n B) × (size n B < n)
-    sizes B q = between 1 (size n B) n .0 (and-T (leb 1 (size n B) && proper n B) (not (has B 0)) q .0)
+    sizes B q = speaks-size splits n B q
 
     speaks : (B : ℕ) → (1 ≤ size n B) × (size n B < n) → T (not (has B 0)) → T (speaksOf splits n B)
     speaks B r t = T-and (leb 1 (size n B) && proper n B) (not (has B 0)) (between 1 (size n B) n .1 r) t
@@ -171,11 +159,10 @@ Line k n z m i = (leastSize k ≤ m) × (m < n) × (pos 1 ≤ℤ i) × (z ≡ i)
 
 in-written : (k : Kind) (n : ℕ) (s : Similarity) → Symmetric s → (A : ℕ) → A < 2 ^ n → (z : ℤ)
     → (_∈_ {A = ℕ × ℤ} (writtenSet k n A, z) (groups k n s)) ↔ Line k n z (size n A) (index k n s A)
-unfolding listed
 in-written k n s symm A h z = (
   λ m.
       let (_, t, q) = in-groups k n s B z .0 m in
-      let (l, u) = speaks-written k n A .0 (and-T (speaksOf k n B) (leZ (pos 1) (index k n s B)) t .0) in
+      let (l, u) = speaks-written k n A .0 (of-listed k n s B t .0) in
       (l, u, subst (λ i. pos 1 ≤ℤ i) e (listed-index k n s B t), q ∙ e),
   λ (l, u, v, q). in-groups k n s B z .1 (written-lt k n A h, is-listed k n s B (speaks-written k n A .1 (l, u)) (subst (λ i. pos 1 ≤ℤ i) (sym e) v), q ∙ sym e),
 )

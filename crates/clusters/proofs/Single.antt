@@ -1,10 +1,9 @@
 -- A strong set repels by the single link.
-use mathlib.Core.Path.{_≡_, sym, subst₂}
 use mathlib.Core.Logic.{_≢_}
 use mathlib.Core.List.{List}
 use Prim.Native.Nat.{ℕ, _^_, _<_}
-use lib.IntN.{ℤ, pos}
-use lib.Signed.{_≤ℤ_, _<ℤ_}
+use lib.IntN.{pos}
+use lib.Signed.{_≤ℤ_}
 use Rattle.lists.specs.Lists.{_∈_}
 use Rattle.integers.specs.Integers.{greatest}
 use Rattle.integers.proofs.Linear.{zarith}
@@ -13,8 +12,8 @@ use Rattle.sets.specs.Sets.{_∋_, _∌_, Subset, Disjoint}
 use Rattle.sets.proofs.Sets.{clash, left-out}
 use Rattle.clusters.specs.PairList.{Similarity}
 use Rattle.clusters.specs.Indices.{strongIndex}
-use Rattle.clusters.specs.Linkage.{Quotient, between, single, link}
-use Rattle.clusters.proofs.Blocks.{Partition, Uncrossed, cover}
+use Rattle.clusters.specs.Linkage.{between, single, link}
+use Rattle.clusters.proofs.Blocks.{Partition, cover}
 use Rattle.clusters.proofs.Trees.{_≺_, Repels}
 use Rattle.clusters.proofs.Links.{in-between, of-between, single-less}
 use Rattle.clusters.proofs.Strong.{strong-lt}

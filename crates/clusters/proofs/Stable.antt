@@ -6,37 +6,28 @@ use Prim.Native.Nat.{ℕ, zero, suc, _+_, _-_, _*_, _^_, _≤_, _<_}
 use native.Mathlib.Omega.{arith}
 use lib.IntN.{ℤ, pos, _+ℤ_, _-ℤ_}
 use lib.Signed.{_≤ℤ_, _<ℤ_}
-use Rattle.lists.specs.Lists.{_∈_}
-use Rattle.lists.proofs.Lists.{in-each, in-map}
 use Rattle.integers.specs.Integers.{sumOf, maxZ}
 use Rattle.integers.proofs.Linear.{up, dn, zarith, +at, -at}
-use Rattle.integers.proofs.Least.{least-le, max-left, max-is}
+use Rattle.integers.proofs.Least.{max-left, max-is}
 use Rattle.integers.proofs.Sums.{sum-cong, sum-mono, sum-add, sum-zero, sum-swap, sum-pos}
 use Rattle.integers.proofs.Smallest.{among-positive}
-use Rattle.sets.specs.Sets.{_∋_, _∌_, members, others, size, _∪_, difference, Subset, Disjoint, Nested}
-use Rattle.sets.proofs.Sets.{in-or-out, ∪-left, ∪-right, ∪-lt, size-∪, in-members, of-members, in-others, member-size, size-member, difference-lt, in-difference, of-difference, not-difference, out-difference, find, subset-antisymm}
+use Rattle.sets.specs.Sets.{_∋_, _∌_, members, size, _∪_, difference, Subset, Disjoint, Nested}
+use Rattle.sets.proofs.Sets.{in-or-out, ∪-left, ∪-right, ∪-lt, size-∪, in-members, of-members, member-size, size-member, difference-lt, in-difference, of-difference, not-difference, out-difference, find, subset-antisymm}
 use Rattle.clusters.specs.PairList.{Similarity, Symmetric}
-use Rattle.clusters.specs.Indices.{strongValues, strongIndex, weight, weights, cleanIndex}
+use Rattle.clusters.specs.Indices.{strongIndex, weight, weights, cleanIndex}
 use Rattle.clusters.specs.Stability.{tripleSum, Division, Stable}
+use Rattle.clusters.proofs.Strong.{strong-lt}
 use Rattle.clusters.proofs.Weights.{triples, length-triples, tripleSum-sums, left-inside, right-inside, division-among}
 use Rattle.clusters.proofs.Blocks.{both-in}
 
--- a member of a strong group is closer to every member than to any entry outside
-pub strong-closer : (n : ℕ) (s : Similarity) (A : ℕ) → pos 1 ≤ℤ strongIndex n s A
-    → {a b x : ℕ} → a ∈ members n A → b ∈ members n A → x ∈ others n A → s a x <ℤ s a b
-unfolding strongIndex strongValues up dn
-strong-closer n s A h {a} {b} {x} ha hb hx =
-    let k = least-le (strongValues n s A) (in-each _ ha (in-each _ hb (in-map _ hx))) in
-    omega (zarith, -at (s a b) (s a x))
-
 strong-weight : (n : ℕ) (s : Similarity) → Symmetric s → (A : ℕ) → pos 1 ≤ℤ strongIndex n s A
-    → {a b c : ℕ} → a ∈ members n A → b ∈ members n A → c ∈ others n A → pos 0 <ℤ weight s a b c
+    → {a b c : ℕ} → a < n → b < n → c < n → A ∋ a → A ∋ b → A ∌ c → pos 0 <ℤ weight s a b c
 unfolding weight up dn
-strong-weight n s symm A h {a} {b} {c} ha hb hc = go (max-is (s a c) (s b c))
+strong-weight n s symm A h {a} {b} {c} la lb lc ka kb kc = go (max-is (s a c) (s b c))
   where
     go : (maxZ (s a c) (s b c) ≡ s a c) ⊎ (maxZ (s a c) (s b c) ≡ s b c) → pos 0 <ℤ (s a b -ℤ maxZ (s a c) (s b c))
-    go (inl e) = omega (zarith, strong-closer n s A h ha hb hc, -at (s a b) (maxZ (s a c) (s b c)))
-    go (inr e) = omega (zarith, strong-closer n s A h hb ha hc, symm a b, -at (s a b) (maxZ (s a c) (s b c)))
+    go (inl e) = omega (zarith, strong-lt n s A h a b c la lb lc ka kb kc, -at (s a b) (maxZ (s a c) (s b c)))
+    go (inr e) = omega (zarith, strong-lt n s A h b a c lb la lc kb ka kc, symm a b, -at (s a b) (maxZ (s a c) (s b c)))
 
 -- of a strong group every weight is 1 or more
 pub strong-stable : (n : ℕ) (s : Similarity) → Symmetric s → (A : ℕ) → pos 1 ≤ℤ strongIndex n s A → Stable n s A
@@ -48,15 +39,11 @@ strong-stable n s symm A h = record { positive = λ U W Z d. at U W Z d }
         let (w, lw, hw) = size-member n W (d .some-w) in
         let (z, lz, hz) = size-member n Z (d .some-z) in
         subst (λ x. pos 0 <ℤ x) (sym (tripleSum-sums n s U W Z))
-        (sum-pos (members n U) _ (λ u mu. sum-pos (members n W) _ (λ w mw. sum-pos (members n Z) _ (λ z mz.
-        strong-weight n s symm A h (inside U (left-inside d) mu) (inside W (right-inside d) mw) (outside mz))
+        (sum-pos (members n U) _ (λ u mu. sum-pos (members n W) _ (λ w mw. sum-pos (members n Z) _ (λ z mz. weighed u w z (of-members n U mu) (of-members n W mw) (of-members n Z mz))
         (in-members n Z lz hz)) (in-members n W lw hw)) (in-members n U lu hu))
       where
-        inside : (B : ℕ) {i : ℕ} → (B ∋ i → A ∋ i) → i ∈ members n B → i ∈ members n A
-        inside B f m = let (l, k) = of-members n B m in in-members n A l (f k)
-
-        outside : {i : ℕ} → i ∈ members n Z → i ∈ others n A
-        outside {i} m = let (l, k) = of-members n Z m in in-others n A l (d .outside .all i l k)
+        weighed : (u w z : ℕ) → (u < n) × (U ∋ u) → (w < n) × (W ∋ w) → (z < n) × (Z ∋ z) → pos 0 <ℤ weight s u w z
+        weighed u w z (lu, ku) (lw, kw) (lz, kz) = strong-weight n s symm A h lu lw lz (left-inside d ku) (right-inside d kw) (d .outside .all z lz kz)
 
 -- of a clean group the triples of a division are among the weights, and no fewer than those that count
 pub clean-stable : (n : ℕ) (s : Similarity) → Symmetric s → (A : ℕ) → pos 1 ≤ℤ cleanIndex n s A → Stable n s A

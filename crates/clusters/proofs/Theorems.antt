@@ -1,21 +1,20 @@
 -- What holds of the groups of every kind, for any number of entries.
-use mathlib.Core.Path.{_≡_, refl, sym, ap, _∙_, subst}
-use mathlib.Core.Logic.{_⊎_, inl, inr, _≢_}
-use mathlib.Core.List.{List, [], _∷_, _++_, map, List·Memᴰ·head, List·Memᴰ·tail, List·Memᴰ·cases-cons, List·Memᴰ·append-cases, List·Memᴰ·eq-of-singleton, Memᴰ·append-left, Memᴰ·append-right, Memᴰ·cast}
-use Prim.Native.Nat.{ℕ, zero, suc, _+_, _*_, _-_, _^_, _≤_, _<_}
+use mathlib.Core.Path.{_≡_, sym, ap, _∙_, subst}
+use mathlib.Core.Logic.{_⊎_, inl, inr}
+use mathlib.Core.List.{List, [], _∷_, _++_, List·Memᴰ·cases-cons, List·Memᴰ·append-cases, List·Memᴰ·eq-of-singleton, Memᴰ·append-left, Memᴰ·append-right, Memᴰ·cast}
+use Prim.Native.Nat.{ℕ, suc, _+_, _^_, _≤_, _<_}
 use native.Mathlib.Omega.{arith}
 use native.Mathlib.Decide.{decLt}
-use lib.IntN.{ℤ, pos}
-use lib.Signed.{_≤ℤ_}
+use lib.IntN.{ℤ}
 use lib.Dec.{T}
 use lib.ListN.{length, length-append, length-map}
 use Rattle.lists.specs.Lists.{_∈_, below, Distinct}
-use Rattle.lists.proofs.Lists.{below-lt, lt-below, in-map, of-map, no-element}
+use Rattle.lists.proofs.Lists.{lt-below, in-map, of-map, no-element}
 use Rattle.lists.proofs.Distinct.{pigeonhole}
 use Rattle.sets.specs.Sets.{_∋_, _∌_, _∪_, size, Disjoint, Nested}
 use Rattle.sets.proofs.Sets.{clash, one-in, one-only, size-le, size-less, size-single}
 use Rattle.clusters.specs.PairList.{Similarity, Symmetric}
-use Rattle.clusters.specs.Linkage.{Linkage, single, average, link, Tree, singles, mergedBlocks, blocks}
+use Rattle.clusters.specs.Linkage.{average, link, Tree, singles, mergedBlocks, blocks}
 use Rattle.clusters.specs.Groups.{Kind, strong, clean, splits, index, listed, groupSets, groups, mostGroups, treeLinkage, treeScores}
 use Rattle.clusters.specs.Stability.{Stable}
 use Rattle.clusters.proofs.Groups.{in-groupSets, groups-rise, rising-distinct, listed-index, listed-some, listed-proper, listed-clean-two, listed-split-first}

@@ -1,5 +1,5 @@
 -- The indices of a set of entries (document 01, Definitions), by enumeration of all that they speak of.
-use mathlib.Core.List.{List, [], _∷_, _++_, map}
+use mathlib.Core.List.{List, map}
 use Prim.Native.Nat.{ℕ, _-_}
 use lib.IntN.{ℤ, _+ℤ_, _-ℤ_}
 use Rattle.lists.specs.Lists.{each}

@@ -1,12 +1,10 @@
 -- Laws of the least and the greatest.
-use mathlib.Core.Path.{_≡_, refl, sym, _∙_}
-use mathlib.Core.Bool.{Bool, true, false, not, cond}
+use mathlib.Core.Path.{_≡_, refl, sym, ap, _∙_, subst}
 use mathlib.Core.Logic.{_⊎_, inl, inr}
-use mathlib.Core.List.{List, [], _∷_, map, List·Memᴰ, List·Memᴰ·head, List·Memᴰ·tail, List·Memᴰ·not-nil, Memᴰ·cast}
+use mathlib.Core.List.{List, [], _∷_, map, List·Memᴰ·head, List·Memᴰ·tail, List·Memᴰ·not-nil, Memᴰ·cast}
 use Prim.Native.Nat.{ℕ}
 use lib.IntN.{ℤ, pos}
-use lib.Signed.{_≤ℤ_, _<ℤ_, leZ, ≤ℤ-refl, leZ-yes}
-use lib.Dec.{T}
+use lib.Signed.{_≤ℤ_, leZ, ≤ℤ-refl, leZ-yes}
 use Rattle.lists.specs.Lists.{_∈_, each}
 use Rattle.lists.proofs.Tests.{cond-elim}
 use Rattle.lists.proofs.Lists.{in-each, of-each, in-map, of-map}
@@ -37,45 +35,6 @@ pub max-is : (a b : ℤ) → (maxZ a b ≡ a) ⊎ (maxZ a b ≡ b)
 unfolding maxZ
 max-is a b = cond-elim (leZ a b) b a (λ z. (z ≡ a) ⊎ (z ≡ b)) (λ t. inr refl) (λ t. inl refl)
 
-pub least-le : (l : List ℤ) {z : ℤ} → z ∈ l → least l ≤ℤ z
-unfolding least
-least-le (x ∷ []) (List·Memᴰ·head e) = omega zarith
-least-le (x ∷ []) (List·Memᴰ·tail h) = absurd (List·Memᴰ·not-nil h)
-least-le (x ∷ y ∷ l) (List·Memᴰ·head e) = omega (zarith, min-left x (least (y ∷ l)))
-least-le (x ∷ y ∷ l) (List·Memᴰ·tail h) = let k = least-le (y ∷ l) h in omega (zarith, min-right x (least (y ∷ l)))
-
-pub greatest-ge : (l : List ℤ) {z : ℤ} → z ∈ l → z ≤ℤ greatest l
-unfolding greatest
-greatest-ge (x ∷ []) (List·Memᴰ·head e) = omega zarith
-greatest-ge (x ∷ []) (List·Memᴰ·tail h) = absurd (List·Memᴰ·not-nil h)
-greatest-ge (x ∷ y ∷ l) (List·Memᴰ·head e) = omega (zarith, max-left x (greatest (y ∷ l)))
-greatest-ge (x ∷ y ∷ l) (List·Memᴰ·tail h) = let k = greatest-ge (y ∷ l) h in omega (zarith, max-right x (greatest (y ∷ l)))
-
--- of a list with an element, the least and the greatest are elements
-pub least-in : (x : ℤ) (l : List ℤ) → least (x ∷ l) ∈ (x ∷ l)
-unfolding least
-least-in x [] = List·Memᴰ·head refl
-least-in x (y ∷ l) = go (least-in y l) (min-is x (least (y ∷ l)))
-  where
-    go : least (y ∷ l) ∈ (y ∷ l) → (minZ x (least (y ∷ l)) ≡ x) ⊎ (minZ x (least (y ∷ l)) ≡ least (y ∷ l)) → minZ x (least (y ∷ l)) ∈ (x ∷ y ∷ l)
-    go ih (inl e) = List·Memᴰ·head e
-    go ih (inr e) = List·Memᴰ·tail (Memᴰ·cast e ih)
-
-pub greatest-in : (x : ℤ) (l : List ℤ) → greatest (x ∷ l) ∈ (x ∷ l)
-unfolding greatest
-greatest-in x [] = List·Memᴰ·head refl
-greatest-in x (y ∷ l) = go (greatest-in y l) (max-is x (greatest (y ∷ l)))
-  where
-    go : greatest (y ∷ l) ∈ (y ∷ l) → (maxZ x (greatest (y ∷ l)) ≡ x) ⊎ (maxZ x (greatest (y ∷ l)) ≡ greatest (y ∷ l)) → maxZ x (greatest (y ∷ l)) ∈ (x ∷ y ∷ l)
-    go ih (inl e) = List·Memᴰ·head e
-    go ih (inr e) = List·Memᴰ·tail (Memᴰ·cast e ih)
-
-pub greatest-of : (l : List ℤ) {z : ℤ} → z ∈ l → greatest l ∈ l
-greatest-of (x ∷ l) m = greatest-in x l
-
-pub least-of : (l : List ℤ) {z : ℤ} → z ∈ l → least l ∈ l
-least-of (x ∷ l) m = least-in x l
-
 pub max-comm : (a b : ℤ) → maxZ a b ≡ maxZ b a
 max-comm a b = go (max-is a b) (max-is b a)
   where
@@ -85,24 +44,83 @@ max-comm a b = go (max-is a b) (max-is b a)
     go (inr e) (inl f) = e ∙ sym f
     go (inr e) (inr f) = omega (zarith, max-left a b, max-left b a)
 
--- two lists with the same numbers have one least
-pub least-same : (l m : List ℤ) → ((z : ℤ) → z ∈ l → z ∈ m) → ((z : ℤ) → z ∈ m → z ∈ l) → least l ≡ least m
-least-same [] [] f g = refl
-least-same [] (y ∷ m) f g = absurd (List·Memᴰ·not-nil (g y (List·Memᴰ·head refl)))
-least-same (x ∷ l) [] f g = absurd (List·Memᴰ·not-nil (f x (List·Memᴰ·head refl)))
-least-same (x ∷ l) (y ∷ m) f g =
-    let a = least-le (y ∷ m) (f (least (x ∷ l)) (least-of (x ∷ l) (List·Memᴰ·head refl))) in
-    let b = least-le (x ∷ l) (g (least (y ∷ m)) (least-of (y ∷ m) (List·Memᴰ·head refl))) in
-    omega zarith
+-- What is taken from a list by a choice between two: one argument for the least and the greatest. R a b says that a is chosen before b,
+-- or as well.
+record Choice (m : ℤ → ℤ → ℤ) (R : ℤ → ℤ → Type 0) : Type 0 where
+  itself : (a : ℤ) → R a a
+  left : (a b : ℤ) → R (m a b) a
+  right : (a b : ℤ) → R (m a b) b
+  one : (a b : ℤ) → (m a b ≡ a) ⊎ (m a b ≡ b)
+  trans : (a b c : ℤ) → R a b → R b c → R a c
+  both : (a b : ℤ) → R a b → R b a → a ≡ b
 
-pub greatest-same : (l m : List ℤ) → ((z : ℤ) → z ∈ l → z ∈ m) → ((z : ℤ) → z ∈ m → z ∈ l) → greatest l ≡ greatest m
-greatest-same [] [] f g = refl
-greatest-same [] (y ∷ m) f g = absurd (List·Memᴰ·not-nil (g y (List·Memᴰ·head refl)))
-greatest-same (x ∷ l) [] f g = absurd (List·Memᴰ·not-nil (f x (List·Memᴰ·head refl)))
-greatest-same (x ∷ l) (y ∷ m) f g =
-    let a = greatest-ge (y ∷ m) (f (greatest (x ∷ l)) (greatest-of (x ∷ l) (List·Memᴰ·head refl))) in
-    let b = greatest-ge (x ∷ l) (g (greatest (y ∷ m)) (greatest-of (y ∷ m) (List·Memᴰ·head refl))) in
-    omega zarith
+chosen : (ℤ → ℤ → ℤ) → List ℤ → ℤ
+chosen m [] = pos 0
+chosen m (x ∷ []) = x
+chosen m (x ∷ y ∷ l) = m x (chosen m (y ∷ l))
+
+module _ (m : ℤ → ℤ → ℤ) (R : ℤ → ℤ → Type 0) (c : Choice m R) where
+  chosen-first : (l : List ℤ) {z : ℤ} → z ∈ l → R (chosen m l) z
+  unfolding chosen
+  chosen-first (x ∷ []) {z} (List·Memᴰ·head e) = subst (R x) (sym e) (c .itself x)
+  chosen-first (x ∷ []) (List·Memᴰ·tail h) = absurd (List·Memᴰ·not-nil h)
+  chosen-first (x ∷ y ∷ l) {z} (List·Memᴰ·head e) = subst (R (m x (chosen m (y ∷ l)))) (sym e) (c .left x (chosen m (y ∷ l)))
+  chosen-first (x ∷ y ∷ l) {z} (List·Memᴰ·tail h) = c .trans (m x (chosen m (y ∷ l))) (chosen m (y ∷ l)) z (c .right x (chosen m (y ∷ l))) (chosen-first (y ∷ l) h)
+
+  -- of a list with an element, it is an element
+  chosen-in : (x : ℤ) (l : List ℤ) → chosen m (x ∷ l) ∈ (x ∷ l)
+  unfolding chosen
+  chosen-in x [] = List·Memᴰ·head refl
+  chosen-in x (y ∷ l) = go (chosen-in y l) (c .one x (chosen m (y ∷ l)))
+    where
+      go : chosen m (y ∷ l) ∈ (y ∷ l) → (m x (chosen m (y ∷ l)) ≡ x) ⊎ (m x (chosen m (y ∷ l)) ≡ chosen m (y ∷ l)) → m x (chosen m (y ∷ l)) ∈ (x ∷ y ∷ l)
+      go ih (inl e) = List·Memᴰ·head e
+      go ih (inr e) = List·Memᴰ·tail (Memᴰ·cast e ih)
+
+  chosen-same : (l k : List ℤ) → ((z : ℤ) → z ∈ l → z ∈ k) → ((z : ℤ) → z ∈ k → z ∈ l) → chosen m l ≡ chosen m k
+  chosen-same [] [] f g = refl
+  chosen-same [] (y ∷ k) f g = absurd (List·Memᴰ·not-nil (g y (List·Memᴰ·head refl)))
+  chosen-same (x ∷ l) [] f g = absurd (List·Memᴰ·not-nil (f x (List·Memᴰ·head refl)))
+  chosen-same (x ∷ l) (y ∷ k) f g = c .both (chosen m (x ∷ l)) (chosen m (y ∷ k))
+      (chosen-first (x ∷ l) (g (chosen m (y ∷ k)) (chosen-in y k))) (chosen-first (y ∷ k) (f (chosen m (x ∷ l)) (chosen-in x l)))
+
+smaller : Choice minZ _≤ℤ_
+smaller = record { itself = ≤ℤ-refl; left = min-left; right = min-right; one = min-is; trans = λ a b c h k. omega zarith; both = λ a b h k. omega zarith }
+
+larger : Choice maxZ (λ a b. b ≤ℤ a)
+larger = record { itself = ≤ℤ-refl; left = max-left; right = max-right; one = max-is; trans = λ a b c h k. omega zarith; both = λ a b h k. omega zarith }
+
+least-is : (l : List ℤ) → least l ≡ chosen minZ l
+unfolding least chosen
+least-is [] = refl
+least-is (x ∷ []) = refl
+least-is (x ∷ y ∷ l) = ap (minZ x) (least-is (y ∷ l))
+
+greatest-is : (l : List ℤ) → greatest l ≡ chosen maxZ l
+unfolding greatest chosen
+greatest-is [] = refl
+greatest-is (x ∷ []) = refl
+greatest-is (x ∷ y ∷ l) = ap (maxZ x) (greatest-is (y ∷ l))
+
+pub least-le : (l : List ℤ) {z : ℤ} → z ∈ l → least l ≤ℤ z
+least-le l h = rw (least-is l) (chosen-first minZ _≤ℤ_ smaller l h)
+
+pub greatest-ge : (l : List ℤ) {z : ℤ} → z ∈ l → z ≤ℤ greatest l
+greatest-ge l h = rw (greatest-is l) (chosen-first maxZ (λ a b. b ≤ℤ a) larger l h)
+
+-- of a list with an element, both are elements
+pub least-of : (l : List ℤ) {z : ℤ} → z ∈ l → least l ∈ l
+least-of (x ∷ l) h = Memᴰ·cast (least-is (x ∷ l)) (chosen-in minZ _≤ℤ_ smaller x l)
+
+pub greatest-of : (l : List ℤ) {z : ℤ} → z ∈ l → greatest l ∈ l
+greatest-of (x ∷ l) h = Memᴰ·cast (greatest-is (x ∷ l)) (chosen-in maxZ (λ a b. b ≤ℤ a) larger x l)
+
+-- two lists with the same numbers have one least and one greatest
+pub least-same : (l k : List ℤ) → ((z : ℤ) → z ∈ l → z ∈ k) → ((z : ℤ) → z ∈ k → z ∈ l) → least l ≡ least k
+least-same l k f g = least-is l ∙ chosen-same minZ _≤ℤ_ smaller l k f g ∙ sym (least-is k)
+
+pub greatest-same : (l k : List ℤ) → ((z : ℤ) → z ∈ l → z ∈ k) → ((z : ℤ) → z ∈ k → z ∈ l) → greatest l ≡ greatest k
+greatest-same l k f g = greatest-is l ∙ chosen-same maxZ (λ a b. b ≤ℤ a) larger l k f g ∙ sym (greatest-is k)
 
 -- the least of the leasts
 pub least-each : (l : List ℕ) (f : ℕ → List ℤ) → ((x : ℕ) → x ∈ l → (z : ℤ) × (z ∈ f x)) → {x : ℕ} → x ∈ l → least (map (λ x. least (f x)) l) ≡ least (each l f)

@@ -1,16 +1,16 @@
 -- Linear arithmetic on ℤ by `omega`: z is up z − dn z. A goal or hypothesis of ≤ℤ, <ℤ or ≡ is read through `zarith`; each sum,
 -- difference and product in play wants its law `+at`, `-at`, `*at` in the list.
 use mathlib.Core.Path.{_≡_, refl, ap}
-use mathlib.Core.Bool.{Bool, true, false, not, cond}
+use mathlib.Core.Bool.{not}
 use mathlib.Core.Logic.{_⊎_, inl, inr}
 use Prim.Native.Nat.{ℕ, zero, suc, _+_, _-_, _*_, _≤_, _<_}
 use native.Mathlib.Omega.{arith}
 use native.Mathlib.Nat.{mul-le-mul-left, mul-le-mul-right, le-of-mul-le-mul-left, mul-comm}
 use lib.IntN.{ℤ, pos, negsuc, negℤ, subℕ, _+ℤ_, _-ℤ_, _*ℤ_}
 use lib.Signed.{_≤ℤ_, _<ℤ_, leZ, ltZ, leZ-yes}
-use lib.Dec.{T, leb, ltb, leb→le, le→leb, ltb→lt, lt→ltb, nltb→le, nleb→lt}
+use lib.Dec.{T, ltb, leb→le, le→leb, ltb→lt, lt→ltb, nltb→le, nleb→lt}
 use Rattle.lists.proofs.Tests.{cond-elim, T-or-not, T-and, and-T}
-use Rattle.integers.specs.Integers.{eqZ, minZ, maxZ}
+use Rattle.integers.specs.Integers.{eqZ}
 
 unfoldable pub up : ℤ → ℕ
 up (pos n) = n

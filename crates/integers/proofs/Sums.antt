@@ -1,19 +1,19 @@
 -- Laws of finite sums.
 use mathlib.Core.Path.{_≡_, refl, sym, ap, ap₂, _∙_, subst, subst₂}
-use mathlib.Core.Bool.{Bool, true, false, not, cond}
-use mathlib.Core.Logic.{_⊎_, inl, inr}
-use mathlib.Core.List.{List, [], _∷_, _++_, map, List·Memᴰ, List·Memᴰ·head, List·Memᴰ·tail, List·Memᴰ·cases-cons}
-use Prim.Native.Nat.{ℕ, zero, suc, _+_, _*_, _≤_, _<_}
-use native.Mathlib.Omega.{arith}
-use lib.IntN.{ℤ, pos, negsuc, _+ℤ_, _-ℤ_, _*ℤ_, +ℤ-idl, +ℤ-idr, +ℤ-assoc, +ℤ-comm, sucℤ-*ℤ, zero-*ℤ, *ℤ-zero}
+use mathlib.Core.Bool.{Bool, true, false, cond}
+use mathlib.Core.Logic.{_⊎_, inl, inr, _≢_}
+use mathlib.Core.List.{List, [], _∷_, _++_, map, List·Memᴰ·head, List·Memᴰ·tail, List·Memᴰ·cases-cons}
+use Prim.Native.Nat.{ℕ, _<_}
+use lib.IntN.{ℤ, pos, _+ℤ_, _-ℤ_, _*ℤ_, +ℤ-idl, +ℤ-idr, +ℤ-assoc, +ℤ-comm, sucℤ-*ℤ, zero-*ℤ, *ℤ-zero}
 use lib.Signed.{_≤ℤ_, _<ℤ_, ≤ℤ-refl, leZ, leZ-yes}
 use lib.Dec.{T, eqb, eqb→eq}
 use lib.ListN.{length}
 use Rattle.lists.specs.Lists.{_∈_, below, each, keep, erase}
 use Rattle.lists.proofs.Tests.{true-T, false-T, eqb-no}
-use Rattle.lists.proofs.Lists.{below-lt, keep-one}
-use Rattle.integers.specs.Integers.{sumOf, sum}
-use Rattle.integers.proofs.Linear.{up, dn, zarith, +at, -at, *at, four, four-sub, *-add, leZ-no}
+use Rattle.lists.proofs.Lists.{keep-one}
+use Rattle.lists.proofs.Distinct.{in-erase}
+use Rattle.integers.specs.Integers.{sumOf}
+use Rattle.integers.proofs.Linear.{up, dn, zarith, +at, four, four-sub, *-add, leZ-no}
 
 module _ {ℓ} {A : Type ℓ} where
   pub sum-cong : (l : List A) (f g : A → ℤ) → ((x : A) → x ∈ l → f x ≡ g x) → sumOf l f ≡ sumOf l g
@@ -135,3 +135,10 @@ sum-snoc l x f = sum-append l (x ∷ []) f ∙ ap (λ z. sumOf l f +ℤ z) (+ℤ
 pub sum-one : (n c : ℕ) → c < n → (f : ℕ → ℤ) → sumOf (below n) (λ j. cond (eqb j c) (f j) (pos 0)) ≡ f c
 unfolding sumOf
 sum-one n c h f = sym (sum-keep (λ j. eqb j c) (below n) f) ∙ ap (λ l. sumOf l f) (keep-one n c h) ∙ +ℤ-idr (f c)
+
+-- two different elements taken out
+pub sum-two : (U W : ℕ) (bs : List ℕ) (f : ℕ → ℤ) → U ∈ bs → W ∈ bs → U ≢ W → sumOf bs f ≡ (f U +ℤ f W) +ℤ sumOf (erase U (erase W bs)) f
+sum-two U W bs f hu hw ne = end (f U) (f W) (sumOf (erase U (erase W bs)) f) (sumOf (erase W bs) f) (sumOf bs f) (sum-erase W bs f hw) (sum-erase U (erase W bs) f (in-erase W bs ne hu))
+  where
+    end : (u w r e b : ℤ) → b ≡ w +ℤ e → e ≡ u +ℤ r → b ≡ (u +ℤ w) +ℤ r
+    end u w r e b p q = omega (zarith, +at w e, +at u r, +at u w, +at (u +ℤ w) r)

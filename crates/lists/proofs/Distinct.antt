@@ -1,14 +1,14 @@
 -- Lists in which no element stands twice, and how many there can be.
-use mathlib.Core.Path.{_≡_, refl, sym, ap, _∙_, subst}
-use mathlib.Core.Bool.{Bool, true, false, not, cond}
+use mathlib.Core.Path.{_≡_, refl, sym, ap, _∙_}
+use mathlib.Core.Bool.{Bool, true, false, cond}
 use mathlib.Core.Logic.{_≢_, _⊎_, inl, inr}
-use mathlib.Core.List.{List, [], _∷_, _++_, map, List·Memᴰ, List·Memᴰ·head, List·Memᴰ·tail, List·Memᴰ·not-nil, List·Memᴰ·cases-cons, Memᴰ·cast}
-use Prim.Native.Nat.{ℕ, zero, suc, _+_, _≤_, _<_}
+use mathlib.Core.List.{List, [], _∷_, List·Memᴰ·head, List·Memᴰ·tail, List·Memᴰ·cases-cons, Memᴰ·cast}
+use Prim.Native.Nat.{ℕ, suc, _≤_}
 use native.Mathlib.Omega.{arith}
-use lib.Dec.{T, eqb, eqb→eq, eqb-refl, T-not}
+use lib.Dec.{eqb, eqb→eq}
 use lib.ListN.{length}
 use Rattle.lists.specs.Lists.{_∈_, erase, Distinct}
-use Rattle.lists.proofs.Tests.{true-T, false-T, eqb-yes, eqb-no}
+use Rattle.lists.proofs.Tests.{true-T, false-T, eqb-no}
 
 pub of-erase : (x : ℕ) (l : List ℕ) {y : ℕ} → y ∈ erase x l → y ∈ l
 unfolding erase

@@ -2,19 +2,19 @@
 use mathlib.Core.Path.{_≡_, refl, sym, ap, _∙_, subst}
 use mathlib.Core.Bool.{Bool, true, false, not, cond, _&&_}
 use mathlib.Core.Logic.{_⊎_, inl, inr, _≢_}
-use mathlib.Core.List.{List, [], _∷_, _++_, append-nil}
-use Prim.Native.Nat.{ℕ, zero, suc, _+_, _-_, _*_, _/_, _%_, _^_, _≤_, _<_, max, min}
+use mathlib.Core.List.{[], _∷_, _++_, append-nil}
+use Prim.Native.Nat.{ℕ, zero, suc, _+_, _*_, _/_, _%_, _^_, _≤_, _<_, max, min}
 use native.Mathlib.Nat.{div-one, div-self, zero-div, div-div-eq-div-mul, pow-succ'}
 use native.Mathlib.Decide.{ℕ-discrete}
 use native.Mathlib.Omega.{arith}
 use lib.Pow.{pow-pos}
-use lib.Bits.{bitOr, bitAnd, or-step, and-step, and-le-l, or-shr, or-lt, or-disjoint}
+use lib.Bits.{bitAnd, or-step, and-step, and-le-l, or-shr, or-lt, or-disjoint}
 use lib.Dec.{T, eqb, eqb→eq, T-not}
 use lib.ListN.{length, length-append}
 use Rattle.lists.specs.Lists.{_∈_, below, keep}
-use Rattle.lists.proofs.Tests.{and-T, T-and, T-true, T-false}
+use Rattle.lists.proofs.Tests.{and-T, T-and}
 use Rattle.lists.proofs.Lists.{below-lt, lt-below, in-keep, of-keep, keep-yes, keep-no, keep-append, some-length, length-some}
-use Rattle.sets.specs.Sets.{has, _∋_, _∌_, members, others, size, _∪_, mask, complement, difference, Subset, Disjoint, Nested}
+use Rattle.sets.specs.Sets.{has, _∋_, _∌_, members, others, size, _∪_, mask, complement, difference, Subset}
 
 pub has-yes : (A i : ℕ) → T (has A i) → A ∋ i
 unfolding has
