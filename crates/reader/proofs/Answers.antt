@@ -1,10 +1,10 @@
 -- The table of checks, line by line, and the answers.
 use mathlib.Core.Path.{_≡_, refl, sym, ap, ap₂, _∙_}
-use mathlib.Core.Bool.{Bool, true, false, cond, _&&_, _||_}
-use mathlib.Core.List.{List, [], _∷_, _++_, map}
-use Prim.Native.Nat.{ℕ, zero, suc, _+_, _-_, _≤_, _<_}
+use mathlib.Core.Bool.{Bool, true, false, not, cond, _&&_}
+use mathlib.Core.List.{List, [], _∷_, _++_}
+use Prim.Native.Nat.{ℕ, zero, suc, _+_, _≤_, _<_}
 use native.Mathlib.Omega.{arith}
-use borrow.Author.Tests.{ne-eqb, eqb-true, eqb-false, ltb-false, lt-ltb, le-ltb}
+use borrow.Author.Tests.{not-false, ne-eqb, eqb-true, eqb-false, ltb-false, lt-ltb, le-ltb}
 use lib.Dec.{eqb, ltb}
 use lib.IntN.{ℤ}
 use lib.ListN.{length, getD, take}
@@ -14,12 +14,12 @@ use Rattle.lists.proofs.Lists.{map-cong, below-lt}
 use Rattle.integers.specs.Integers.{eqZ}
 use Rattle.clusters.specs.PairList.{Similarity, pairList, rowStart}
 use Rattle.clusters.specs.Refusals.{firstOf, wrongCount}
-use Rattle.sheet.specs.Sheet.{names, entries, value, pairs, mirrored, wrongLength, sheetChecks, nameOf}
-use Rattle.reader.specs.declared.Reading.{Reading}
+use Rattle.sheet.specs.Sheet.{names, entries, value, pairs, mirrored, sheetChecks, nameOf, wrongLength, wrongByte, wrongNames, equalNames, wrongLines, wrongValues}
 use Rattle.reader.specs.declared.Reading.the-variants.{Entries, Refused}
 use Rattle.reader.specs.Answer.{reading, slots, square, Holds}
 use Rattle.reader.proofs.Below.{below-cong}
-use Rattle.reader.proofs.Slots.{pairs-next, pairs-taken}
+use Rattle.reader.proofs.Rows.{or-none}
+use Rattle.reader.proofs.Slots.{pairs-next, pairs-count, pairs-taken, start-room}
 
 -- the first line of a table holds, or not
 pub hit : (k : ℕ) {b : Bool} (l : List (ℕ × Bool)) → b ≡ true → firstOf ((k, b) ∷ l) ≡ k
@@ -35,20 +35,16 @@ unfolding firstOf
 none = refl
 
 -- what the tests that precede a call of `wrong_lines` and `read_rows` say
-or-false : (a b : Bool) → (a || b) ≡ false → (a ≡ false) × (b ≡ false)
-or-false true b e = let z : _≡_ {A = ℕ} 0 1 = cc in absurd (omega arith)
-or-false false b e = (refl, e)
-
 pub length-right : (s : List ℕ) → wrongLength s ≡ false → (0 < length s) × (length s ≤ 12288)
 unfolding wrongLength
 length-right s e =
-    let p = or-false (eqb (length s) 0) (ltb 12288 (length s)) e in
+    let p = or-none (eqb (length s) 0) (ltb 12288 (length s)) e in
     let f = eqb-false (length s) 0 (p .0) in
     (omega arith, ltb-false 12288 (length s) (p .1))
 
 pub count-right : (n : ℕ) → wrongCount n ≡ false → n ≤ 32
 unfolding wrongCount
-count-right n e = ltb-false 32 n (or-false (eqb n 0) (ltb 32 n) e .1)
+count-right n e = ltb-false 32 n (or-none (eqb n 0) (ltb 32 n) e .1)
 
 -- the square in place of the values
 pub mirrored-same : (l : List ℤ) (n : ℕ) (v : Similarity) → Holds l n v → mirrored n (square l) ≡ mirrored n v
@@ -74,11 +70,6 @@ module _ (s : List ℕ) (l : List ℤ) where
   pub passed : (n : ℕ) (m : List ℤ) → firstOf (sheetChecks s) ≡ 0 → n ≡ entries s → Holds m n (value s) → (Entries n ≡ reading s) × (sets l 0 (pairList n (square m)) ≡ slots s l)
   unfolding reading slots pairs
   passed n m e is h = (rw (e, is), rw (e, pairs-same n (square m) (value s) h, is))
-
--- the first slots of a sheet that passes are its pair list
-pub slots-pairs : (s : List ℕ) (l : List ℤ) → firstOf (sheetChecks s) ≡ 0 → rowStart (entries s) ≤ length l → take (rowStart (entries s)) (slots s l) ≡ pairs s
-unfolding slots pairs
-slots-pairs s l e h = rw e (pairs-taken (value s) (entries s) l h)
 
 -- the number of the refusal in an answer, and the entries
 pub number-is : (s : List ℕ) (k : ℕ) → reading s ≡ Refused k → k ≡ firstOf (sheetChecks s)
@@ -118,3 +109,53 @@ module _ (s : List ℕ) (i : ℕ) where
   name-at n e h =
       let q = entries-is s n e in
       rw (q .0, lt-ltb i (entries s) (omega arith))
+
+-- what holds of a sheet that passes
+unhit : (k : ℕ) (b : Bool) (l : List (ℕ × Bool)) → (k ≡ 0 → ⊥) → firstOf ((k, b) ∷ l) ≡ 0 → (b ≡ false) × (firstOf l ≡ 0)
+unfolding firstOf
+unhit k true l f e = absurd (f e)
+unhit k false l f e = (refl, e)
+
+pub record Passes (s : List ℕ) : Type 0 where
+  pub size : wrongLength s ≡ false
+  pub bytes : wrongByte s ≡ false
+  pub names : wrongNames s ≡ false
+  pub distinct : equalNames s ≡ false
+  pub count : wrongCount (entries s) ≡ false
+  pub lines : wrongLines s ≡ false
+  pub values : wrongValues s ≡ false
+  pub mirror : mirrored (entries s) (value s) ≡ true
+
+pub passes-all : (s : List ℕ) → firstOf (sheetChecks s) ≡ 0 → Passes s
+unfolding sheetChecks
+passes-all s e =
+    let a = unhit 2 (wrongLength s) _ (λ z. omega arith) e in
+    let b = unhit 3 (wrongByte s) _ (λ z. omega arith) (a .1) in
+    let c = unhit 4 (wrongNames s) _ (λ z. omega arith) (b .1) in
+    let d = unhit 5 (equalNames s) _ (λ z. omega arith) (c .1) in
+    let f = unhit 6 (wrongCount (entries s)) _ (λ z. omega arith) (d .1) in
+    let g = unhit 7 (wrongLines s) _ (λ z. omega arith) (f .1) in
+    let h = unhit 8 (wrongValues s) _ (λ z. omega arith) (g .1) in
+    let m = unhit 9 (not (mirrored (entries s) (value s))) _ (λ z. omega arith) (h .1) in
+    record {
+      size = a .0;
+      bytes = b .0;
+      names = c .0;
+      distinct = d .0;
+      count = f .0;
+      lines = g .0;
+      values = h .0;
+      mirror = not-false _ (m .0);
+    }
+
+pub passes-few : (s : List ℕ) → firstOf (sheetChecks s) ≡ 0 → entries s ≤ 32
+passes-few s e = count-right (entries s) (passes-all s e .count)
+
+pub pairs-length : (s : List ℕ) → length (pairs s) ≡ rowStart (entries s)
+unfolding pairs
+pairs-length s = pairs-count (value s) (entries s)
+
+-- the first slots of a sheet that passes are its pair list
+pub slots-pairs : (s : List ℕ) (l : List ℤ) → length l ≡ 528 → firstOf (sheetChecks s) ≡ 0 → take (rowStart (entries s)) (slots s l) ≡ pairs s
+unfolding slots pairs
+slots-pairs s l h e = rw e (pairs-taken (value s) (entries s) l (omega (arith, start-room (entries s) (passes-few s e))))

@@ -1,13 +1,12 @@
 -- A test of every number below n, one after the other.
-use mathlib.Core.Path.{_≡_, refl, sym, ap, _∙_}
-use mathlib.Core.Bool.{Bool, true, false, _&&_, and-true}
+use mathlib.Core.Path.{_≡_, refl, sym, _∙_}
+use mathlib.Core.Bool.{Bool, true, false, _&&_}
 use mathlib.Core.List.{List, [], _∷_, _++_}
 use Prim.Native.Nat.{ℕ, zero, suc, _+_, _<_}
 use native.Mathlib.Numerals.{add-one}
 use native.Mathlib.Omega.{arith}
-use lib.Dec.{T}
-use Rattle.lists.specs.Lists.{below, all, _∈_}
-use Rattle.lists.proofs.Lists.{lt-below, below-lt, all-in}
+use Rattle.lists.specs.Lists.{below, all}
+use Rattle.lists.proofs.Lists.{lt-below, all-in}
 use Rattle.lists.proofs.Tests.{true-T, T-true}
 
 module _ (p : ℕ → Bool) where

@@ -1,12 +1,10 @@
 -- The pieces of a line by their number.
 use mathlib.Core.Path.{_≡_, refl, sym, ap, _∙_}
-use mathlib.Core.Bool.{Bool, true, false}
 use mathlib.Core.List.{List, [], _∷_}
-use mathlib.Core.Logic.{_⊎_, inl, inr}
 use Prim.Native.Nat.{ℕ, zero, suc, _+_, _-_, _≤_, _<_}
 use native.Mathlib.Omega.{arith}
 use native.Mathlib.Decide.{decLt}
-use lib.ListN.{length, getD, take, drop, length-drop}
+use lib.ListN.{length, getD, take, drop}
 use lib.Seq.{take-take}
 use Rattle.text.specs.Text.{cut}
 use Rattle.text.specs.Reading.{pieceAt}
@@ -28,7 +26,7 @@ module _ (c : ℕ) (s : List ℕ) (at end left : ℕ) (inside : at ≤ length s)
       record {
         inside = h;
         count = omega (arith, ap length p);
-        same = ap (λ (k : ℕ). getD (cut c (drop at s)) k []) e ∙ ap (λ (l : List (List ℕ)). getD l (suc (left - 1)) []) p
+        same = ap (λ (k : ℕ). getD (cut c (drop at s)) k []) e ∙ ap (λ (l : List (List ℕ)). getD l (suc (left - 1)) []) p;
       }
   next-by (no f) = absurd (omega (arith, ap length (pieces-last c s at end inside is (omega arith))))
 

@@ -1,25 +1,28 @@
 -- A line of values, piece by piece.
-use mathlib.Core.Path.{_≡_, refl, sym, ap, _∙_}
-use mathlib.Core.Bool.{Bool, true, false, _&&_, cond, and-true, and-false}
-use mathlib.Core.List.{List, [], _∷_, map}
-use Prim.Native.Nat.{ℕ, zero, suc, _+_, _-_, _≤_, _<_}
+use mathlib.Core.Path.{_≡_, refl, ap}
+use mathlib.Core.Bool.{Bool, true, false, not, cond, _||_, and-true, and-false}
+use mathlib.Core.List.{List, map}
+use Prim.Native.Nat.{ℕ, suc, _+_, _≤_, _<_}
 use native.Mathlib.Numerals.{add-one}
 use native.Mathlib.Omega.{arith}
 use borrow.Author.Tests.{eqb-true, ne-eqb}
 use lib.Dec.{eqb, eqb·suc-suc}
 use lib.IntN.{ℤ}
-use lib.ListN.{length, getD, set, drop}
+use lib.ListN.{length, set, drop}
 use lib.Seq.{sets}
 use Rattle.lists.specs.Lists.{all}
 use Rattle.text.specs.Text.{cut, isValue, valueOf}
 use Rattle.text.specs.Reading.{pieceAt, valueAt}
 use Rattle.text.specs.declared.Cursor.{Cursor}
-use Rattle.text.specs.declared.ValueRead.{ValueRead}
 use Rattle.text.specs.declared.ValueRead.the-variants.{Value, Refused}
 use Rattle.text.proofs.Pieces.{some-piece, pieces-more, pieces-last}
 use Rattle.text.proofs.Words.{and-left}
 use Rattle.sheet.specs.Sheet.{isRow}
 use Rattle.sheet.proofs.Lines.{pieces-from}
+
+pub or-none : (a b : Bool) → (a || b) ≡ false → (a ≡ false) × (b ≡ false)
+or-none true b e = let z : _≡_ {A = ℕ} 0 1 = cc in absurd (omega arith)
+or-none false b e = (refl, e)
 
 -- what an answer of `read_value` says
 pub record Got (s : List ℕ) (at : ℕ) (v : ℤ) (next : Cursor) : Type 0 where
@@ -72,9 +75,17 @@ module _ (line : List ℕ) (at end : ℕ) (inside : at ≤ length line) (is : en
   pub store-more : (l : List ℤ) (i : ℕ) → end < length line → sets (set l i (valueOf (pieceAt 32 line at))) (i + 1) (map valueOf (cut 32 (drop (end + 1) line))) ≡ sets l i (map valueOf (cut 32 (drop at line)))
   store-more l i h = rw (pieces-more 32 line at end inside is h, add-one)
 
--- the answers
-pub row-eight : (n : ℕ) (ws : List (List ℕ)) → isRow n ws ≡ false → _≡_ {A = ℕ} 8 (cond (isRow n ws) 0 8)
+-- a refusal by check 8, or none
+pub refuses : (b : Bool) (r : ℕ) → r ≡ cond b 8 0 → (r ≡ 0 → ⊥) → b ≡ true
+refuses true r e f = refl
+refuses false r e f = absurd (f e)
+
+pub passes : (b : Bool) (r : ℕ) → r ≡ cond b 8 0 → r ≡ 0 → b ≡ false
+passes true r e z = absurd (omega arith)
+passes false r e z = refl
+
+pub row-eight : (n : ℕ) (ws : List (List ℕ)) → isRow n ws ≡ false → _≡_ {A = ℕ} 8 (cond (not (isRow n ws)) 8 0)
 row-eight n ws e = rw e
 
-pub row-zero : (n : ℕ) (ws : List (List ℕ)) → isRow n ws ≡ true → _≡_ {A = ℕ} 0 (cond (isRow n ws) 0 8)
+pub row-zero : (n : ℕ) (ws : List (List ℕ)) → isRow n ws ≡ true → _≡_ {A = ℕ} 0 (cond (not (isRow n ws)) 8 0)
 row-zero n ws e = rw e

@@ -1,26 +1,26 @@
 -- Values stored in a row of slots.
 use mathlib.Core.Path.{_≡_, refl, sym, ap, _∙_}
-use mathlib.Core.Bool.{Bool, true, false, _&&_}
+use mathlib.Core.Bool.{Bool, true, false}
 use mathlib.Core.List.{List, [], _∷_, _++_, map, map-append, append-assoc, append-nil}
-use Prim.Native.Nat.{ℕ, zero, suc, _+_, _-_, _*_, _^_, _≤_, _<_}
+use Prim.Native.Nat.{ℕ, zero, suc, _+_, _*_, _≤_, _<_}
 use native.Mathlib.Numerals.{add-one}
 use native.Mathlib.Nat.{add-zero, suc-mul, mul-suc, mul-le-mul}
 use native.Mathlib.Omega.{arith}
+use lib.IntN.{ℤ}
+use lib.ListN.{length, set, take, drop, length-append, length-map}
+use lib.Seq.{sets, sets-eq, take-at}
 use mir.Val.{SFits, toZ, ofZ}
 use mir.Syntax.{w32}
 use mir.Facts.{toZ-ofZ}
 use Rattle.lists.specs.Lists.{below, each}
 use Rattle.lists.proofs.Lists.{count-below}
-use Rattle.clusters.specs.PairList.{Similarity, pairList, rowStart}
 use Rattle.lists.proofs.Tests.{T-true, true-T}
 use Rattle.integers.specs.Integers.{eqZ}
 use Rattle.integers.proofs.Linear.{eqZ-yes, yes-eqZ}
-use lib.IntN.{ℤ, pos, negsuc}
-use lib.ListN.{length, set, take, drop, length-append, length-map}
-use lib.Seq.{sets, sets-eq, take-at}
+use Rattle.clusters.specs.PairList.{Similarity, pairList, rowStart}
 
 -- two runs of stores, the second where the first ends
-pub sets-sets : (vs : List ℤ) (l : List ℤ) (i : ℕ) (ws : List ℤ) → sets (sets l i vs) (i + length vs) ws ≡ sets l i (vs ++ ws)
+sets-sets : (vs : List ℤ) (l : List ℤ) (i : ℕ) (ws : List ℤ) → sets (sets l i vs) (i + length vs) ws ≡ sets l i (vs ++ ws)
 sets-sets [] l i ws = rw add-zero
 sets-sets (a ∷ vs) l i ws =
     let e : i + suc (length vs) ≡ suc i + length vs = omega arith in
@@ -38,16 +38,19 @@ bits-other x y d = go (eqZ x y) refl
     go false e = refl
 
 -- a value stored behind a run of stores
-pub sets-next : (l : List ℤ) (i k : ℕ) (vs : List ℤ) (v : ℤ) → length vs ≡ k → set (sets l i vs) (i + k) v ≡ sets l i (vs ++ (v ∷ []))
+sets-next : (l : List ℤ) (i k : ℕ) (vs : List ℤ) (v : ℤ) → length vs ≡ k → set (sets l i vs) (i + k) v ≡ sets l i (vs ++ (v ∷ []))
 sets-next l i k vs v e = rw (← e) (sets-sets vs l i (v ∷ []))
 
 -- a row of the triangle, one value after the other
-pub map-next : (f : ℕ → ℤ) (j : ℕ) → map f (below (j + 1)) ≡ map f (below j) ++ (f j ∷ [])
+map-next : (f : ℕ → ℤ) (j : ℕ) → map f (below (j + 1)) ≡ map f (below j) ++ (f j ∷ [])
 unfolding below
 map-next f j = rw add-one (map-append f (below j) (j ∷ []))
 
-pub map-count : (f : ℕ → ℤ) (j : ℕ) → length (map f (below j)) ≡ j
+map-count : (f : ℕ → ℤ) (j : ℕ) → length (map f (below j)) ≡ j
 map-count f j = length-map (below j) f ∙ count-below j
+
+pub row-store : (f : ℕ → ℤ) (l m : List ℤ) (start j : ℕ) → l ≡ sets m start (map f (below j)) → set l (start + j) (f j) ≡ sets m start (map f (below (j + 1)))
+row-store f l m start j e = rw (e, map-next f j) (sets-next m start j (map f (below j)) (f j) (map-count f j))
 
 -- the row starts
 pub row-next : (i : ℕ) → rowStart (i + 1) ≡ rowStart i + (i + 1)
@@ -88,7 +91,7 @@ pairs-count v (suc n) =
     ∙ h
     ∙ ap rowStart (sym e)
 
--- one more row
+-- one more row stored
 pub fill-next : (v : Similarity) (i start : ℕ) (l m : List ℤ) → start ≡ rowStart i → l ≡ sets m 0 (pairList i v) → sets l start (map (v i) (below (suc i))) ≡ sets m 0 (pairList (i + 1) v)
 fill-next v i start l m p q =
     let e : start ≡ 0 + length (pairList i v) = omega (arith, pairs-count v i) in

@@ -1,11 +1,11 @@
 -- The value lines, one after the other, and the square of their values.
 use mathlib.Core.Path.{_≡_, refl, sym, ap, _∙_}
-use mathlib.Core.Bool.{Bool, true, false, not, cond, _||_}
-use mathlib.Core.List.{List, [], _∷_, _++_, map}
+use mathlib.Core.Bool.{true, false, not, cond}
+use mathlib.Core.List.{List, [], _++_, map}
 use mathlib.Core.Logic.{⊎-elim}
-use Prim.Native.Nat.{ℕ, zero, suc, _+_, _-_, _*_, _≤_, _<_}
+use Prim.Native.Nat.{ℕ, suc, _+_, _-_, _*_, _≤_, _<_}
 use native.Mathlib.Numerals.{add-one}
-use native.Mathlib.Nat.{eq-or-lt-of-le, le-of-suc-le-suc, add-zero}
+use native.Mathlib.Nat.{eq-or-lt-of-le, le-of-suc-le-suc}
 use native.Mathlib.Omega.{arith}
 use native.Mathlib.Decide.{decLt}
 use borrow.Author.Tests.{eqb-true, not-false}
@@ -21,15 +21,12 @@ use Rattle.text.proofs.Pieces.{piece-part, pieces-more, pieces-last}
 use Rattle.sheet.specs.Sheet.{lines, entries, words, value, isRow, wrongLines, wrongValues}
 use Rattle.reader.specs.Answer.{square}
 use Rattle.reader.proofs.Below.{below-false}
+use Rattle.reader.proofs.Rows.{or-none}
 
 -- what check 7 leaves
-or-none : (a b : Bool) → (a || b) ≡ false → a ≡ false
-or-none true b e = e
-or-none false b e = refl
-
 pub line-count : (s : List ℕ) → wrongLines s ≡ false → length (lines s) ≡ entries s + 2
 unfolding wrongLines
-line-count s e = eqb-true (length (lines s)) (entries s + 2) (not-false _ (or-none (not (eqb (length (lines s)) (entries s + 2))) _ e))
+line-count s e = eqb-true (length (lines s)) (entries s + 2) (not-false _ (or-none (not (eqb (length (lines s)) (entries s + 2))) _ e .0))
 
 -- a line that is not the last piece, from its place to its end
 pub record Line (s : List ℕ) (at end i : ℕ) : Type 0 where
@@ -45,7 +42,7 @@ module _ (s : List ℕ) (at end i : ℕ) (within : at ≤ length s) (is : end �
       record {
         inside = h;
         part = piece-part 10 s at end within is ∙ ap (λ (l : List (List ℕ)). getD l 0 []) here ∙ getD-drop i (lines s) 0 [] ∙ ap (λ (k : ℕ). getD (lines s) k []) z;
-        next = ap (drop 1) (sym (pieces-more 10 s at end within is h) ∙ here) ∙ drop-drop 1 i (lines s)
+        next = ap (drop 1) (sym (pieces-more 10 s at end within is h) ∙ here) ∙ drop-drop 1 i (lines s);
       }
   line-by (no f) =
       absurd (omega (arith, ap length (sym (pieces-last 10 s at end within is (omega arith)) ∙ here), length-drop i (lines s)))
@@ -61,21 +58,7 @@ pub line-words : (s : List ℕ) (at end i : ℕ) → Line s at end (i + 1) → c
 unfolding words
 line-words s at end i l = ap (cut 32) (l .part ∙ ap (λ (k : ℕ). getD (lines s) k []) (add-one i))
 
--- the answer of a row, and of all
-pub row-yes : (n r : ℕ) (ws : List (List ℕ)) → r ≡ cond (isRow n ws) 0 8 → r ≡ 0 → isRow n ws ≡ true
-row-yes n r ws e z = go (isRow n ws) (sym e ∙ z)
-  where
-    go : (b : Bool) → _≡_ {A = ℕ} (cond b 0 8) 0 → b ≡ true
-    go true q = refl
-    go false q = absurd (omega arith)
-
-pub row-no : (n r : ℕ) (ws : List (List ℕ)) → r ≡ cond (isRow n ws) 0 8 → (r ≡ 0 → ⊥) → isRow n ws ≡ false
-row-no n r ws e f = go (isRow n ws) e
-  where
-    go : (b : Bool) → r ≡ cond b 0 8 → b ≡ false
-    go true q = absurd (f q)
-    go false q = refl
-
+-- the answer
 pub values-wrong : (s : List ℕ) (n i : ℕ) → n ≡ entries s → i < n → isRow n (words s i) ≡ false → _≡_ {A = ℕ} 8 (cond (wrongValues s) 8 0)
 unfolding wrongValues
 values-wrong s n i is h e = rw (← is, below-false (λ k. isRow n (words s k)) n i h e)
@@ -122,17 +105,3 @@ module _ (v : Similarity) (l m : List ℤ) (ws : List (List ℕ)) (n i : ℕ) (f
 pub value-at : (s : List ℕ) (i j : ℕ) → valueOf (getD (words s i) j []) ≡ value s i j
 unfolding value
 value-at s i j = refl
-
-pub rows-no : (s : List ℕ) (r : ℕ) → r ≡ cond (wrongValues s) 8 0 → (r ≡ 0 → ⊥) → wrongValues s ≡ true
-rows-no s r e f = go (wrongValues s) e
-  where
-    go : (b : Bool) → r ≡ cond b 8 0 → b ≡ true
-    go true q = refl
-    go false q = absurd (f q)
-
-pub rows-yes : (s : List ℕ) (r : ℕ) → r ≡ cond (wrongValues s) 8 0 → r ≡ 0 → wrongValues s ≡ false
-rows-yes s r e z = go (wrongValues s) (sym e ∙ z)
-  where
-    go : (b : Bool) → _≡_ {A = ℕ} (cond b 8 0) 0 → b ≡ false
-    go true q = absurd (omega arith)
-    go false q = refl

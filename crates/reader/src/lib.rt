@@ -1,14 +1,14 @@
 ghost use mathlib.Core.Path.{_≡_};
-ghost use mathlib.Core.Bool.{false, cond};
-ghost use mathlib.Core.List.{[], _++_, map};
+ghost use mathlib.Core.Bool.{false, not, cond};
+ghost use mathlib.Core.List.{[], map};
 ghost use Prim.Native.Nat.{suc, _+_, _≤_, _<_};
-ghost use lib.ListN.{length, getD, drop};
+ghost use lib.ListN.{length, getD};
 ghost use lib.Seq.{sets};
 ghost use Rattle.lists.specs.Lists.{all, below};
 ghost use Rattle.integers.specs.Integers.{eqZ};
 ghost use Rattle.text.specs.Text.{space, cut, valueOf};
 ghost use Rattle.text.specs.Reading.{pieceAt};
-ghost use Rattle.clusters.specs.PairList.{pairList, rowStart};
+ghost use Rattle.clusters.specs.PairList.{pairList};
 ghost use Rattle.clusters.specs.Refusals.{firstOf};
 ghost use Rattle.sheet.specs.Sheet.{entries, value, isRow, mirrored, wrongLines, wrongValues, sheetChecks, nameOf};
 ghost use Rattle.reader.specs.Answer.{reading, slots, square, Holds};
@@ -23,7 +23,7 @@ pub enum Reading {
 // Reads a line of n values into the slots from base on; answers 8 if the line is refused, else 0.
 fn read_row(line: &[u8], n: usize, base: usize, values: &mut [i32]) -> usize
     requires { ⌜ base + n ≤ length (now values) ⌝ }
-    ensures { λ r. ⌜ r ≡ cond (isRow n (cut space (now (line .entry)))) 0 8 ⌝ }
+    ensures { λ r. ⌜ r ≡ cond (not (isRow n (cut space (now (line .entry))))) 8 0 ⌝ }
     ensures { λ r. ⌜ (r ≡ 0 → now (values .exit) ≡ sets (now (values .entry)) base (map valueOf (cut space (now (line .entry))))) ⌝ }
 {
     let mut at: usize = 0;
@@ -44,6 +44,23 @@ fn read_row(line: &[u8], n: usize, base: usize, values: &mut [i32]) -> usize
         at = end + 1;
     }
     8
+}
+
+// Reads the n value lines; answers 8 if one is refused, else 0.
+fn read_rows(sheet: &[u8], n: usize, values: &mut [i32]) -> usize
+    requires { ⌜ (n ≡ entries (now sheet)) × (n ≤ 32) × (wrongLines (now sheet) ≡ false) × (length (now values) ≡ 1024) ⌝ }
+    ensures { λ r. ⌜ r ≡ cond (wrongValues (now (sheet .entry))) 8 0 ⌝ }
+    ensures { λ r. ⌜ (r ≡ 0 → Holds (now (values .exit)) n (value (now (sheet .entry)))) ⌝ }
+{
+    let mut at = text::piece_end(sheet, b'\n', 0) + 1;
+    for i in 0..n {
+        let end = text::piece_end(sheet, b'\n', at);
+        if read_row(&sheet[at..end], n, i * 32, values) != 0 {
+            return 8;
+        }
+        at = end + 1;
+    }
+    0
 }
 
 // Row i equals column i.
@@ -98,37 +115,6 @@ fn fill(values: &[i32], n: usize, pairs: &mut [i32; 528])
     }
 }
 
-// The place where piece i of the line starts.
-fn piece_start(line: &[u8], i: usize) -> usize
-    requires { ⌜ i < length (cut space (now line)) ⌝ }
-    ensures { λ r. ⌜ (r ≤ length (now (line .entry))) × (pieceAt space (now (line .entry)) r ≡ getD (cut space (now (line .entry))) i []) ⌝ }
-{
-    let mut at: usize = 0;
-    let mut left = i;
-    while left > 0 {
-        at = text::piece_end(line, b' ', at) + 1;
-        left -= 1;
-    }
-    at
-}
-
-// Reads the n value lines; answers 8 if one is refused, else 0.
-fn read_rows(sheet: &[u8], n: usize, values: &mut [i32]) -> usize
-    requires { ⌜ (n ≡ entries (now sheet)) × (n ≤ 32) × (wrongLines (now sheet) ≡ false) × (length (now values) ≡ 1024) ⌝ }
-    ensures { λ r. ⌜ r ≡ cond (wrongValues (now (sheet .entry))) 8 0 ⌝ }
-    ensures { λ r. ⌜ (r ≡ 0 → Holds (now (values .exit)) n (value (now (sheet .entry)))) ⌝ }
-{
-    let mut at = text::piece_end(sheet, b'\n', 0) + 1;
-    for i in 0..n {
-        let end = text::piece_end(sheet, b'\n', at);
-        if read_row(&sheet[at..end], n, i * 32, values) != 0 {
-            return 8;
-        }
-        at = end + 1;
-    }
-    0
-}
-
 // Checks 2 to 9 and, if none refuses, the pair list in the first slots.
 pub fn read(sheet: &[u8], pairs: &mut [i32; 528]) -> Reading
     ensures { λ r. ⌜ r ≡ reading (now (sheet .entry)) ⌝ }
@@ -173,6 +159,20 @@ pub fn refusal(sheet: &[u8]) -> usize
         return 0;
     };
     number
+}
+
+// The place where piece i of the line starts.
+fn piece_start(line: &[u8], i: usize) -> usize
+    requires { ⌜ i < length (cut space (now line)) ⌝ }
+    ensures { λ r. ⌜ (r ≤ length (now (line .entry))) × (pieceAt space (now (line .entry)) r ≡ getD (cut space (now (line .entry))) i []) ⌝ }
+{
+    let mut at: usize = 0;
+    let mut left = i;
+    while left > 0 {
+        at = text::piece_end(line, b' ', at) + 1;
+        left -= 1;
+    }
+    at
 }
 
 // The name of an entry as its own part of the sheet; the empty part if the sheet is refused or has no such entry.

@@ -1,11 +1,12 @@
 -- The lines of a sheet by their places.
 use mathlib.Core.Path.{_≡_, refl, sym, ap, _∙_}
-use mathlib.Core.Bool.{Bool, true, false, not, cond, _||_}
+use mathlib.Core.Bool.{Bool, true, false, not, cond}
 use mathlib.Core.List.{List, [], _∷_}
 use Prim.Native.Nat.{ℕ, zero, suc, _+_, _-_, _≤_, _<_}
 use native.Mathlib.Omega.{arith}
-use borrow.Author.Tests.{eq-eqb, ne-eqb, eqb-true, eqb-false}
-use lib.Dec.{eqb, eqb·suc-suc}
+use native.Mathlib.Decide.{decLt}
+use borrow.Author.Tests.{eq-eqb, ne-eqb}
+use lib.Dec.{eqb}
 use lib.ListN.{length, getD, take, drop}
 use lib.Seq.{length-take-le}
 use Rattle.lists.specs.Lists.{all}
@@ -55,17 +56,14 @@ module _ (s : List ℕ) (end : ℕ) (is : end ≡ 0 + length (pieceAt 10 s 0)) w
 
 -- a list that is one piece
 whole : (c : ℕ) (t : List ℕ) → length (cut c t) ≡ 1 → length t ≤ length (getD (cut c t) 0 [])
-unfolding cut longer
-whole c [] e = omega arith
-whole c (b ∷ t) e = go (eqb b c) (whole c t) (some-piece c t) e
+unfolding pieceAt
+whole c t e = go (decLt (length (getD (cut c t) 0 [])) (length t))
   where
-    long : (ws : List (List ℕ)) → 0 < length ws → length (longer b ws) ≡ 1 → (length ws ≡ 1) × (length (getD (longer b ws) 0 []) ≡ suc (length (getD ws 0 [])))
-    long [] h e = absurd (omega arith)
-    long (w ∷ ws) h e = (e, refl)
-
-    go : (x : Bool) → (length (cut c t) ≡ 1 → length t ≤ length (getD (cut c t) 0 [])) → 0 < length (cut c t) → length (cond x ([] ∷ cut c t) (longer b (cut c t))) ≡ 1 → suc (length t) ≤ length (getD (cond x ([] ∷ cut c t) (longer b (cut c t))) 0 [])
-    go true ih h e = absurd (omega arith)
-    go false ih h e = let l = long (cut c t) h e in omega (arith, ih (l .0))
+    go : Dec (length (getD (cut c t) 0 []) < length t) → length t ≤ length (getD (cut c t) 0 [])
+    go (yes h) =
+        let p = pieces-more c t 0 (length (getD (cut c t) 0 [])) (omega arith) (omega arith) h in
+        absurd (omega (arith, ap length p, some-piece c (drop (length (getD (cut c t) 0 []) + 1) t)))
+    go (no f) = omega arith
 
 -- the last piece is empty where c stands last
 pub last-piece : (c : ℕ) (s : List ℕ) (k : ℕ) → 0 < length s → length (cut c s) ≡ suc k → eqb (length (getD (cut c s) k [])) 0 ≡ eqb (getD s (length s - 1) 0) c

@@ -4,8 +4,7 @@ ghost use lib.ListN.{length};
 ghost use Rattle.lists.specs.Lists.{all};
 ghost use Rattle.text.specs.Text.{space, cut, isName};
 ghost use Rattle.clusters.specs.Refusals.{wrongCount};
-ghost use Rattle.sheet.specs.Sheet.{entries, sameBytes, isAmong, hasEqual};
-ghost use Rattle.sheet.specs.Sheet.{wrongLength, wrongByte, wrongNames, equalNames, wrongLines};
+ghost use Rattle.sheet.specs.Sheet.{entries, sameBytes, isAmong, hasEqual, wrongLength, wrongByte, wrongNames, equalNames, wrongLines};
 use text::Class;
 
 // Check 2.

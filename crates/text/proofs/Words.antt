@@ -1,23 +1,23 @@
 -- Names and values: what the tests of a word say, and the number that digits stand for.
-use mathlib.Core.Path.{_≡_, refl, sym, ap, _∙_}
-use mathlib.Core.Bool.{Bool, true, false, not, cond, _&&_, _||_, and-false}
+use mathlib.Core.Path.{_≡_, refl, sym, _∙_}
+use mathlib.Core.Bool.{Bool, true, false, not, _&&_, _||_}
 use mathlib.Core.List.{List, [], _∷_}
 use Prim.Native.Nat.{ℕ, zero, suc, _+_, _-_, _*_, _^_, _≤_, _<_}
 use native.Mathlib.Numerals.{add-one}
-use native.Mathlib.Nat.{zero-add, add-zero, pow-suc, pow-le-pow-right}
+use native.Mathlib.Nat.{pow-suc, pow-le-pow-right}
 use native.Mathlib.Omega.{arith}
-use borrow.Author.Tests.{leb-true, le-leb, lt-leb, eq-eqb, ne-eqb}
+use borrow.Author.Tests.{leb-true, eq-eqb, ne-eqb}
 use lib.Dec.{leb, eqb, lit<, leb·suc-suc, eqb·suc-suc}
-use lib.IntN.{ℤ, pos, negsuc, negℤ, _-ℤ_, +ℤ-idl}
-use lib.ListN.{length, getD, drop, length-drop}
-use mir.Val.{SFits, toZ, ofZ}
+use lib.IntN.{pos, negℤ, _-ℤ_, +ℤ-idl}
+use lib.ListN.{length, getD, drop}
+use mir.Val.{SFits, toZ}
 use mir.Syntax.{w32}
-use mir.Facts.{toZ-ofZ, toZ-pos}
+use mir.Facts.{toZ-pos}
 use Rattle.lists.specs.Lists.{all}
 use Rattle.text.specs.Text.{isUpper, isDigit, isName, isNumeral, isValue, numberFrom, valueOf}
 use Rattle.text.specs.Reading.{inClass, pieceAt, valueAt}
 use Rattle.text.specs.declared.ValueRead.the-variants.{Value, Refused}
-use Rattle.text.specs.declared.Class.the-variants.{Digit, NameByte}
+use Rattle.text.specs.declared.Class.the-variants.{NameByte}
 use Rattle.text.proofs.Pieces.{here}
 
 pub and-left : (a b : Bool) → (a && b) ≡ true → a ≡ true

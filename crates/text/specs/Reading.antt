@@ -6,7 +6,6 @@ use lib.ListN.{length, getD, drop}
 use Rattle.text.specs.Text.{space, isUpper, isDigit, isAllowed, cut, isValue, valueOf}
 use Rattle.text.specs.declared.Class.{Class}
 use Rattle.text.specs.declared.Class.the-variants.{Digit, NameByte, Allowed}
-use Rattle.text.specs.declared.Cursor.{Cursor}
 use Rattle.text.specs.declared.ValueRead.{ValueRead}
 use Rattle.text.specs.declared.ValueRead.the-variants.{Value, Refused}
 

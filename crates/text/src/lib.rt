@@ -6,16 +6,19 @@ ghost use Rattle.lists.specs.Lists.{all};
 ghost use Rattle.text.specs.Text.{isUpper, isDigit, cut, isName, isNumeral, isValue, numberFrom, valueOf};
 ghost use Rattle.text.specs.Reading.{inClass, pieceAt, valueAt};
 
+// Classes of bytes.
 pub enum Class {
     Digit,
     NameByte,
     Allowed,
 }
 
+// A place in a line.
 pub struct Cursor {
     pub at: usize,
 }
 
+// A value and the place after it, or the line is refused.
 pub enum ValueRead {
     Value(i32, Cursor),
     Refused,
@@ -87,7 +90,7 @@ pub fn all_in(class: Class, s: &[u8]) -> bool
     true
 }
 
-// The place after the piece that starts at from.
+// The end of the piece that starts at from: the place of the next c, or the length.
 pub fn piece_end(s: &[u8], c: u8, from: usize) -> usize
     requires { ⌜ from ≤ length (now s) ⌝ }
     ensures { λ r. ⌜ r ≡ from + length (pieceAt c (now (s .entry)) from) ⌝ }
@@ -102,7 +105,7 @@ pub fn piece_end(s: &[u8], c: u8, from: usize) -> usize
     at
 }
 
-// The number of pieces.
+// The number of pieces between the bytes c.
 pub fn piece_count(s: &[u8], c: u8) -> usize
     requires { ⌜ length (now s) ≤ 12288 ⌝ }
     ensures { λ r. ⌜ r ≡ length (cut c (now (s .entry))) ⌝ }
@@ -118,6 +121,7 @@ pub fn piece_count(s: &[u8], c: u8) -> usize
     n
 }
 
+// A name: 1 to 8 bytes, first A to Z, then A to Z or 0 to 9.
 pub fn is_name(word: &[u8]) -> bool
     ensures { λ r. ⌜ r ≡ isName (now (word .entry)) ⌝ }
 {
@@ -134,6 +138,7 @@ pub fn is_name(word: &[u8]) -> bool
     all_in(Class::NameByte, &word[1..])
 }
 
+// 1 to 7 digits without a leading zero, or 0.
 fn is_numeral(word: &[u8]) -> bool
     ensures { λ r. ⌜ r ≡ isNumeral (now (word .entry)) ⌝ }
 {
@@ -153,6 +158,7 @@ fn is_numeral(word: &[u8]) -> bool
     size == 1
 }
 
+// A numeral, or a minus and a numeral that is not 0.
 fn is_value(word: &[u8]) -> bool
     ensures { λ r. ⌜ r ≡ isValue (now (word .entry)) ⌝ }
 {
@@ -186,6 +192,7 @@ fn number(digits: &[u8]) -> u32
     v
 }
 
+// The number that a value stands for.
 fn value_of(word: &[u8]) -> i32
     requires { ⌜ isValue (now word) ≡ true ⌝ }
     ensures { λ r. ⌜ r ≡ valueOf (now (word .entry)) ⌝ }

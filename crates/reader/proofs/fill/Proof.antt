@@ -1,17 +1,14 @@
-use Prim.Native.Nat.{ℕ, _+_, _-_, _≤_, _<_}
 use mathlib.Core.Path.{_≡_, refl, ap, _∙_}
+use Prim.Native.Nat.{ℕ, _-_, _≤_}
+use native.Mathlib.Omega.{arith}
+use borrow.Author.Needs.{needs}
 use lib.Seq.{sets}
 use Rattle.lists.specs.Lists.{below, each}
 use Rattle.clusters.specs.PairList.{pairList, rowStart}
 use Rattle.reader.specs.Answer.{square}
 use Rattle.reader.proofs.Slots.{row-next, row-room, fill-next}
-use borrow.Author.Needs.{needs}
-use native.Mathlib.Omega.{arith}
 use Rattle.reader.proofs.fill.Statement.{statement}
 use Rattle.reader.proofs.fill.Tie as tie
-use Rattle.reader.proofs.fill.Reads as reads
-use Rattle.reader.proofs.fill.Lts as lts
-use Rattle.reader.proofs.fill_row.Reads as fill-row-reads
 
 abbrev Inv-loop : tie.InvT-loop
 Inv-loop values n pairs₀ start₀ i₀ pairs start i = (i ≤ n) × (start ≡ rowStart i) × (pairs ≡ sets pairs₀ 0 (pairList i (square values)))
@@ -19,40 +16,33 @@ Inv-loop values n pairs₀ start₀ i₀ pairs start i = (i ≤ n) × (start ≡
 abbrev μ-loop : tie.MeasureT-loop
 μ-loop values n pairs₀ start₀ i₀ pairs start i = n - i
 
--- src/lib.rt:95:5
 loop-holds : tie.Need-loop-holds Inv-loop μ-loop
 unfolding pairList below each rowStart
 loop-holds c = (omega arith, refl, refl)
 
--- src/lib.rt:96:9
 fill-row-requires : tie.Need-fill-row-requires Inv-loop μ-loop
 fill-row-requires c κs = (omega arith, omega (arith, row-room (c .before .before .loop .i) (omega arith)), omega arith)
 
--- src/lib.rt:97:18
 add-start : tie.Need-add-start Inv-loop μ-loop
 add-start c = search needs
 
--- src/lib.rt:97:9
 add-start-2 : tie.Need-add-start-2 Inv-loop μ-loop
 add-start-2 c = omega (arith, row-room (c .before .before .before .loop .i) (omega arith))
 
--- src/lib.rt:95:9
 add-i : tie.Need-add-i Inv-loop μ-loop
 add-i c = search needs
 
--- src/lib.rt:95:5
 loop-less : tie.Need-loop-less Inv-loop μ-loop
 loop-less c = search needs
 
--- src/lib.rt:95:5
 loop-again : tie.Need-loop-again Inv-loop μ-loop
 loop-again c =
-    let l = c .before .before .before .loop in
-    (omega arith,
-    omega (arith, row-next (l .i)),
-    c .fill-row .ensures ∙ fill-next (square (c .before .before .before .before .args .values .now)) (l .i) (l .start) (l .pairs) (c .before .before .before .before .args .pairs .now) (l .inv .1) (l .inv .2))
+    let l = c .before .before .before .loop in (
+      omega arith,
+      omega (arith, row-next (l .i)),
+      c .fill-row .ensures ∙ fill-next (square (c .before .before .before .before .args .values .now)) (l .i) (l .start) (l .pairs) (c .before .before .before .before .args .pairs .now) (l .inv .1) (l .inv .2),
+    )
 
--- src/lib.rt:90:1
 returns : tie.Need-returns Inv-loop μ-loop
 returns c =
     let a = c .before .before .args in

@@ -1,21 +1,17 @@
-use Prim.Native.Nat.{ℕ, suc, _+_, _-_, _*_, _≤_, _<_}
-use mathlib.Core.Path.{_≡_, refl, sym, ap, _∙_}
-use mathlib.Core.List.{List, map}
-use lib.IntN.{ℤ}
-use lib.ListN.{set}
+use mathlib.Core.Path.{_≡_, refl, ap, _∙_}
+use mathlib.Core.List.{map}
+use Prim.Native.Nat.{ℕ, suc, _-_, _≤_}
+use native.Mathlib.Omega.{arith}
+use borrow.Author.Needs.{needs}
 use lib.Seq.{sets}
 use mir.Val.{SFits}
 use mir.Syntax.{w32}
 use mir.Facts.{toZ-ofZ}
 use Rattle.lists.specs.Lists.{below}
 use Rattle.reader.specs.Answer.{square}
-use Rattle.reader.proofs.Slots.{sets-next, map-next, map-count}
-use borrow.Author.Needs.{needs}
-use native.Mathlib.Omega.{arith}
+use Rattle.reader.proofs.Slots.{row-store}
 use Rattle.reader.proofs.fill_row.Statement.{statement}
 use Rattle.reader.proofs.fill_row.Tie as tie
-use Rattle.reader.proofs.fill_row.Reads as reads
-use Rattle.reader.proofs.fill_row.Lts as lts
 
 abbrev Inv-loop : tie.InvT-loop
 Inv-loop values i start pairs₀ count j₀ pairs j = (j ≤ count) × (pairs ≡ sets pairs₀ start (map (square values i) (below j)))
@@ -23,52 +19,40 @@ Inv-loop values i start pairs₀ count j₀ pairs j = (j ≤ count) × (pairs �
 abbrev μ-loop : tie.MeasureT-loop
 μ-loop values i start pairs₀ count j₀ pairs j = count - j
 
--- src/lib.rt:82:17
 add-count : tie.Need-add-count Inv-loop μ-loop
 add-count c = search needs
 
--- src/lib.rt:83:5
 loop-holds : tie.Need-loop-holds Inv-loop μ-loop
 unfolding below
 loop-holds c = (omega arith, refl)
 
--- src/lib.rt:84:20
 mul-from : tie.Need-mul-from Inv-loop μ-loop
 mul-from c = search needs
 
--- src/lib.rt:84:20
 add-from : tie.Need-add-from Inv-loop μ-loop
 add-from c = search needs
 
--- src/lib.rt:85:28
 mul-pairs : tie.Need-mul-pairs Inv-loop μ-loop
 mul-pairs c = search needs
 
--- src/lib.rt:85:28
 shared-slice-copy-out-pairs : tie.Need-shared-slice-copy-out-pairs Inv-loop μ-loop
 shared-slice-copy-out-pairs c = search needs
 
--- src/lib.rt:85:15
 add-t12 : tie.Need-add-t12 Inv-loop μ-loop
 add-t12 c = search needs
 
--- src/lib.rt:85:9
 mul-t13 : tie.Need-mul-t13 Inv-loop μ-loop
 mul-t13 c = search needs
 
--- src/lib.rt:85:9
 element-set-from-pairs : tie.Need-element-set-from-pairs Inv-loop μ-loop
 element-set-from-pairs c = search needs
 
--- src/lib.rt:83:9
 add-j : tie.Need-add-j Inv-loop μ-loop
 add-j c = search needs
 
--- src/lib.rt:83:5
 loop-less : tie.Need-loop-less Inv-loop μ-loop
 loop-less c = search needs
 
--- src/lib.rt:83:5
 loop-again : tie.Need-loop-again Inv-loop μ-loop
 unfolding square
 loop-again c =
@@ -76,14 +60,8 @@ loop-again c =
     let l = c .before .before .loop in
     let v = square (a .values .now) (a .i) in
     let f : SFits w32 (v (l .j)) = record { sfits = c .pairs .given } in
-    let p : set (l .pairs) (a .start + l .j) (v (l .j)) ≡ sets (a .pairs .now) (a .start) (map v (below (l .j + 1))) =
-        ap (λ (m : List ℤ). set m (a .start + l .j) (v (l .j))) (l .inv .1)
-        ∙ sets-next (a .pairs .now) (a .start) (l .j) (map v (below (l .j))) (v (l .j)) (map-count v (l .j))
-        ∙ sym (ap (sets (a .pairs .now) (a .start)) (map-next v (l .j)))
-    in
-    (omega arith, rw (toZ-ofZ f) p)
+    (omega arith, rw (toZ-ofZ f) (row-store v (l .pairs) (a .pairs .now) (a .start) (l .j) (l .inv .1)))
 
--- src/lib.rt:78:1
 returns : tie.Need-returns Inv-loop μ-loop
 returns c =
     let a = c .before .before .args in

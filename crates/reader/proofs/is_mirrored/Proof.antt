@@ -1,19 +1,16 @@
-use Prim.Native.Nat.{ℕ, _+_, _-_, _*_, _≤_, _<_}
-use mathlib.Core.Path.{_≡_, refl, sym, ap, _∙_}
-use mathlib.Core.Bool.{true, false}
+use mathlib.Core.Path.{_≡_, sym, _∙_}
+use mathlib.Core.Bool.{true}
+use Prim.Native.Nat.{_-_, _≤_}
+use native.Mathlib.Omega.{arith}
 use borrow.Author.Tests.{not-true, not-false}
+use borrow.Author.Needs.{needs}
 use Rattle.lists.specs.Lists.{all, below}
 use Rattle.integers.specs.Integers.{eqZ}
 use Rattle.sheet.specs.Sheet.{mirrored}
 use Rattle.reader.specs.Answer.{square}
 use Rattle.reader.proofs.Below.{below-none, below-next, below-false}
-use borrow.Author.Needs.{needs}
-use native.Mathlib.Omega.{arith}
 use Rattle.reader.proofs.is_mirrored.Statement.{statement}
 use Rattle.reader.proofs.is_mirrored.Tie as tie
-use Rattle.reader.proofs.is_mirrored.Reads as reads
-use Rattle.reader.proofs.is_mirrored.Lts as lts
-use Rattle.reader.proofs.is_mirrored_row.Reads as is-mirrored-row-reads
 
 abbrev Inv-loop : tie.InvT-loop
 Inv-loop values n i₀ i = (i ≤ n) × (all (λ k. all (λ j. eqZ (square values k j) (square values j k)) (below n)) (below i) ≡ true)
@@ -21,15 +18,12 @@ Inv-loop values n i₀ i = (i ≤ n) × (all (λ k. all (λ j. eqZ (square value
 abbrev μ-loop : tie.MeasureT-loop
 μ-loop values n i₀ i = n - i
 
--- src/lib.rt:69:5
 loop-holds : tie.Need-loop-holds Inv-loop μ-loop
 loop-holds c = (omega arith, below-none _)
 
--- src/lib.rt:70:13
 is-mirrored-row-requires : tie.Need-is-mirrored-row-requires Inv-loop μ-loop
 is-mirrored-row-requires c κs = search needs
 
--- src/lib.rt:71:13
 returns : tie.Need-returns Inv-loop μ-loop
 unfolding mirrored
 returns c =
@@ -37,22 +31,18 @@ returns c =
     let v = square (a .values .now) in
     sym (below-false (λ k. all (λ j. eqZ (v k j) (v j k)) (below (a .n))) (a .n) (c .before .before .before .loop .i) (omega arith) (sym (c .before .is-mirrored-row .ensures) ∙ not-true _ (c .if1 .taken)))
 
--- src/lib.rt:69:9
 add-i : tie.Need-add-i Inv-loop μ-loop
 add-i c = search needs
 
--- src/lib.rt:69:5
 loop-less : tie.Need-loop-less Inv-loop μ-loop
 loop-less c = search needs
 
--- src/lib.rt:69:5
 loop-again : tie.Need-loop-again Inv-loop μ-loop
 loop-again c =
     let a = c .before .before .before .before .args in
     let v = square (a .values .now) in
     (omega arith, below-next (λ k. all (λ j. eqZ (v k j) (v j k)) (below (a .n))) (c .before .before .before .loop .i) (c .before .before .before .loop .inv .1) (sym (c .before .is-mirrored-row .ensures) ∙ not-false _ (c .if1 .left)))
 
--- src/lib.rt:65:1
 returns-2 : tie.Need-returns-2 Inv-loop μ-loop
 unfolding mirrored
 returns-2 c =

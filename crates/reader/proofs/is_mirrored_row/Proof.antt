@@ -1,17 +1,15 @@
-use Prim.Native.Nat.{ℕ, _+_, _-_, _*_, _≤_, _<_}
-use mathlib.Core.Path.{_≡_, refl, sym, ap, _∙_}
+use mathlib.Core.Path.{_≡_, sym}
 use mathlib.Core.Bool.{true, false}
+use Prim.Native.Nat.{_-_, _≤_}
+use native.Mathlib.Omega.{arith}
+use borrow.Author.Needs.{needs}
 use Rattle.lists.specs.Lists.{all, below}
 use Rattle.integers.specs.Integers.{eqZ}
 use Rattle.reader.specs.Answer.{square}
 use Rattle.reader.proofs.Below.{below-none, below-next, below-false}
 use Rattle.reader.proofs.Slots.{bits-same, bits-other}
-use borrow.Author.Needs.{needs}
-use native.Mathlib.Omega.{arith}
 use Rattle.reader.proofs.is_mirrored_row.Statement.{statement}
 use Rattle.reader.proofs.is_mirrored_row.Tie as tie
-use Rattle.reader.proofs.is_mirrored_row.Reads as reads
-use Rattle.reader.proofs.is_mirrored_row.Lts as lts
 
 abbrev Inv-loop : tie.InvT-loop
 Inv-loop values n i j₀ j = (j ≤ n) × (all (λ k. eqZ (square values i k) (square values k i)) (below j) ≡ true)
@@ -19,39 +17,30 @@ Inv-loop values n i j₀ j = (j ≤ n) × (all (λ k. eqZ (square values i k) (s
 abbrev μ-loop : tie.MeasureT-loop
 μ-loop values n i j₀ j = n - j
 
--- src/lib.rt:54:5
 loop-holds : tie.Need-loop-holds Inv-loop μ-loop
 loop-holds c = (omega arith, below-none _)
 
--- src/lib.rt:55:17
 mul-a : tie.Need-mul-a Inv-loop μ-loop
 mul-a c = search needs
 
--- src/lib.rt:55:17
 add-a : tie.Need-add-a Inv-loop μ-loop
 add-a c = search needs
 
--- src/lib.rt:56:17
 mul-b : tie.Need-mul-b Inv-loop μ-loop
 mul-b c = search needs
 
--- src/lib.rt:56:17
 add-b : tie.Need-add-b Inv-loop μ-loop
 add-b c = search needs
 
--- src/lib.rt:57:12
 mul-if1 : tie.Need-mul-if1 Inv-loop μ-loop
 mul-if1 c = search needs
 
--- src/lib.rt:57:12
 shared-slice-copy-out-if1 : tie.Need-shared-slice-copy-out-if1 Inv-loop μ-loop
 shared-slice-copy-out-if1 c = search needs
 
--- src/lib.rt:57:25
 mul-if1-2 : tie.Need-mul-if1-2 Inv-loop μ-loop
 mul-if1-2 c = search needs
 
--- src/lib.rt:57:25
 shared-slice-copy-out-if1-2 : tie.Need-shared-slice-copy-out-if1-2 Inv-loop μ-loop
 shared-slice-copy-out-if1-2 c = search needs
 
@@ -64,29 +53,24 @@ other : (c : tie.Then1 Inv-loop μ-loop) → eqZ (square (c .before .before .bef
 unfolding square
 other c = bits-other _ _ (c .if1 .taken)
 
--- src/lib.rt:58:13
 returns : tie.Need-returns Inv-loop μ-loop
 returns c =
     let a = c .before .before .before .before .before .args in
     let v = square (a .values .now) in
     sym (below-false (λ k. eqZ (v (a .i) k) (v k (a .i))) (a .n) (c .before .before .before .before .loop .j) (omega arith) (other c))
 
--- src/lib.rt:54:9
 add-j : tie.Need-add-j Inv-loop μ-loop
 add-j c = search needs
 
--- src/lib.rt:54:5
 loop-less : tie.Need-loop-less Inv-loop μ-loop
 loop-less c = search needs
 
--- src/lib.rt:54:5
 loop-again : tie.Need-loop-again Inv-loop μ-loop
 loop-again c =
     let a = c .before .before .before .before .before .args in
     let v = square (a .values .now) in
     (omega arith, below-next (λ k. eqZ (v (a .i) k) (v k (a .i))) (c .before .before .before .before .loop .j) (c .before .before .before .before .loop .inv .1) (same c))
 
--- src/lib.rt:50:1
 returns-2 : tie.Need-returns-2 Inv-loop μ-loop
 returns-2 c =
     let a = c .before .before .args in

@@ -1,89 +1,64 @@
-use Prim.Native.Nat.{ℕ, _+_, _-_, _≤_, _<_}
-use mathlib.Core.Path.{_≡_, refl, sym, ap, _∙_}
-use mathlib.Core.List.{List, []}
-use lib.ListN.{length, getD, take, drop}
-use Rattle.text.specs.Text.{cut}
-use Rattle.text.specs.Reading.{pieceAt}
-use Rattle.text.proofs.Pieces.{piece-inside, piece-part}
-use Rattle.sheet.specs.Sheet.{names}
+use mathlib.Core.Path.{sym, _∙_}
+use Prim.Native.Nat.{_≤_}
+use native.Mathlib.Omega.{arith}
+use borrow.Author.Needs.{needs}
 use Rattle.sheet.proofs.Lines.{line-length}
 use Rattle.reader.proofs.Parts.{entry-in, name-inside, name-part}
 use Rattle.reader.proofs.Answers.{entries-is, name-none, name-past, name-at}
-use native.Mathlib.Omega.{arith}
-use borrow.Author.Needs.{needs}
 use Rattle.reader.proofs.name.Statement.{statement}
 use Rattle.reader.proofs.name.Tie as tie
-use Rattle.reader.proofs.name.Reads as reads
-use Rattle.reader.proofs.name.Lts as lts
-use Rattle.reader.proofs.piece_start.Reads as piece-start-reads
-use Rattle.reader.proofs.read.Reads as read-reads
-use Rattle.text.proofs.piece_end.Reads as piece-end-reads
 
--- src/lib.rt:183:31
 read-requires : tie.Need-read-requires
 read-requires c κs = search needs
 
--- src/lib.rt:183:26
 enum-known-n : tie.Need-enum-known-n
 enum-known-n c = search needs
 
--- src/lib.rt:184:16
 enum-told : tie.Need-enum-told
 enum-told c = search needs
 
--- src/lib.rt:184:9
 slice-aggregate-result : tie.Need-slice-aggregate-result
 slice-aggregate-result c = search needs
 
--- src/lib.rt:184:9
 returns : tie.Need-returns
 returns c = name-none (c .before .before .before .before .before .before .args .sheet .now) (c .before .before .before .before .before .before .args .entry) _ (sym (c .before .before .before .read .ensures .0) ∙ c .before .enum-told .given .1)
 
--- src/lib.rt:187:9
 slice-aggregate-result-2 : tie.Need-slice-aggregate-result-2
 slice-aggregate-result-2 c = search needs
 
--- src/lib.rt:187:9
 returns-2 : tie.Need-returns-2
-returns-2 c = name-past (c .before .before .before .before .before .before .before .before .args .sheet .now) (c .before .before .before .before .before .before .before .before .args .entry) _ (sym (c .before .before .before .before .before .read .ensures .0) ∙ c .before .before .before .n .given .1) (c .before .if1 .taken)
+returns-2 c =
+    let h : c .before .before .before .n .given .0 .0 ≤ c .before .before .before .before .before .before .before .before .args .entry = omega arith in
+    name-past (c .before .before .before .before .before .before .before .before .args .sheet .now) (c .before .before .before .before .before .before .before .before .args .entry) _ (sym (c .before .before .before .before .before .read .ensures .0) ∙ c .before .before .before .n .given .1) h
 
--- src/lib.rt:189:9
 piece-end-requires : tie.Need-piece-end-requires
 piece-end-requires c κs = search needs
 
--- src/lib.rt:190:28
 slice-aggregate-piece-start : tie.Need-slice-aggregate-piece-start
 slice-aggregate-piece-start c = line-length (c .before .before .before .before .before .before .before .before .before .args .sheet .now) _ (c .before .piece-end .ensures)
 
--- src/lib.rt:190:9
 piece-start-requires : tie.Need-piece-start-requires
 piece-start-requires c κs =
     let s = c .before .before .before .before .before .before .before .before .before .args .sheet .now in
     let e = entries-is s _ (sym (c .before .before .before .before .before .before .read .ensures .0) ∙ c .before .before .before .before .n .given .1) .1 in
     entry-in s _ (c .before .before .before .before .before .before .before .before .before .args .entry) _ (c .before .piece-end .ensures) e (c .before .before .if1 .left)
 
--- src/lib.rt:191:30
 slice-aggregate-piece-end : tie.Need-slice-aggregate-piece-end
 slice-aggregate-piece-end c = line-length (c .before .before .before .before .before .before .before .before .before .before .before .args .sheet .now) _ (c .before .before .before .piece-end .ensures)
 
--- src/lib.rt:191:9
 piece-end-requires-2 : tie.Need-piece-end-requires-2
 piece-end-requires-2 c κs = c .before .piece-start .ensures .0
 
--- src/lib.rt:192:5
 sub-result : tie.Need-sub-result
 sub-result c = search needs
 
--- src/lib.rt:192:5
 part-result-start : tie.Need-part-result-start
 part-result-start c = search needs
 
--- src/lib.rt:192:5
 part-result-end : tie.Need-part-result-end
 part-result-end c =
     name-inside (c .before .before .before .before .before .before .before .before .before .before .before .before .args .sheet .now) _ _ _ (c .before .before .before .before .before .before .before .before .before .before .before .before .args .entry) (c .before .before .before .before .piece-end .ensures) (c .before .before .piece-start .ensures .0) (c .before .before .piece-start .ensures .1) (c .piece-end2 .ensures)
 
--- src/lib.rt:179:1
 returns-3 : tie.Need-returns-3
 returns-3 c =
     let s = c .before .before .before .before .before .before .before .before .before .before .before .before .before .args .sheet .now in

@@ -1,18 +1,13 @@
-use Prim.Native.Nat.{ℕ, suc, _+_, _-_, _*_, _≤_, _<_}
-use mathlib.Core.Path.{_≡_, refl, sym, ap, _∙_}
+use mathlib.Core.Path.{_≡_, refl, sym, _∙_}
 use mathlib.Core.List.{[]}
+use Prim.Native.Nat.{_≤_, _<_}
+use native.Mathlib.Omega.{arith}
+use borrow.Author.Needs.{needs}
 use lib.ListN.{length, getD, drop}
 use Rattle.text.specs.Text.{cut}
-use Rattle.text.specs.Reading.{pieceAt}
-use Rattle.text.proofs.Pieces.{pieces-more, pieces-last}
 use Rattle.reader.proofs.Parts.{piece-next, piece-here}
-use borrow.Author.Needs.{needs}
-use native.Mathlib.Omega.{arith}
 use Rattle.reader.proofs.piece_start.Statement.{statement}
 use Rattle.reader.proofs.piece_start.Tie as tie
-use Rattle.reader.proofs.piece_start.Reads as reads
-use Rattle.reader.proofs.piece_start.Lts as lts
-use Rattle.text.proofs.piece_end.Reads as piece-end-reads
 
 abbrev Inv-loop : tie.InvT-loop
 Inv-loop line i at₀ left₀ at left =
@@ -23,15 +18,12 @@ Inv-loop line i at₀ left₀ at left =
 abbrev μ-loop : tie.MeasureT-loop
 μ-loop line i at₀ left₀ at left = left
 
--- src/lib.rt:108:5
 loop-holds : tie.Need-loop-holds Inv-loop μ-loop
 loop-holds c = (omega arith, c .before .pre, refl)
 
--- src/lib.rt:109:14
 piece-end-requires : tie.Need-piece-end-requires Inv-loop μ-loop
 piece-end-requires c κs = search needs
 
--- src/lib.rt:109:14
 add-at : tie.Need-add-at Inv-loop μ-loop
 add-at c =
     let a = c .before .before .before .before .args in
@@ -39,15 +31,12 @@ add-at c =
     let n = piece-next 32 (a .line .now) (l .at) (c .piece-end .result) (l .left) (l .inv .0) (c .piece-end .ensures) (omega arith) (l .inv .1) in
     omega (arith, n .inside)
 
--- src/lib.rt:110:9
 sub-left : tie.Need-sub-left Inv-loop μ-loop
 sub-left c = search needs
 
--- src/lib.rt:108:5
 loop-less : tie.Need-loop-less Inv-loop μ-loop
 loop-less c = search needs
 
--- src/lib.rt:108:5
 loop-again : tie.Need-loop-again Inv-loop μ-loop
 loop-again c =
     let a = c .before .before .before .before .args in
@@ -55,7 +44,6 @@ loop-again c =
     let n = piece-next 32 (a .line .now) (l .at) (c .piece-end .result) (l .left) (l .inv .0) (c .piece-end .ensures) (omega arith) (l .inv .1) in
     (omega arith, n .count, sym (n .same) ∙ l .inv .2)
 
--- src/lib.rt:102:1
 returns : tie.Need-returns Inv-loop μ-loop
 returns c =
     let l = c .before .loop in

@@ -1,36 +1,20 @@
+use mathlib.Core.Path.{_≡_, sym, ap, _∙_}
+use mathlib.Core.Bool.{not}
 use Prim.Native.Nat.{ℕ, _≤_, _<_}
-use mathlib.Core.Path.{_≡_, refl, sym, ap, _∙_}
-use mathlib.Core.Bool.{true, false, not}
-use mathlib.Core.List.{List, []}
-use borrow.Author.Tests.{not-true, not-false}
-use lib.ListN.{length, drop}
-use Rattle.clusters.specs.Refusals.{firstOf, wrongCount}
-use Rattle.sheet.specs.Sheet.{entries, value, wrongLength, wrongLines, wrongValues, mirrored, sheetChecks}
-use Rattle.reader.specs.Answer.{square, Holds}
-use Rattle.reader.proofs.Values.{rows-no, rows-yes}
-use Rattle.reader.proofs.Answers.{hit, skip, none, length-right, count-right, mirrored-same, refused, passed}
 use native.Mathlib.Omega.{arith}
 use borrow.Author.Needs.{needs}
+use lib.ListN.{length, drop}
+use Rattle.clusters.specs.Refusals.{firstOf, wrongCount}
+use Rattle.sheet.specs.Sheet.{entries, value, mirrored, sheetChecks}
+use Rattle.reader.specs.Answer.{Holds}
+use Rattle.reader.proofs.Rows.{refuses, passes}
+use Rattle.reader.proofs.Answers.{hit, skip, none, length-right, count-right, mirrored-same, refused, passed}
 use Rattle.reader.proofs.read.Statement.{statement}
 use Rattle.reader.proofs.read.Tie as tie
-use Rattle.reader.proofs.read.Reads as reads
-use Rattle.reader.proofs.read.Lts as lts
-use Rattle.reader.proofs.fill.Reads as fill-reads
-use Rattle.reader.proofs.is_mirrored.Reads as is-mirrored-reads
-use Rattle.reader.proofs.read_rows.Reads as read-rows-reads
-use Rattle.sheet.proofs.entry_count.Reads as entry-count-reads
-use Rattle.sheet.proofs.equal_names.Reads as equal-names-reads
-use Rattle.sheet.proofs.wrong_byte.Reads as wrong-byte-reads
-use Rattle.sheet.proofs.wrong_count.Reads as wrong-count-reads
-use Rattle.sheet.proofs.wrong_length.Reads as wrong-length-reads
-use Rattle.sheet.proofs.wrong_lines.Reads as wrong-lines-reads
-use Rattle.sheet.proofs.wrong_names.Reads as wrong-names-reads
 
--- src/lib.rt:137:8
 wrong-length-requires : tie.Need-wrong-length-requires
 wrong-length-requires c κs = search needs
 
--- src/lib.rt:138:9
 returns : tie.Need-returns
 unfolding sheetChecks
 returns c =
@@ -41,11 +25,9 @@ left3 : (c : tie.Else1) → firstOf (sheetChecks (c .before .before .before .arg
 unfolding sheetChecks
 left3 c = skip 2 _ (sym (c .before .wrong-length .ensures) ∙ c .if1 .left)
 
--- src/lib.rt:140:8
 wrong-byte-requires : tie.Need-wrong-byte-requires
 wrong-byte-requires c κs = search needs
 
--- src/lib.rt:141:9
 returns-2 : tie.Need-returns-2
 unfolding sheetChecks
 returns-2 c =
@@ -55,11 +37,9 @@ left4 : (c : tie.Else2) → firstOf (sheetChecks (c .before .before .before .bef
 unfolding sheetChecks
 left4 c = left3 (c .before .before) ∙ skip 3 _ (sym (c .before .wrong-byte .ensures) ∙ c .if2 .left)
 
--- src/lib.rt:143:8
 wrong-names-requires : tie.Need-wrong-names-requires
 wrong-names-requires c κs = search needs
 
--- src/lib.rt:144:9
 returns-3 : tie.Need-returns-3
 unfolding sheetChecks
 returns-3 c =
@@ -69,11 +49,9 @@ left5 : (c : tie.Else3) → firstOf (sheetChecks (c .before .before .before .bef
 unfolding sheetChecks
 left5 c = left4 (c .before .before) ∙ skip 4 _ (sym (c .before .wrong-names .ensures) ∙ c .if3 .left)
 
--- src/lib.rt:146:8
 equal-names-requires : tie.Need-equal-names-requires
 equal-names-requires c κs = search needs
 
--- src/lib.rt:147:9
 returns-4 : tie.Need-returns-4
 unfolding sheetChecks
 returns-4 c =
@@ -86,15 +64,12 @@ left6 c = left5 (c .before .before) ∙ skip 5 _ (sym (c .before .equal-names .e
 long : (c : tie.Else4) → (0 < length (c .before .before .before .before .before .before .before .before .before .args .sheet .now)) × (length (c .before .before .before .before .before .before .before .before .before .args .sheet .now) ≤ 12288)
 long c = length-right (c .before .before .before .before .before .before .before .before .before .args .sheet .now) (sym (c .before .before .before .before .before .before .before .wrong-length .ensures) ∙ c .before .before .before .before .before .before .if1 .left)
 
--- src/lib.rt:149:9
 entry-count-requires : tie.Need-entry-count-requires
 entry-count-requires c κs = long c .1
 
--- src/lib.rt:150:8
 wrong-count-requires : tie.Need-wrong-count-requires
 wrong-count-requires c κs = search needs
 
--- src/lib.rt:151:9
 returns-5 : tie.Need-returns-5
 unfolding sheetChecks
 returns-5 c =
@@ -108,11 +83,9 @@ left7 c = left6 (c .before .before .before) ∙ skip 6 _ (sym (c .before .wrong-
 few : (c : tie.Else5) → c .before .before .entry-count .result ≤ 32
 few c = count-right (c .before .before .entry-count .result) (sym (c .before .wrong-count .ensures) ∙ c .if5 .left)
 
--- src/lib.rt:153:8
 wrong-lines-requires : tie.Need-wrong-lines-requires
 wrong-lines-requires c κs = (long (c .before .before .before) .0, long (c .before .before .before) .1, c .before .before .entry-count .ensures, few c)
 
--- src/lib.rt:154:9
 returns-6 : tie.Need-returns-6
 unfolding sheetChecks
 returns-6 c =
@@ -122,32 +95,27 @@ left8 : (c : tie.Else6) → firstOf (sheetChecks (c .before .before .before .bef
 unfolding sheetChecks
 left8 c = left7 (c .before .before) ∙ skip 7 _ (sym (c .before .wrong-lines .ensures) ∙ c .if6 .left)
 
--- src/lib.rt:157:28
 slice-aggregate-read-rows : tie.Need-slice-aggregate-read-rows
 slice-aggregate-read-rows c = search needs
 
--- src/lib.rt:157:8
 read-rows-requires : tie.Need-read-rows-requires
 read-rows-requires c κs = (c .before .before .before .before .before .entry-count .ensures, few (c .before .before .before), sym (c .before .before .wrong-lines .ensures) ∙ c .before .if6 .left, search needs)
 
--- src/lib.rt:158:9
 returns-7 : tie.Need-returns-7
 unfolding sheetChecks
 returns-7 c =
-    refused (c .before .before .before .before .before .before .before .before .before .before .before .before .before .before .before .before .before .before .args .sheet .now) _ 8 (left8 (c .before .before .before .before) ∙ hit 8 _ (rows-no (c .before .before .before .before .before .before .before .before .before .before .before .before .before .before .before .before .before .before .args .sheet .now) _ (c .before .before .read-rows .ensures .0) (c .if7 .taken))) (λ z. omega (arith, z))
+    refused (c .before .before .before .before .before .before .before .before .before .before .before .before .before .before .before .before .before .before .args .sheet .now) _ 8 (left8 (c .before .before .before .before) ∙ hit 8 _ (refuses _ _ (c .before .before .read-rows .ensures .0) (c .if7 .taken))) (λ z. omega (arith, z))
 
 left9 : (c : tie.Else7) → firstOf (sheetChecks (c .before .before .before .before .before .before .before .before .before .before .before .before .before .before .before .before .before .before .args .sheet .now)) ≡ firstOf (drop 7 (sheetChecks (c .before .before .before .before .before .before .before .before .before .before .before .before .before .before .before .before .before .before .args .sheet .now)))
 unfolding sheetChecks
-left9 c = left8 (c .before .before .before .before) ∙ skip 8 _ (rows-yes (c .before .before .before .before .before .before .before .before .before .before .before .before .before .before .before .before .before .before .args .sheet .now) _ (c .before .before .read-rows .ensures .0) (c .if7 .left))
+left9 c = left8 (c .before .before .before .before) ∙ skip 8 _ (passes _ _ (c .before .before .read-rows .ensures .0) (c .if7 .left))
 
 held : (c : tie.Else7) → Holds (c .before .before .read-rows .last .1 .1 .0) (c .before .before .before .before .before .before .before .before .entry-count .result) (value (c .before .before .before .before .before .before .before .before .before .before .before .before .before .before .before .before .before .before .args .sheet .now))
 held c = c .before .before .read-rows .ensures .1 (c .if7 .left)
 
--- src/lib.rt:160:21
 slice-aggregate-is-mirrored : tie.Need-slice-aggregate-is-mirrored
 slice-aggregate-is-mirrored c = sym (c .before .before .before .read-rows .kept .1 .1 .0)
 
--- src/lib.rt:160:9
 is-mirrored-requires : tie.Need-is-mirrored-requires
 is-mirrored-requires c κs = (few (c .before .before .before .before .before .before .before), c .before .before .before .read-rows .kept .1 .1 .0)
 
@@ -156,21 +124,17 @@ mirror c =
     let s = c .before .before .before .before .before .before .before .before .before .before .before .before .before .before .before .before .before .before .before .before .args .sheet .now in
     ap not (c .is-mirrored .ensures ∙ mirrored-same _ _ (value s) (held (c .before .before)) ∙ ap (λ (k : ℕ). mirrored k (value s)) (c .before .before .before .before .before .before .before .before .before .before .entry-count .ensures))
 
--- src/lib.rt:161:9
 returns-8 : tie.Need-returns-8
 unfolding sheetChecks
 returns-8 c =
     refused (c .before .before .before .before .before .before .before .before .before .before .before .before .before .before .before .before .before .before .before .before .before .args .sheet .now) _ 9 (left9 (c .before .before .before) ∙ hit 9 _ (sym (mirror (c .before)) ∙ c .if8 .taken)) (λ z. omega (arith, z))
 
--- src/lib.rt:163:10
 slice-aggregate-fill : tie.Need-slice-aggregate-fill
 slice-aggregate-fill c = sym (c .before .before .before .before .before .before .read-rows .kept .1 .1 .0)
 
--- src/lib.rt:163:5
 fill-requires : tie.Need-fill-requires
 fill-requires c κs = (few (c .before .before .before .before .before .before .before .before .before .before .before), c .before .before .before .before .before .before .before .read-rows .kept .1 .1 .0)
 
--- src/lib.rt:133:1
 returns-9 : tie.Need-returns-9
 unfolding sheetChecks
 returns-9 c =

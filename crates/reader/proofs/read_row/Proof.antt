@@ -1,10 +1,12 @@
-use Prim.Native.Nat.{ℕ, suc, _+_, _-_, _≤_, _<_}
 use mathlib.Core.Path.{_≡_, refl, sym, ap, _∙_}
 use mathlib.Core.Bool.{true, false}
 use mathlib.Core.List.{map}
+use Prim.Native.Nat.{ℕ, suc, _+_, _-_, _≤_}
+use native.Mathlib.Omega.{arith}
 use borrow.Author.Tests.{eq-eqb, ne-eqb}
+use borrow.Author.Needs.{needs}
 use lib.Dec.{eqb}
-use lib.ListN.{length, drop, set, length-set}
+use lib.ListN.{length, drop, length-set}
 use lib.Seq.{sets}
 use mir.Val.{SFits}
 use mir.Syntax.{w32}
@@ -12,13 +14,8 @@ use mir.Facts.{toZ-ofZ}
 use Rattle.text.specs.Text.{cut, valueOf}
 use Rattle.sheet.specs.Sheet.{isRow}
 use Rattle.reader.proofs.Rows.{Got, value-got, value-not, row-none, row-refused, row-last, row-more, store-last, store-more, row-eight, row-zero}
-use borrow.Author.Needs.{needs}
-use native.Mathlib.Omega.{arith}
 use Rattle.reader.proofs.read_row.Statement.{statement}
 use Rattle.reader.proofs.read_row.Tie as tie
-use Rattle.reader.proofs.read_row.Reads as reads
-use Rattle.reader.proofs.read_row.Lts as lts
-use Rattle.text.proofs.read_value.Reads as read-value-reads
 
 abbrev Inv-loop : tie.InvT-loop
 Inv-loop line n base values₀ at₀ k₀ values at k =
@@ -31,55 +28,47 @@ Inv-loop line n base values₀ at₀ k₀ values at k =
 abbrev μ-loop : tie.MeasureT-loop
 μ-loop line n base values₀ at₀ k₀ values at k = n - k
 
--- src/lib.rt:31:5
 loop-holds : tie.Need-loop-holds Inv-loop μ-loop
 loop-holds c =
     let a = c .before .args in
     let p : a .n - 0 ≡ a .n = omega arith in
-    let q : a .base + 0 ≡ a .base = omega arith in
-    (omega arith,
-    omega arith,
-    ap (λ (m : ℕ). isRow m (cut 32 (a .line .now))) p,
-    ap (λ (i : ℕ). sets (a .values .now) i (map valueOf (cut 32 (a .line .now)))) q,
-    refl)
+    let q : a .base + 0 ≡ a .base = omega arith in (
+      omega arith,
+      omega arith,
+      ap (λ (m : ℕ). isRow m (cut 32 (a .line .now))) p,
+      ap (λ (i : ℕ). sets (a .values .now) i (map valueOf (cut 32 (a .line .now)))) q,
+      refl,
+    )
 
--- src/lib.rt:32:41
 read-value-requires : tie.Need-read-value-requires Inv-loop μ-loop
 read-value-requires c κs = search needs
 
--- src/lib.rt:32:30
 enum-known-v : tie.Need-enum-known-v Inv-loop μ-loop
 enum-known-v c = search needs
 
--- src/lib.rt:33:13
 enum-told : tie.Need-enum-told Inv-loop μ-loop
 enum-told c = search needs
 
--- src/lib.rt:33:13
 same-length : tie.Need-same-length Inv-loop μ-loop
 same-length c = search needs
 
--- src/lib.rt:33:13
 returns : tie.Need-returns Inv-loop μ-loop
 returns c =
     let s = c .before .before .before .before .before .before .args .line .now in
-    let l = c .before .before .before .before .loop in
-    (row-eight (c .before .before .before .before .before .before .args .n) (cut 32 s) (sym (l .inv .2) ∙ row-refused _ s (l .at) (value-not s (l .at) (sym (c .before .before .read-value .ensures) ∙ c .enum-told .given .1))),
-    λ z. absurd (omega (arith, z)))
+    let l = c .before .before .before .before .loop in (
+      row-eight (c .before .before .before .before .before .before .args .n) (cut 32 s) (sym (l .inv .2) ∙ row-refused _ s (l .at) (value-not s (l .at) (sym (c .before .before .read-value .ensures) ∙ c .enum-told .given .1))),
+      λ z. absurd (omega (arith, z)),
+    )
 
--- src/lib.rt:35:16
 add-v : tie.Need-add-v Inv-loop μ-loop
 add-v c = search needs
 
--- src/lib.rt:35:9
 mul-v : tie.Need-mul-v Inv-loop μ-loop
 mul-v c = search needs
 
--- src/lib.rt:35:9
 slice-set-from-v : tie.Need-slice-set-from-v Inv-loop μ-loop
 slice-set-from-v c = search needs
 
--- src/lib.rt:36:9
 add-k : tie.Need-add-k Inv-loop μ-loop
 add-k c = search needs
 
@@ -87,44 +76,39 @@ add-k c = search needs
 got : (c : tie.After-v Inv-loop μ-loop) → Got (c .before .before .before .before .before .before .args .line .now) (c .before .before .before .before .loop .at) (c .v .given .0 .0) (c .v .given .0 .1 .0)
 got c = value-got _ _ _ _ (sym (c .before .before .read-value .ensures) ∙ c .v .given .1)
 
--- src/lib.rt:40:17
 same-length-2 : tie.Need-same-length-2 Inv-loop μ-loop
 same-length-2 c = search needs
 
--- src/lib.rt:40:17
 returns-2 : tie.Need-returns-2 Inv-loop μ-loop
 returns-2 c =
     let s = c .before .before .before .before .before .before .before .before .before .args .line .now in
     let l = c .before .before .before .before .before .before .before .loop in
     let g = got (c .before .before .before) in
-    let e : eqb 1 (c .before .before .before .before .before .before .before .before .before .args .n - l .k) ≡ false = ne-eqb 1 (c .before .before .before .before .before .before .before .before .before .args .n - l .k) (λ z. omega arith) in
-    (row-eight (c .before .before .before .before .before .before .before .before .before .args .n) (cut 32 s) (sym (l .inv .2) ∙ row-last s (l .at) _ (l .inv .1) (g .end) (c .before .before .before .before .before .before .before .before .before .args .n - l .k) (c .before .if1 .taken) (g .good) ∙ e),
-    λ z. absurd (omega (arith, z)))
+    let e : eqb 1 (c .before .before .before .before .before .before .before .before .before .args .n - l .k) ≡ false = ne-eqb 1 (c .before .before .before .before .before .before .before .before .before .args .n - l .k) (λ z. omega arith) in (
+      row-eight (c .before .before .before .before .before .before .before .before .before .args .n) (cut 32 s) (sym (l .inv .2) ∙ row-last s (l .at) _ (l .inv .1) (g .end) (c .before .before .before .before .before .before .before .before .before .args .n - l .k) (c .before .if1 .taken) (g .good) ∙ e),
+      λ z. absurd (omega (arith, z)),
+    )
 
--- src/lib.rt:42:13
 same-length-3 : tie.Need-same-length-3 Inv-loop μ-loop
 same-length-3 c = search needs
 
--- src/lib.rt:42:13
 returns-3 : tie.Need-returns-3 Inv-loop μ-loop
 returns-3 c =
     let s = c .before .before .before .before .before .before .before .before .before .args .line .now in
     let l = c .before .before .before .before .before .before .before .loop in
     let g = got (c .before .before .before) in
     let f : SFits w32 (c .before .before .before .v .given .0 .0) = search needs in
-    let e : eqb 1 (c .before .before .before .before .before .before .before .before .before .args .n - l .k) ≡ true = eq-eqb 1 (c .before .before .before .before .before .before .before .before .before .args .n - l .k) (omega arith) in
-    (row-zero (c .before .before .before .before .before .before .before .before .before .args .n) (cut 32 s) (sym (l .inv .2) ∙ row-last s (l .at) _ (l .inv .1) (g .end) (c .before .before .before .before .before .before .before .before .before .args .n - l .k) (c .before .if1 .taken) (g .good) ∙ e),
-    λ z. rw (toZ-ofZ f, g .is) (store-last s (l .at) _ (l .inv .1) (g .end) (l .values) (c .before .before .before .before .before .before .before .before .before .args .base + l .k) (c .before .if1 .taken) ∙ l .inv .3))
+    let e : eqb 1 (c .before .before .before .before .before .before .before .before .before .args .n - l .k) ≡ true = eq-eqb 1 (c .before .before .before .before .before .before .before .before .before .args .n - l .k) (omega arith) in (
+      row-zero (c .before .before .before .before .before .before .before .before .before .args .n) (cut 32 s) (sym (l .inv .2) ∙ row-last s (l .at) _ (l .inv .1) (g .end) (c .before .before .before .before .before .before .before .before .before .args .n - l .k) (c .before .if1 .taken) (g .good) ∙ e),
+      λ z. rw (toZ-ofZ f, g .is) (store-last s (l .at) _ (l .inv .1) (g .end) (l .values) (c .before .before .before .before .before .before .before .before .before .args .base + l .k) (c .before .if1 .taken) ∙ l .inv .3),
+    )
 
--- src/lib.rt:44:14
 add-at : tie.Need-add-at Inv-loop μ-loop
 add-at c = search needs
 
--- src/lib.rt:31:5
 loop-less : tie.Need-loop-less Inv-loop μ-loop
 loop-less c = search needs
 
--- src/lib.rt:31:5
 loop-again : tie.Need-loop-again Inv-loop μ-loop
 loop-again c =
     let s = c .before .before .before .before .before .before .before .before .args .line .now in
@@ -132,24 +116,24 @@ loop-again c =
     let g = got (c .before .before) in
     let f : SFits w32 (c .before .before .v .given .0 .0) = search needs in
     let e : c .before .before .before .before .before .before .before .before .args .n - l .k ≡ suc (c .before .before .before .before .before .before .before .before .args .n - (l .k + 1)) = omega arith in
-    let i : c .before .before .before .before .before .before .before .before .args .base + (l .k + 1) ≡ c .before .before .before .before .before .before .before .before .args .base + l .k + 1 = omega arith in
-    (omega arith,
-    omega arith,
-    sym (row-more s (l .at) _ (l .inv .1) (g .end) _ _ e (c .if1 .left) (g .good)) ∙ l .inv .2,
-    rw (toZ-ofZ f, g .is, i) (store-more s (l .at) _ (l .inv .1) (g .end) (l .values) (c .before .before .before .before .before .before .before .before .args .base + l .k) (c .if1 .left) ∙ l .inv .3),
-    length-set (l .values) (c .before .before .before .before .before .before .before .before .args .base + l .k) _ ∙ l .inv .4)
+    let i : c .before .before .before .before .before .before .before .before .args .base + (l .k + 1) ≡ c .before .before .before .before .before .before .before .before .args .base + l .k + 1 = omega arith in (
+      omega arith,
+      omega arith,
+      sym (row-more s (l .at) _ (l .inv .1) (g .end) _ _ e (c .if1 .left) (g .good)) ∙ l .inv .2,
+      rw (toZ-ofZ f, g .is, i) (store-more s (l .at) _ (l .inv .1) (g .end) (l .values) (c .before .before .before .before .before .before .before .before .args .base + l .k) (c .if1 .left) ∙ l .inv .3),
+      length-set (l .values) (c .before .before .before .before .before .before .before .before .args .base + l .k) _ ∙ l .inv .4,
+    )
 
--- src/lib.rt:24:1
 same-length-4 : tie.Need-same-length-4 Inv-loop μ-loop
 same-length-4 c = search needs
 
--- src/lib.rt:24:1
 returns-4 : tie.Need-returns-4 Inv-loop μ-loop
 returns-4 c =
     let s = c .before .before .before .args .line .now in
-    let l = c .before .loop in
-    (row-eight (c .before .before .before .args .n) (cut 32 s) (sym (l .inv .2) ∙ row-none _ (drop (l .at) s) (omega arith)),
-    λ z. absurd (omega (arith, z)))
+    let l = c .before .loop in (
+      row-eight (c .before .before .before .args .n) (cut 32 s) (sym (l .inv .2) ∙ row-none _ (drop (l .at) s) (omega arith)),
+      λ z. absurd (omega (arith, z)),
+    )
 
 pub read-row-spec : {M : Type 1} → statement M
 read-row-spec =

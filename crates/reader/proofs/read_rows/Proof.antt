@@ -1,25 +1,21 @@
 use mathlib.Core.List.{map}
+use mathlib.Core.Path.{_≡_, sym, ap, _∙_}
+use mathlib.Core.Bool.{true, not, cond}
+use Prim.Native.Nat.{ℕ, _+_, _-_, _*_, _≤_, _<_}
+use native.Mathlib.Omega.{arith}
+use borrow.Author.Tests.{not-true, not-false}
+use borrow.Author.Needs.{needs}
 use lib.Seq.{sets}
-use Rattle.text.specs.Text.{valueOf}
-use Prim.Native.Nat.{ℕ, suc, _+_, _-_, _*_, _≤_, _<_}
-use mathlib.Core.Path.{_≡_, refl, sym, ap, _∙_}
-use mathlib.Core.Bool.{true, false, cond}
 use lib.ListN.{length, drop}
 use Rattle.lists.specs.Lists.{all, below}
-use Rattle.text.specs.Text.{cut}
-use Rattle.sheet.specs.Sheet.{lines, entries, words, value, isRow}
+use Rattle.text.specs.Text.{valueOf, cut}
+use Rattle.sheet.specs.Sheet.{lines, words, value, isRow}
 use Rattle.reader.specs.Answer.{square}
 use Rattle.reader.proofs.Below.{below-none, below-next}
-use Rattle.reader.proofs.Rows.{row-length}
-use Rattle.reader.proofs.Values.{Line, line-count, line-at, first-at, line-words, row-yes, row-no, values-wrong, values-right, square-next, value-at}
-use borrow.Author.Needs.{needs}
-use native.Mathlib.Omega.{arith}
+use Rattle.reader.proofs.Rows.{row-length, refuses, passes}
+use Rattle.reader.proofs.Values.{Line, line-count, line-at, first-at, line-words, values-wrong, values-right, square-next, value-at}
 use Rattle.reader.proofs.read_rows.Statement.{statement}
 use Rattle.reader.proofs.read_rows.Tie as tie
-use Rattle.reader.proofs.read_rows.Reads as reads
-use Rattle.reader.proofs.read_rows.Lts as lts
-use Rattle.reader.proofs.read_row.Reads as read-row-reads
-use Rattle.text.proofs.piece_end.Reads as piece-end-reads
 
 abbrev Inv-loop : tie.InvT-loop
 Inv-loop sheet n values₀ at₀ i₀ values at i =
@@ -33,7 +29,6 @@ Inv-loop sheet n values₀ at₀ i₀ values at i =
 abbrev μ-loop : tie.MeasureT-loop
 μ-loop sheet n values₀ at₀ i₀ values at i = n - i
 
--- src/lib.rt:121:18
 piece-end-requires : tie.Need-piece-end-requires Inv-loop μ-loop
 piece-end-requires c κs = search needs
 
@@ -43,17 +38,14 @@ first c =
     let s = c .before .before .args .sheet .now in
     line-at s 0 _ 0 (omega arith) (c .piece-end .ensures) (first-at s) (omega (arith, line-count s (c .before .before .pre .2)))
 
--- src/lib.rt:121:18
 add-at : tie.Need-add-at Inv-loop μ-loop
 add-at c = omega (arith, first c .inside)
 
--- src/lib.rt:122:5
 loop-holds : tie.Need-loop-holds Inv-loop μ-loop
 loop-holds c =
     let s = c .before .before .args .sheet .now in
     (omega arith, omega (arith, first c .inside), first c .next, below-none _, λ a b p q. absurd (omega arith), c .before .before .pre .3)
 
--- src/lib.rt:123:13
 piece-end-requires-2 : tie.Need-piece-end-requires-2 Inv-loop μ-loop
 piece-end-requires-2 c κs = search needs
 
@@ -64,75 +56,62 @@ line c =
     let l = c .before .before .loop in
     line-at s (l .at) _ (l .i + 1) (l .inv .1) (c .piece-end2 .ensures) (l .inv .2) (omega (arith, line-count s (c .before .before .before .before .before .pre .2)))
 
--- src/lib.rt:124:21
 sub-read-row : tie.Need-sub-read-row Inv-loop μ-loop
 sub-read-row c = search needs
 
--- src/lib.rt:124:21
 part-read-row-start : tie.Need-part-read-row-start Inv-loop μ-loop
 part-read-row-start c = search needs
 
--- src/lib.rt:124:21
 part-read-row-end : tie.Need-part-read-row-end Inv-loop μ-loop
 part-read-row-end c = omega (arith, line c .inside)
 
--- src/lib.rt:124:41
 mul-read-row : tie.Need-mul-read-row Inv-loop μ-loop
 mul-read-row c = search needs
 
--- src/lib.rt:124:12
 read-row-requires : tie.Need-read-row-requires Inv-loop μ-loop
 read-row-requires c κs = omega arith
 
--- src/lib.rt:125:13
+-- the answer of a turn
+answer : (c : tie.After-read-row Inv-loop μ-loop) → c .read-row .result ≡ cond (not (isRow (c .before .before .before .before .before .before .before .before .args .n) (words (c .before .before .before .before .before .before .before .before .args .sheet .now) (c .before .before .before .before .before .loop .i)))) 8 0
+answer c = c .read-row .ensures .0 ∙ ap (λ ws. cond (not (isRow (c .before .before .before .before .before .before .before .before .args .n) ws)) 8 0) (line-words _ _ _ _ (line (c .before .before .before)))
+
 same-length : tie.Need-same-length Inv-loop μ-loop
 same-length c = c .before .before .read-row .kept .1 .1 .1 .0 ∙ c .before .before .before .before .before .before .before .loop .inv .5 ∙ sym (c .before .before .before .before .before .before .before .before .before .before .pre .3)
 
--- src/lib.rt:125:13
 returns : tie.Need-returns Inv-loop μ-loop
 returns c =
     let a = c .before .before .before .before .before .before .before .before .before .before .args in
-    let l = c .before .before .before .before .before .before .before .loop in
-    let r = c .before .before .read-row in
-    let e : r .result ≡ cond (isRow (a .n) (words (a .sheet .now) (l .i))) 0 8 =
-        r .ensures .0 ∙ ap (λ ws. cond (isRow (a .n) ws) 0 8) (line-words _ _ _ _ (line (c .before .before .before .before .before)))
-    in
-    (values-wrong (a .sheet .now) (a .n) (l .i) (c .before .before .before .before .before .before .before .before .before .before .pre .0) (omega arith) (row-no (a .n) (r .result) _ e (c .if1 .taken)), λ z. absurd (omega (arith, z)))
+    let n = not-true _ (refuses _ _ (answer (c .before .before)) (c .if1 .taken)) in
+    (values-wrong (a .sheet .now) (a .n) (c .before .before .before .before .before .before .before .loop .i) (c .before .before .before .before .before .before .before .before .before .before .pre .0) (omega arith) n, λ z. absurd (omega (arith, z)))
 
--- src/lib.rt:127:14
 add-at-2 : tie.Need-add-at-2 Inv-loop μ-loop
 add-at-2 c = omega (arith, line (c .before .before .before .before .before) .inside)
 
--- src/lib.rt:122:9
 add-i : tie.Need-add-i Inv-loop μ-loop
 add-i c = search needs
 
--- src/lib.rt:122:5
 loop-less : tie.Need-loop-less Inv-loop μ-loop
 loop-less c = search needs
 
--- src/lib.rt:122:5
 loop-again : tie.Need-loop-again Inv-loop μ-loop
 loop-again c =
     let a = c .before .before .before .before .before .before .before .before .before .before .args in
     let s = a .sheet .now in
     let l = c .before .before .before .before .before .before .before .loop in
     let r = c .before .before .read-row in
-    let w = line-words s _ _ _ (line (c .before .before .before .before .before)) in
-    let y : isRow (a .n) (words s (l .i)) ≡ true = row-yes (a .n) (r .result) _ (r .ensures .0 ∙ ap (λ ws. cond (isRow (a .n) ws) 0 8) w) (c .if1 .left) in
-    let m = r .ensures .1 (c .if1 .left) ∙ ap (λ ws. sets (l .values) (l .i * 32) (map valueOf ws)) w in
-    (omega arith,
-    omega (arith, line (c .before .before .before .before .before) .inside),
-    line (c .before .before .before .before .before) .next,
-    below-next (λ k. isRow (a .n) (words s k)) (l .i) (l .inv .3) y,
-    square-next (value s) (l .values) _ (words s (l .i)) (a .n) (l .i) (omega arith) (omega arith) (l .inv .5) (row-length (a .n) _ y) m (value-at s (l .i)) (l .inv .4),
-    r .kept .1 .1 .1 .0 ∙ l .inv .5)
+    let y = not-false _ (passes _ _ (answer (c .before .before)) (c .if1 .left)) in
+    let m = r .ensures .1 (c .if1 .left) ∙ ap (λ ws. sets (l .values) (l .i * 32) (map valueOf ws)) (line-words s _ _ _ (line (c .before .before .before .before .before))) in (
+      omega arith,
+      omega (arith, line (c .before .before .before .before .before) .inside),
+      line (c .before .before .before .before .before) .next,
+      below-next (λ k. isRow (a .n) (words s k)) (l .i) (l .inv .3) y,
+      square-next (value s) (l .values) _ (words s (l .i)) (a .n) (l .i) (omega arith) (omega arith) (l .inv .5) (row-length (a .n) _ y) m (value-at s (l .i)) (l .inv .4),
+      r .kept .1 .1 .1 .0 ∙ l .inv .5,
+    )
 
--- src/lib.rt:116:1
 same-length-2 : tie.Need-same-length-2 Inv-loop μ-loop
 same-length-2 c = c .before .loop .inv .5 ∙ sym (c .before .before .before .before .pre .3)
 
--- src/lib.rt:116:1
 returns-2 : tie.Need-returns-2 Inv-loop μ-loop
 returns-2 c =
     let a = c .before .before .before .before .args in

@@ -1,30 +1,21 @@
 use mathlib.Core.Path.{sym, _∙_}
-use Rattle.reader.proofs.Answers.{number-is, entries-is}
-use native.Mathlib.Omega.{arith}
 use borrow.Author.Needs.{needs}
+use Rattle.reader.proofs.Answers.{number-is, entries-is}
 use Rattle.reader.proofs.refusal.Statement.{statement}
 use Rattle.reader.proofs.refusal.Tie as tie
-use Rattle.reader.proofs.refusal.Reads as reads
-use Rattle.reader.proofs.refusal.Lts as lts
-use Rattle.reader.proofs.read.Reads as read-reads
 
--- src/lib.rt:172:36
 read-requires : tie.Need-read-requires
 read-requires c κs = search needs
 
--- src/lib.rt:172:26
 enum-known-number : tie.Need-enum-known-number
 enum-known-number c = search needs
 
--- src/lib.rt:173:9
 enum-told : tie.Need-enum-told
 enum-told c = search needs
 
--- src/lib.rt:173:9
 returns : tie.Need-returns
 returns c = sym (entries-is (c .before .before .before .before .before .args .sheet .now) _ (sym (c .before .before .read .ensures .0) ∙ c .enum-told .given .1) .0)
 
--- src/lib.rt:168:1
 returns-2 : tie.Need-returns-2
 returns-2 c = number-is (c .before .before .before .before .before .before .args .sheet .now) _ (sym (c .before .before .before .read .ensures .0) ∙ c .before .number .given .1)
 

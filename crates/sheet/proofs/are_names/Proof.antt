@@ -1,21 +1,17 @@
-use Prim.Native.Nat.{_+_, _-_, _≤_, _<_}
 use mathlib.Core.Path.{_≡_, refl, sym, ap, _∙_}
-use mathlib.Core.Bool.{true, false}
+use mathlib.Core.Bool.{true}
+use Prim.Native.Nat.{_-_, _≤_}
+use native.Mathlib.Omega.{arith}
 use borrow.Author.Tests.{not-true, not-false}
+use borrow.Author.Needs.{needs}
 use lib.ListN.{length, drop}
 use Rattle.lists.specs.Lists.{all}
 use Rattle.text.specs.Text.{cut, isName}
 use Rattle.text.specs.Reading.{pieceAt}
 use Rattle.text.proofs.Pieces.{piece-inside, piece-part}
 use Rattle.sheet.proofs.Names.{not-name, last-name, more-names}
-use borrow.Author.Needs.{needs}
-use native.Mathlib.Omega.{arith}
 use Rattle.sheet.proofs.are_names.Statement.{statement}
 use Rattle.sheet.proofs.are_names.Tie as tie
-use Rattle.sheet.proofs.are_names.Reads as reads
-use Rattle.sheet.proofs.are_names.Lts as lts
-use Rattle.text.proofs.is_name.Reads as is-name-reads
-use Rattle.text.proofs.piece_end.Reads as piece-end-reads
 
 abbrev Inv-loop : tie.InvT-loop
 Inv-loop line at₀ at = (at ≤ length line) × (all isName (cut 32 (drop at line)) ≡ all isName (cut 32 line))
@@ -23,31 +19,24 @@ Inv-loop line at₀ at = (at ≤ length line) × (all isName (cut 32 (drop at li
 abbrev μ-loop : tie.MeasureT-loop
 μ-loop line at₀ at = length line - at
 
--- src/lib.rt:46:5
 loop-holds : tie.Need-loop-holds Inv-loop μ-loop
 loop-holds c = (omega arith, refl)
 
--- src/lib.rt:47:13
 piece-end-requires : tie.Need-piece-end-requires Inv-loop μ-loop
 piece-end-requires c κs = search needs
 
--- src/lib.rt:48:27
 sub-is-name : tie.Need-sub-is-name Inv-loop μ-loop
 sub-is-name c = search needs
 
--- src/lib.rt:48:27
 part-is-name-start : tie.Need-part-is-name-start Inv-loop μ-loop
 part-is-name-start c = search needs
 
--- src/lib.rt:48:27
 part-is-name-end : tie.Need-part-is-name-end Inv-loop μ-loop
 part-is-name-end c = piece-inside 32 (c .before .before .before .args .line .now) (c .before .loop .at) _ (c .before .loop .inv .0) (c .piece-end .ensures)
 
--- src/lib.rt:48:13
 is-name-requires : tie.Need-is-name-requires Inv-loop μ-loop
 is-name-requires c κs = search needs
 
--- src/lib.rt:49:13
 returns : tie.Need-returns Inv-loop μ-loop
 returns c =
     let s = c .before .before .before .before .before .before .args .line .now in
@@ -55,7 +44,6 @@ returns c =
     let p = piece-part 32 s (l .at) _ (l .inv .0) (c .before .before .before .piece-end .ensures) in
     sym (sym (l .inv .1) ∙ not-name s (l .at) (sym (c .before .is-name .ensures ∙ ap isName p) ∙ not-true _ (c .if1 .taken)))
 
--- src/lib.rt:52:13
 returns-2 : tie.Need-returns-2 Inv-loop μ-loop
 returns-2 c =
     let s = c .before .before .before .before .before .before .before .args .line .now in
@@ -64,17 +52,14 @@ returns-2 c =
     let e : isName (pieceAt 32 s (l .at)) ≡ true = sym (c .before .before .is-name .ensures ∙ ap isName p) ∙ not-false _ (c .before .if1 .left) in
     sym (sym (l .inv .1) ∙ last-name s (l .at) _ (l .inv .0) (c .before .before .before .before .piece-end .ensures) (c .if2 .taken) ∙ e)
 
--- src/lib.rt:54:14
 add-at : tie.Need-add-at Inv-loop μ-loop
 add-at c = search needs
 
--- src/lib.rt:46:5
 loop-less : tie.Need-loop-less Inv-loop μ-loop
 loop-less c =
     let s = c .before .before .before .before .before .before .before .args .line .now in
     omega (arith, c .before .before .before .before .piece-end .ensures)
 
--- src/lib.rt:46:5
 loop-again : tie.Need-loop-again Inv-loop μ-loop
 loop-again c =
     let s = c .before .before .before .before .before .before .before .args .line .now in

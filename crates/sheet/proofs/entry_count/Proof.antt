@@ -1,35 +1,27 @@
-use mathlib.Core.Path.{_≡_, refl, sym, ap, _∙_}
+use mathlib.Core.Path.{ap, _∙_}
 use mathlib.Core.List.{List}
 use Prim.Native.Nat.{ℕ}
+use native.Mathlib.Omega.{arith}
+use borrow.Author.Needs.{needs}
 use lib.ListN.{length}
 use Rattle.text.specs.Text.{cut}
 use Rattle.sheet.specs.Sheet.{entries, names}
 use Rattle.sheet.proofs.Lines.{line-inside, line-length, first-line}
-use native.Mathlib.Omega.{arith}
-use borrow.Author.Needs.{needs}
 use Rattle.sheet.proofs.entry_count.Statement.{statement}
 use Rattle.sheet.proofs.entry_count.Tie as tie
-use Rattle.sheet.proofs.entry_count.Reads as reads
-use Rattle.sheet.proofs.entry_count.Lts as lts
-use Rattle.text.proofs.piece_count.Reads as piece-count-reads
-use Rattle.text.proofs.piece_end.Reads as piece-end-reads
 
--- src/lib.rt:133:9
 piece-end-requires : tie.Need-piece-end-requires
 piece-end-requires c κs = search needs
 
--- src/lib.rt:134:23
 slice-aggregate-piece-count : tie.Need-slice-aggregate-piece-count
 slice-aggregate-piece-count c = line-length (c .before .before .before .args .sheet .now) (c .before .piece-end .result) (c .before .piece-end .ensures)
 
--- src/lib.rt:134:5
 piece-count-requires : tie.Need-piece-count-requires
 piece-count-requires c κs =
     let s = c .before .before .before .args .sheet .now in
     let e = c .before .piece-end .result in
     omega (arith, line-length s e (c .before .piece-end .ensures), line-inside s e (c .before .piece-end .ensures))
 
--- src/lib.rt:129:1
 returns : tie.Need-returns
 unfolding entries names
 returns c =

@@ -1,22 +1,16 @@
-use Prim.Native.Nat.{_+_, _-_, _≤_, _<_}
-use mathlib.Core.Path.{_≡_, refl, sym, ap, ap₂, _∙_}
+use mathlib.Core.Path.{_≡_, refl, sym, ap₂, _∙_}
 use mathlib.Core.List.{List}
-use mathlib.Core.Bool.{Bool, true, false}
-use Prim.Native.Nat.{ℕ}
+use Prim.Native.Nat.{_+_, _-_, _≤_, ℕ}
+use native.Mathlib.Omega.{arith}
+use borrow.Author.Needs.{needs}
 use lib.ListN.{length, drop}
 use Rattle.text.specs.Text.{cut}
 use Rattle.text.specs.Reading.{pieceAt}
-use Rattle.text.proofs.Pieces.{rest, piece-inside, piece-part}
+use Rattle.text.proofs.Pieces.{rest, piece-part}
 use Rattle.sheet.specs.Sheet.{isAmong, hasEqual}
 use Rattle.sheet.proofs.Names.{last-equal, more-equal}
-use borrow.Author.Needs.{needs}
-use native.Mathlib.Omega.{arith}
 use Rattle.sheet.proofs.has_equal.Statement.{statement}
 use Rattle.sheet.proofs.has_equal.Tie as tie
-use Rattle.sheet.proofs.has_equal.Reads as reads
-use Rattle.sheet.proofs.has_equal.Lts as lts
-use Rattle.sheet.proofs.is_among.Reads as is-among-reads
-use Rattle.text.proofs.piece_end.Reads as piece-end-reads
 
 abbrev Inv-loop : tie.InvT-loop
 Inv-loop line at₀ at = (at ≤ length line) × (hasEqual (cut 32 (drop at line)) ≡ hasEqual (cut 32 line))
@@ -24,54 +18,42 @@ Inv-loop line at₀ at = (at ≤ length line) × (hasEqual (cut 32 (drop at line
 abbrev μ-loop : tie.MeasureT-loop
 μ-loop line at₀ at = length line - at
 
--- src/lib.rt:107:5
 loop-holds : tie.Need-loop-holds Inv-loop μ-loop
 loop-holds c = (omega arith, refl)
 
--- src/lib.rt:108:13
 piece-end-requires : tie.Need-piece-end-requires Inv-loop μ-loop
 piece-end-requires c κs = search needs
 
--- src/lib.rt:110:13
 returns : tie.Need-returns Inv-loop μ-loop
 returns c =
     let s = c .before .before .before .before .args .line .now in
     let l = c .before .before .loop in
     sym (sym (l .inv .1) ∙ last-equal s (l .at) _ (l .inv .0) (c .before .piece-end .ensures) (c .if1 .taken))
 
--- src/lib.rt:112:20
 add-next : tie.Need-add-next Inv-loop μ-loop
 add-next c = search needs
 
--- src/lib.rt:113:21
 sub-is-among : tie.Need-sub-is-among Inv-loop μ-loop
 sub-is-among c = search needs
 
--- src/lib.rt:113:21
 part-is-among-start : tie.Need-part-is-among-start Inv-loop μ-loop
 part-is-among-start c = search needs
 
--- src/lib.rt:113:21
 part-is-among-end : tie.Need-part-is-among-end Inv-loop μ-loop
 part-is-among-end c = search needs
 
--- src/lib.rt:113:37
 sub-is-among-2 : tie.Need-sub-is-among-2 Inv-loop μ-loop
 sub-is-among-2 c = search needs
 
--- src/lib.rt:113:37
 part-is-among-start-2 : tie.Need-part-is-among-start-2 Inv-loop μ-loop
 part-is-among-start-2 c = search needs
 
--- src/lib.rt:113:37
 part-is-among-end-2 : tie.Need-part-is-among-end-2 Inv-loop μ-loop
 part-is-among-end-2 c = search needs
 
--- src/lib.rt:113:12
 is-among-requires : tie.Need-is-among-requires Inv-loop μ-loop
 is-among-requires c κs = search needs
 
--- src/lib.rt:114:13
 returns-2 : tie.Need-returns-2 Inv-loop μ-loop
 returns-2 c =
     let s = c .before .before .before .before .before .before .before .before .args .line .now in
@@ -81,11 +63,9 @@ returns-2 c =
     let i : c .before .is-among .result ≡ isAmong (pieceAt 32 s (l .at)) (cut 32 (drop (e + 1) s)) = c .before .is-among .ensures ∙ ap₂ (λ (w t : List ℕ). isAmong w (cut 32 t)) p (rest s (e + 1)) in
     sym (sym (l .inv .1) ∙ more-equal s (l .at) e (l .inv .0) (c .before .before .before .before .before .piece-end .ensures) (c .before .before .before .before .if1 .left) ∙ rw (sym i ∙ c .if2 .taken))
 
--- src/lib.rt:107:5
 loop-less : tie.Need-loop-less Inv-loop μ-loop
 loop-less c = search needs
 
--- src/lib.rt:107:5
 loop-again : tie.Need-loop-again Inv-loop μ-loop
 loop-again c =
     let s = c .before .before .before .before .before .before .before .before .args .line .now in

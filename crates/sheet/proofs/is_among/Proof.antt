@@ -1,20 +1,16 @@
-use Prim.Native.Nat.{_+_, _-_, _≤_, _<_}
 use mathlib.Core.Path.{_≡_, refl, sym, ap, _∙_}
-use mathlib.Core.Bool.{true, false}
+use mathlib.Core.Bool.{false}
+use Prim.Native.Nat.{_-_, _≤_}
+use native.Mathlib.Omega.{arith}
+use borrow.Author.Needs.{needs}
 use lib.ListN.{length, drop}
 use Rattle.text.specs.Text.{cut}
 use Rattle.text.specs.Reading.{pieceAt}
 use Rattle.text.proofs.Pieces.{piece-inside, piece-part}
 use Rattle.sheet.specs.Sheet.{sameBytes, isAmong}
 use Rattle.sheet.proofs.Names.{is-among, last-among, more-among}
-use borrow.Author.Needs.{needs}
-use native.Mathlib.Omega.{arith}
 use Rattle.sheet.proofs.is_among.Statement.{statement}
 use Rattle.sheet.proofs.is_among.Tie as tie
-use Rattle.sheet.proofs.is_among.Reads as reads
-use Rattle.sheet.proofs.is_among.Lts as lts
-use Rattle.sheet.proofs.same_bytes.Reads as same-bytes-reads
-use Rattle.text.proofs.piece_end.Reads as piece-end-reads
 
 abbrev Inv-loop : tie.InvT-loop
 Inv-loop word line at₀ at = (at ≤ length line) × (isAmong word (cut 32 (drop at line)) ≡ isAmong word (cut 32 line))
@@ -22,31 +18,24 @@ Inv-loop word line at₀ at = (at ≤ length line) × (isAmong word (cut 32 (dro
 abbrev μ-loop : tie.MeasureT-loop
 μ-loop word line at₀ at = length line - at
 
--- src/lib.rt:90:5
 loop-holds : tie.Need-loop-holds Inv-loop μ-loop
 loop-holds c = (omega arith, refl)
 
--- src/lib.rt:91:13
 piece-end-requires : tie.Need-piece-end-requires Inv-loop μ-loop
 piece-end-requires c κs = search needs
 
--- src/lib.rt:92:29
 sub-same-bytes : tie.Need-sub-same-bytes Inv-loop μ-loop
 sub-same-bytes c = search needs
 
--- src/lib.rt:92:29
 part-same-bytes-start : tie.Need-part-same-bytes-start Inv-loop μ-loop
 part-same-bytes-start c = search needs
 
--- src/lib.rt:92:29
 part-same-bytes-end : tie.Need-part-same-bytes-end Inv-loop μ-loop
 part-same-bytes-end c = piece-inside 32 (c .before .before .before .before .args .line .now) (c .before .loop .at) _ (c .before .loop .inv .0) (c .piece-end .ensures)
 
--- src/lib.rt:92:12
 same-bytes-requires : tie.Need-same-bytes-requires Inv-loop μ-loop
 same-bytes-requires c κs = search needs
 
--- src/lib.rt:93:13
 returns : tie.Need-returns Inv-loop μ-loop
 returns c =
     let w = c .before .before .before .before .before .before .before .args .word .now in
@@ -55,7 +44,6 @@ returns c =
     let p = piece-part 32 s (l .at) _ (l .inv .0) (c .before .before .before .piece-end .ensures) in
     sym (sym (l .inv .1) ∙ is-among s (l .at) w (sym (c .before .same-bytes .ensures ∙ ap (sameBytes w) p) ∙ c .if1 .taken))
 
--- src/lib.rt:96:13
 returns-2 : tie.Need-returns-2 Inv-loop μ-loop
 returns-2 c =
     let w = c .before .before .before .before .before .before .before .before .args .word .now in
@@ -65,15 +53,12 @@ returns-2 c =
     let e : sameBytes w (pieceAt 32 s (l .at)) ≡ false = sym (c .before .before .same-bytes .ensures ∙ ap (sameBytes w) p) ∙ c .before .if1 .left in
     sym (sym (l .inv .1) ∙ last-among s (l .at) _ (l .inv .0) (c .before .before .before .before .piece-end .ensures) w (c .if2 .taken) ∙ e)
 
--- src/lib.rt:98:14
 add-at : tie.Need-add-at Inv-loop μ-loop
 add-at c = search needs
 
--- src/lib.rt:90:5
 loop-less : tie.Need-loop-less Inv-loop μ-loop
 loop-less c = omega (arith, c .before .before .before .before .piece-end .ensures)
 
--- src/lib.rt:90:5
 loop-again : tie.Need-loop-again Inv-loop μ-loop
 loop-again c =
     let w = c .before .before .before .before .before .before .before .before .args .word .now in

@@ -1,15 +1,13 @@
-use Prim.Native.Nat.{_+_, _-_, _≤_, _<_}
 use mathlib.Core.Path.{_≡_, refl, sym, _∙_}
+use Prim.Native.Nat.{_-_, _≤_}
+use native.Mathlib.Omega.{arith}
 use borrow.Author.Tests.{eq-eqb, ne-eqb}
+use borrow.Author.Needs.{needs}
 use lib.ListN.{length, drop}
 use Rattle.sheet.specs.Sheet.{sameBytes}
 use Rattle.sheet.proofs.Names.{same-step, same-short, same-end}
-use borrow.Author.Needs.{needs}
-use native.Mathlib.Omega.{arith}
 use Rattle.sheet.proofs.same_bytes.Statement.{statement}
 use Rattle.sheet.proofs.same_bytes.Tie as tie
-use Rattle.sheet.proofs.same_bytes.Reads as reads
-use Rattle.sheet.proofs.same_bytes.Lts as lts
 
 abbrev Inv-loop : tie.InvT-loop
 Inv-loop a b i₀ i = (i ≤ length a) × (i ≤ length b) × (sameBytes (drop i a) (drop i b) ≡ sameBytes a b)
@@ -17,11 +15,9 @@ Inv-loop a b i₀ i = (i ≤ length a) × (i ≤ length b) × (sameBytes (drop i
 abbrev μ-loop : tie.MeasureT-loop
 μ-loop a b i₀ i = length a - i
 
--- src/lib.rt:73:5
 loop-holds : tie.Need-loop-holds Inv-loop μ-loop
 loop-holds c = (omega arith, omega arith, refl)
 
--- src/lib.rt:75:13
 returns : tie.Need-returns Inv-loop μ-loop
 returns c =
     let s = c .before .before .before .args .a .now in
@@ -29,15 +25,12 @@ returns c =
     let l = c .before .before .loop in
     sym (sym (l .inv .2) ∙ same-short s t (l .i) (omega arith) (omega arith))
 
--- src/lib.rt:77:12
 shared-slice-read-if2 : tie.Need-shared-slice-read-if2 Inv-loop μ-loop
 shared-slice-read-if2 c = search needs
 
--- src/lib.rt:77:20
 shared-slice-read-if2-2 : tie.Need-shared-slice-read-if2-2 Inv-loop μ-loop
 shared-slice-read-if2-2 c = search needs
 
--- src/lib.rt:78:13
 returns-2 : tie.Need-returns-2 Inv-loop μ-loop
 returns-2 c =
     let s = c .before .before .before .before .before .before .args .a .now in
@@ -45,15 +38,12 @@ returns-2 c =
     let l = c .before .before .before .before .before .loop in
     sym (sym (l .inv .2) ∙ same-step s t (l .i) (omega arith) (omega arith) ∙ rw (ne-eqb _ _ (c .if2 .taken)))
 
--- src/lib.rt:80:9
 add-i : tie.Need-add-i Inv-loop μ-loop
 add-i c = search needs
 
--- src/lib.rt:73:5
 loop-less : tie.Need-loop-less Inv-loop μ-loop
 loop-less c = search needs
 
--- src/lib.rt:73:5
 loop-again : tie.Need-loop-again Inv-loop μ-loop
 loop-again c =
     let s = c .before .before .before .before .before .before .args .a .now in
@@ -61,7 +51,6 @@ loop-again c =
     let l = c .before .before .before .before .before .loop in
     (omega arith, omega arith, sym (same-step s t (l .i) (omega arith) (omega arith) ∙ rw (eq-eqb _ _ (c .if2 .left))) ∙ l .inv .2)
 
--- src/lib.rt:69:1
 returns-3 : tie.Need-returns-3 Inv-loop μ-loop
 returns-3 c =
     let s = c .before .before .args .a .now in

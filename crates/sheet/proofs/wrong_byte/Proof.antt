@@ -1,19 +1,13 @@
 use mathlib.Core.Path.{ap}
 use mathlib.Core.Bool.{not}
-use Rattle.sheet.specs.Sheet.{wrongByte}
-use native.Mathlib.Omega.{arith}
 use borrow.Author.Needs.{needs}
+use Rattle.sheet.specs.Sheet.{wrongByte}
 use Rattle.sheet.proofs.wrong_byte.Statement.{statement}
 use Rattle.sheet.proofs.wrong_byte.Tie as tie
-use Rattle.sheet.proofs.wrong_byte.Reads as reads
-use Rattle.sheet.proofs.wrong_byte.Lts as lts
-use Rattle.text.proofs.all_in.Reads as all-in-reads
 
--- src/lib.rt:38:6
 all-in-requires : tie.Need-all-in-requires
 all-in-requires c κs = search needs
 
--- src/lib.rt:35:1
 returns : tie.Need-returns
 unfolding wrongByte
 returns c = ap not (c .all-in .ensures)

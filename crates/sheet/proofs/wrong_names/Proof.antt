@@ -1,37 +1,27 @@
-use mathlib.Core.Path.{_≡_, refl, sym, ap, _∙_}
+use mathlib.Core.Path.{ap, _∙_}
 use mathlib.Core.List.{List}
 use mathlib.Core.Bool.{not}
 use Prim.Native.Nat.{ℕ}
+use borrow.Author.Needs.{needs}
 use Rattle.lists.specs.Lists.{all}
 use Rattle.text.specs.Text.{cut, isName}
 use Rattle.sheet.specs.Sheet.{names}
 use Rattle.sheet.proofs.Lines.{line-length, first-line, no-feed, names-left}
-use native.Mathlib.Omega.{arith}
-use borrow.Author.Needs.{needs}
 use Rattle.sheet.proofs.wrong_names.Statement.{statement}
 use Rattle.sheet.proofs.wrong_names.Tie as tie
-use Rattle.sheet.proofs.wrong_names.Reads as reads
-use Rattle.sheet.proofs.wrong_names.Lts as lts
-use Rattle.sheet.proofs.are_names.Reads as are-names-reads
-use Rattle.text.proofs.piece_end.Reads as piece-end-reads
 
--- src/lib.rt:62:9
 piece-end-requires : tie.Need-piece-end-requires
 piece-end-requires c κs = search needs
 
--- src/lib.rt:64:9
 returns : tie.Need-returns
 returns c = no-feed (c .before .before .before .args .sheet .now) _ (c .before .piece-end .ensures) (c .if1 .taken)
 
--- src/lib.rt:66:16
 slice-aggregate-are-names : tie.Need-slice-aggregate-are-names
 slice-aggregate-are-names c = line-length (c .before .before .before .before .args .sheet .now) _ (c .before .before .piece-end .ensures)
 
--- src/lib.rt:66:6
 are-names-requires : tie.Need-are-names-requires
 are-names-requires c κs = search needs
 
--- src/lib.rt:59:1
 returns-2 : tie.Need-returns-2
 unfolding names
 returns-2 c =

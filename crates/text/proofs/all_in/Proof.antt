@@ -1,18 +1,15 @@
 use mathlib.Core.Bool.{true, false}
 use mathlib.Core.Path.{_≡_, sym, _∙_}
 use Prim.Native.Nat.{_-_, _≤_, _<_}
+use native.Mathlib.Omega.{arith}
 use borrow.Author.Tests.{not-true, not-false}
+use borrow.Author.Needs.{needs}
 use lib.ListN.{length, getD, drop, drop-of-length-le}
 use Rattle.lists.specs.Lists.{all}
 use Rattle.text.specs.Reading.{inClass}
 use Rattle.text.proofs.Bytes.{all-step}
-use borrow.Author.Needs.{needs}
-use native.Mathlib.Omega.{arith}
 use Rattle.text.proofs.all_in.Statement.{statement}
 use Rattle.text.proofs.all_in.Tie as tie
-use Rattle.text.proofs.all_in.Reads as reads
-use Rattle.text.proofs.all_in.Lts as lts
-use Rattle.text.proofs.in_class.Reads as in-class-reads
 
 abbrev Inv-loop : tie.InvT-loop
 Inv-loop class s i₀ i = (i ≤ length s) × (all (inClass class) (drop i s) ≡ all (inClass class) s)
@@ -20,19 +17,15 @@ Inv-loop class s i₀ i = (i ≤ length s) × (all (inClass class) (drop i s) �
 abbrev μ-loop : tie.MeasureT-loop
 μ-loop class s i₀ i = length s - i
 
--- src/lib.rt:81:5
 loop-holds : tie.Need-loop-holds Inv-loop μ-loop
 loop-holds c = search needs
 
--- src/lib.rt:82:29
 shared-slice-read-in-class : tie.Need-shared-slice-read-in-class Inv-loop μ-loop
 shared-slice-read-in-class c = search needs
 
--- src/lib.rt:82:13
 in-class-requires : tie.Need-in-class-requires Inv-loop μ-loop
 in-class-requires c κs = search needs
 
--- src/lib.rt:83:13
 returns : tie.Need-returns Inv-loop μ-loop
 returns c =
     let a = c .before .before .before .before .before .before .args in
@@ -41,15 +34,12 @@ returns c =
     let e : inClass (a .class) (getD (a .s .now) i 0) ≡ false = sym (c .before .in-class .ensures) ∙ not-true _ (c .if1 .taken) in
     sym (sym (c .before .before .before .before .loop .inv .1) ∙ all-step (inClass (a .class)) (a .s .now) i h ∙ rw e)
 
--- src/lib.rt:85:9
 add-i : tie.Need-add-i Inv-loop μ-loop
 add-i c = search needs
 
--- src/lib.rt:81:5
 loop-less : tie.Need-loop-less Inv-loop μ-loop
 loop-less c = search needs
 
--- src/lib.rt:81:5
 loop-again : tie.Need-loop-again Inv-loop μ-loop
 loop-again c =
     let a = c .before .before .before .before .before .before .args in
@@ -58,7 +48,6 @@ loop-again c =
     let e : inClass (a .class) (getD (a .s .now) i 0) ≡ true = sym (c .before .in-class .ensures) ∙ not-false _ (c .if1 .left) in
     (omega arith, sym (all-step (inClass (a .class)) (a .s .now) i h ∙ rw e) ∙ c .before .before .before .before .loop .inv .1)
 
--- src/lib.rt:77:1
 returns-2 : tie.Need-returns-2 Inv-loop μ-loop
 unfolding all
 returns-2 c =

@@ -1,34 +1,25 @@
 use mathlib.Core.Path.{sym, _∙_}
 use borrow.Author.Tests.{eq-eqb, ne-eqb}
-use Rattle.text.specs.Text.{isAllowed}
-use native.Mathlib.Omega.{arith}
 use borrow.Author.Needs.{needs}
+use Rattle.text.specs.Text.{isAllowed}
 use Rattle.text.proofs.is_allowed.Statement.{statement}
 use Rattle.text.proofs.is_allowed.Tie as tie
-use Rattle.text.proofs.is_allowed.Reads as reads
-use Rattle.text.proofs.is_allowed.Lts as lts
-use Rattle.text.proofs.is_name_byte.Reads as is-name-byte-reads
 
--- src/lib.rt:54:8
 is-name-byte-requires : tie.Need-is-name-byte-requires
 is-name-byte-requires c κs = search needs
 
--- src/lib.rt:55:9
 returns : tie.Need-returns
 unfolding isAllowed
 returns c = simp (sym (c .before .is-name-byte .ensures) ∙ c .if1 .taken)
 
--- src/lib.rt:58:9
 returns-2 : tie.Need-returns-2
 unfolding isAllowed
 returns-2 c = simp (sym (c .before .before .is-name-byte .ensures) ∙ c .before .if1 .left, eq-eqb _ _ (c .if2 .taken))
 
--- src/lib.rt:61:9
 returns-3 : tie.Need-returns-3
 unfolding isAllowed
 returns-3 c = simp (sym (c .before .before .before .is-name-byte .ensures) ∙ c .before .before .if1 .left, ne-eqb _ _ (c .before .if2 .left), eq-eqb _ _ (c .if3 .taken))
 
--- src/lib.rt:51:1
 returns-4 : tie.Need-returns-4
 unfolding isAllowed
 returns-4 c = simp (sym (c .before .before .before .is-name-byte .ensures) ∙ c .before .before .if1 .left, ne-eqb _ _ (c .before .if2 .left), ne-eqb _ _ (c .if3 .left))

@@ -1,18 +1,12 @@
 use borrow.Author.Tests.{le-leb, lt-leb}
 use Rattle.text.specs.Text.{isDigit}
-use borrow.Author.Needs.{needs}
-use native.Mathlib.Omega.{arith}
 use Rattle.text.proofs.is_digit.Statement.{statement}
 use Rattle.text.proofs.is_digit.Tie as tie
-use Rattle.text.proofs.is_digit.Reads as reads
-use Rattle.text.proofs.is_digit.Lts as lts
 
--- src/lib.rt:37:9
 returns : tie.Need-returns
 unfolding isDigit
 returns c = simp (lt-leb _ _ (c .if1 .taken))
 
--- src/lib.rt:33:1
 returns-2 : tie.Need-returns-2
 unfolding isDigit
 returns-2 c = simp (le-leb _ _ (c .if1 .left))

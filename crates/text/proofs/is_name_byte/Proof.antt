@@ -1,26 +1,17 @@
 use mathlib.Core.Path.{sym, _∙_}
-use native.Mathlib.Omega.{arith}
 use borrow.Author.Needs.{needs}
 use Rattle.text.proofs.is_name_byte.Statement.{statement}
 use Rattle.text.proofs.is_name_byte.Tie as tie
-use Rattle.text.proofs.is_name_byte.Reads as reads
-use Rattle.text.proofs.is_name_byte.Lts as lts
-use Rattle.text.proofs.is_digit.Reads as is-digit-reads
-use Rattle.text.proofs.is_upper.Reads as is-upper-reads
 
--- src/lib.rt:45:8
 is-upper-requires : tie.Need-is-upper-requires
 is-upper-requires c κs = search needs
 
--- src/lib.rt:46:9
 returns : tie.Need-returns
 returns c = simp (sym (c .before .is-upper .ensures) ∙ c .if1 .taken)
 
--- src/lib.rt:48:5
 is-digit-requires : tie.Need-is-digit-requires
 is-digit-requires c κs = search needs
 
--- src/lib.rt:42:1
 returns-2 : tie.Need-returns-2
 returns-2 c = simp (sym (c .before .before .is-upper .ensures) ∙ c .before .if1 .left, c .is-digit .ensures)
 

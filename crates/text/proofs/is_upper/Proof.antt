@@ -1,18 +1,12 @@
 use borrow.Author.Tests.{le-leb, lt-leb}
 use Rattle.text.specs.Text.{isUpper}
-use borrow.Author.Needs.{needs}
-use native.Mathlib.Omega.{arith}
 use Rattle.text.proofs.is_upper.Statement.{statement}
 use Rattle.text.proofs.is_upper.Tie as tie
-use Rattle.text.proofs.is_upper.Reads as reads
-use Rattle.text.proofs.is_upper.Lts as lts
 
--- src/lib.rt:28:9
 returns : tie.Need-returns
 unfolding isUpper
 returns c = simp (lt-leb _ _ (c .if1 .taken))
 
--- src/lib.rt:24:1
 returns-2 : tie.Need-returns-2
 unfolding isUpper
 returns-2 c = simp (le-leb _ _ (c .if1 .left))

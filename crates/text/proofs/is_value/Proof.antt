@@ -1,40 +1,32 @@
-use Prim.Native.Nat.{_<_}
 use mathlib.Core.Path.{_≡_, refl, sym, _∙_}
-use mathlib.Core.Bool.{true, false, and-true, and-false}
+use mathlib.Core.Bool.{false, and-true, and-false}
+use Prim.Native.Nat.{_<_}
+use native.Mathlib.Omega.{arith}
 use borrow.Author.Tests.{eq-eqb, ne-eqb}
+use borrow.Author.Needs.{needs}
 use lib.ListN.{length, getD, drop, length-drop}
 use Rattle.text.specs.Text.{isNumeral, isValue}
 use Rattle.text.proofs.Pieces.{rest}
 use Rattle.text.proofs.Words.{value-plain, value-minus, empty}
-use native.Mathlib.Omega.{arith}
-use borrow.Author.Needs.{needs}
 use Rattle.text.proofs.is_value.Statement.{statement}
 use Rattle.text.proofs.is_value.Tie as tie
-use Rattle.text.proofs.is_value.Reads as reads
-use Rattle.text.proofs.is_value.Lts as lts
-use Rattle.text.proofs.is_numeral.Reads as is-numeral-reads
 
--- src/lib.rt:161:9
 returns : tie.Need-returns
 unfolding isValue
 returns c = sym (empty isValue (c .before .before .args .word .now) (c .if1 .taken) refl)
 
--- src/lib.rt:163:8
 shared-slice-read-if2 : tie.Need-shared-slice-read-if2
 shared-slice-read-if2 c = search needs
 
--- src/lib.rt:164:9
 is-numeral-requires : tie.Need-is-numeral-requires
 is-numeral-requires c κs = search needs
 
--- src/lib.rt:164:9
 returns-2 : tie.Need-returns-2
 returns-2 c =
     let s = c .before .before .before .before .before .args .word .now in
     let h : 0 < length s = omega arith in
     c .is-numeral .ensures ∙ sym (value-plain s h (c .before .if2 .taken))
 
--- src/lib.rt:167:9
 returns-3 : tie.Need-returns-3
 unfolding isNumeral
 returns-3 c =
@@ -43,34 +35,28 @@ returns-3 c =
     let e : isNumeral (drop 1 s) ≡ false = empty isNumeral (drop 1 s) (omega (arith, length-drop 1 s)) refl in
     sym (value-minus s h (c .before .if2 .left) ∙ rw e)
 
--- src/lib.rt:169:8
 shared-slice-read-if4 : tie.Need-shared-slice-read-if4
 shared-slice-read-if4 c = search needs
 
--- src/lib.rt:170:9
 returns-4 : tie.Need-returns-4
 returns-4 c =
     let s = c .before .before .before .before .before .before .before .args .word .now in
     let h : 0 < length s = omega arith in
-    sym (value-minus s h (c .before .before .before .if2 .left) ∙ simp (eq-eqb _ _ (c .if4 .taken), and-false))
+    let z : getD s 1 0 ≡ 48 = c .if4 .taken in
+    sym (value-minus s h (c .before .before .before .if2 .left) ∙ simp (eq-eqb _ _ z, and-false))
 
--- src/lib.rt:172:16
 sub-is-numeral : tie.Need-sub-is-numeral
 sub-is-numeral c = search needs
 
--- src/lib.rt:172:16
 part-is-numeral-start : tie.Need-part-is-numeral-start
 part-is-numeral-start c = search needs
 
--- src/lib.rt:172:16
 part-is-numeral-end : tie.Need-part-is-numeral-end
 part-is-numeral-end c = search needs
 
--- src/lib.rt:172:5
 is-numeral-requires-2 : tie.Need-is-numeral-requires-2
 is-numeral-requires-2 c κs = search needs
 
--- src/lib.rt:156:1
 returns-5 : tie.Need-returns-5
 returns-5 c =
     let s = c .before .before .before .before .before .before .before .before .before .args .word .now in

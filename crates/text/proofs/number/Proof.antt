@@ -1,18 +1,16 @@
-use Prim.Native.Nat.{ℕ, _+_, _-_, _*_, _^_, _≤_, _<_}
 use mathlib.Core.Path.{_≡_, refl, sym, _∙_}
 use mathlib.Core.Bool.{true, _&&_}
+use Prim.Native.Nat.{_+_, _-_, _^_, _≤_, _<_}
+use native.Mathlib.Omega.{arith}
+use borrow.Author.Needs.{needs}
 use lib.Dec.{lit<}
 use lib.ListN.{length, getD, drop, drop-of-length-le}
 use Rattle.lists.specs.Lists.{all}
 use Rattle.text.specs.Text.{isDigit, numberFrom}
 use Rattle.text.proofs.Bytes.{all-step}
 use Rattle.text.proofs.Words.{and-left, and-right, digit-low, digit-high, ten-step, ten-bound, number-step}
-use borrow.Author.Needs.{needs}
-use native.Mathlib.Omega.{arith}
 use Rattle.text.proofs.number.Statement.{statement}
 use Rattle.text.proofs.number.Tie as tie
-use Rattle.text.proofs.number.Reads as reads
-use Rattle.text.proofs.number.Lts as lts
 
 abbrev Inv-loop : tie.InvT-loop
 Inv-loop digits v₀ i₀ v i =
@@ -24,7 +22,6 @@ Inv-loop digits v₀ i₀ v i =
 abbrev μ-loop : tie.MeasureT-loop
 μ-loop digits v₀ i₀ v i = length digits - i
 
--- src/lib.rt:182:5
 loop-holds : tie.Need-loop-holds Inv-loop μ-loop
 loop-holds c = (omega arith, lit< tt, c .pre .1, refl)
 
@@ -45,46 +42,38 @@ small c =
     let six : i ≤ 6 = omega arith in
     omega (arith, ten-bound i 6 six)
 
--- src/lib.rt:183:13
 mul-v : tie.Need-mul-v Inv-loop μ-loop
 mul-v c = omega (arith, small c)
 
--- src/lib.rt:183:23
 shared-slice-read-v : tie.Need-shared-slice-read-v Inv-loop μ-loop
 shared-slice-read-v c = search needs
 
--- src/lib.rt:183:23
 sub-v : tie.Need-sub-v Inv-loop μ-loop
 sub-v c = digit-low _ (digit c)
 
--- src/lib.rt:183:22
 cast-v : tie.Need-cast-v Inv-loop μ-loop
 cast-v c = omega (arith, digit-high _ (digit c))
 
--- src/lib.rt:183:13
 add-v : tie.Need-add-v Inv-loop μ-loop
 add-v c = omega (arith, digit-high _ (digit c), small (c .before))
 
--- src/lib.rt:184:9
 add-i : tie.Need-add-i Inv-loop μ-loop
 add-i c = search needs
 
--- src/lib.rt:182:5
 loop-less : tie.Need-loop-less Inv-loop μ-loop
 loop-less c = search needs
 
--- src/lib.rt:182:5
 loop-again : tie.Need-loop-again Inv-loop μ-loop
 loop-again c =
     let s = c .before .before .before .args .digits .now in
     let l = c .before .before .loop in
-    let h : l .i < length s = omega arith in
-    (omega arith,
-    ten-step (l .i) (l .v) _ (l .inv .1) (omega (arith, digit-high _ (digit c))),
-    and-right (isDigit (getD s (l .i) 0)) (all isDigit (drop (l .i + 1) s)) (split c),
-    sym (number-step s (l .i) h (l .v)) ∙ l .inv .3)
+    let h : l .i < length s = omega arith in (
+      omega arith,
+      ten-step (l .i) (l .v) _ (l .inv .1) (omega (arith, digit-high _ (digit c))),
+      and-right (isDigit (getD s (l .i) 0)) (all isDigit (drop (l .i + 1) s)) (split c),
+      sym (number-step s (l .i) h (l .v)) ∙ l .inv .3,
+    )
 
--- src/lib.rt:176:1
 returns : tie.Need-returns Inv-loop μ-loop
 unfolding numberFrom
 returns c =

@@ -1,15 +1,13 @@
 use mathlib.Core.Logic.{⊎-elim}
-use mathlib.Core.Path.{_≡_, refl, sym, ap, _∙_}
+use mathlib.Core.Path.{_≡_, refl}
 use Prim.Native.Nat.{_+_, _-_, _≤_, _<_}
+use native.Mathlib.Omega.{arith}
+use borrow.Author.Needs.{needs}
 use lib.ListN.{length, drop}
 use Rattle.text.specs.Text.{cut}
 use Rattle.text.proofs.Pieces.{count-stop, count-step, count-end}
-use borrow.Author.Needs.{needs}
-use native.Mathlib.Omega.{arith}
 use Rattle.text.proofs.piece_count.Statement.{statement}
 use Rattle.text.proofs.piece_count.Tie as tie
-use Rattle.text.proofs.piece_count.Reads as reads
-use Rattle.text.proofs.piece_count.Lts as lts
 
 abbrev Inv-loop : tie.InvT-loop
 Inv-loop s c n₀ i₀ n i = (i ≤ length s) × (n ≤ i + 1) × (n + length (cut c (drop i s)) ≡ 1 + length (cut c s))
@@ -17,27 +15,21 @@ Inv-loop s c n₀ i₀ n i = (i ≤ length s) × (n ≤ i + 1) × (n + length (c
 abbrev μ-loop : tie.MeasureT-loop
 μ-loop s c n₀ i₀ n i = length s - i
 
--- src/lib.rt:112:5
 loop-holds : tie.Need-loop-holds Inv-loop μ-loop
 loop-holds c = (omega arith, omega arith, refl)
 
--- src/lib.rt:113:12
 shared-slice-read-if1 : tie.Need-shared-slice-read-if1 Inv-loop μ-loop
 shared-slice-read-if1 c = search needs
 
--- src/lib.rt:114:13
 add-n : tie.Need-add-n Inv-loop μ-loop
 add-n c = search needs
 
--- src/lib.rt:116:9
 add-i : tie.Need-add-i Inv-loop μ-loop
 add-i c = search needs
 
--- src/lib.rt:112:5
 loop-less : tie.Need-loop-less Inv-loop μ-loop
 loop-less c = search needs
 
--- src/lib.rt:112:5
 loop-again : tie.Need-loop-again Inv-loop μ-loop
 loop-again c =
     let a = c .before .before .before .before .args in
@@ -48,7 +40,6 @@ loop-again c =
     (λ w. omega (arith, count-step (a .c) (a .s .now) (l .i) h (w .0 .left)))
     (c .if1 .came)
 
--- src/lib.rt:106:1
 returns : tie.Need-returns Inv-loop μ-loop
 returns c =
     let a = c .before .before .args in

@@ -1,14 +1,12 @@
-use mathlib.Core.Path.{_≡_, refl, sym, ap, _∙_}
+use mathlib.Core.Path.{_≡_, refl, ap}
 use Prim.Native.Nat.{_+_, _-_, _≤_, _<_}
+use native.Mathlib.Omega.{arith}
+use borrow.Author.Needs.{needs}
 use lib.ListN.{length}
 use Rattle.text.specs.Reading.{pieceAt}
 use Rattle.text.proofs.Pieces.{piece-stop, piece-step, piece-none}
-use borrow.Author.Needs.{needs}
-use native.Mathlib.Omega.{arith}
 use Rattle.text.proofs.piece_end.Statement.{statement}
 use Rattle.text.proofs.piece_end.Tie as tie
-use Rattle.text.proofs.piece_end.Reads as reads
-use Rattle.text.proofs.piece_end.Lts as lts
 
 abbrev Inv-loop : tie.InvT-loop
 Inv-loop s c from at₀ at = (at ≤ length s) × (at + length (pieceAt c s at) ≡ from + length (pieceAt c s from))
@@ -16,15 +14,12 @@ Inv-loop s c from at₀ at = (at ≤ length s) × (at + length (pieceAt c s at) 
 abbrev μ-loop : tie.MeasureT-loop
 μ-loop s c from at₀ at = length s - at
 
--- src/lib.rt:96:5
 loop-holds : tie.Need-loop-holds Inv-loop μ-loop
 loop-holds c = (omega arith, refl)
 
--- src/lib.rt:97:12
 shared-slice-read-if1 : tie.Need-shared-slice-read-if1 Inv-loop μ-loop
 shared-slice-read-if1 c = search needs
 
--- src/lib.rt:98:13
 returns : tie.Need-returns Inv-loop μ-loop
 returns c =
     let a = c .before .before .before .before .args in
@@ -32,15 +27,12 @@ returns c =
     let h : l .at < length (a .s .now) = omega arith in
     omega (arith, ap length (piece-stop (a .c) (a .s .now) (l .at) h (c .if1 .taken)))
 
--- src/lib.rt:100:9
 add-at : tie.Need-add-at Inv-loop μ-loop
 add-at c = search needs
 
--- src/lib.rt:96:5
 loop-less : tie.Need-loop-less Inv-loop μ-loop
 loop-less c = search needs
 
--- src/lib.rt:96:5
 loop-again : tie.Need-loop-again Inv-loop μ-loop
 loop-again c =
     let a = c .before .before .before .before .args in
@@ -48,7 +40,6 @@ loop-again c =
     let h : l .at < length (a .s .now) = omega arith in
     (omega arith, omega (arith, ap length (piece-step (a .c) (a .s .now) (l .at) h (c .if1 .left))))
 
--- src/lib.rt:91:1
 returns-2 : tie.Need-returns-2 Inv-loop μ-loop
 returns-2 c =
     let a = c .before .before .args in

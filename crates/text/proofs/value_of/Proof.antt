@@ -1,54 +1,41 @@
-use Prim.Native.Nat.{_<_}
-use mathlib.Core.Path.{_≡_, refl, sym, ap, _∙_}
-use mathlib.Core.Bool.{true}
+use mathlib.Core.Path.{_≡_, sym, ap, _∙_}
+use native.Mathlib.Omega.{arith}
+use borrow.Author.Needs.{needs}
 use lib.IntN.{pos, negℤ}
-use lib.ListN.{length, getD, drop, length-drop}
+use lib.ListN.{drop}
 use mir.Facts.{toZ-ofZ}
 use Rattle.text.specs.Text.{numberFrom}
 use Rattle.text.proofs.Pieces.{rest}
-use Rattle.text.proofs.Words.{Digits, value-some, plain-digits, minus-digits, plain-value, minus-value, neg-fits, plus, minus}
-use native.Mathlib.Omega.{arith}
-use borrow.Author.Needs.{needs}
+use Rattle.text.proofs.Words.{value-some, plain-digits, minus-digits, plain-value, minus-value, neg-fits, plus, minus}
 use Rattle.text.proofs.value_of.Statement.{statement}
 use Rattle.text.proofs.value_of.Tie as tie
-use Rattle.text.proofs.value_of.Reads as reads
-use Rattle.text.proofs.value_of.Lts as lts
-use Rattle.text.proofs.number.Reads as number-reads
 
--- src/lib.rt:193:8
 shared-slice-read-if1 : tie.Need-shared-slice-read-if1
 shared-slice-read-if1 c = value-some (c .before .before .args .word .now) (c .before .before .pre)
 
--- src/lib.rt:194:27
 sub-number : tie.Need-sub-number
 sub-number c = omega (arith, value-some (c .before .before .before .args .word .now) (c .before .before .before .pre))
 
--- src/lib.rt:194:27
 part-number-start : tie.Need-part-number-start
 part-number-start c = omega (arith, value-some (c .before .before .before .args .word .now) (c .before .before .before .pre))
 
--- src/lib.rt:194:27
 part-number-end : tie.Need-part-number-end
 part-number-end c = search needs
 
--- src/lib.rt:194:20
 number-requires : tie.Need-number-requires
 number-requires c κs =
     let s = c .before .before .before .before .args .word .now in
     let d = minus-digits s (c .before .before .before .before .pre) (c .before .if1 .taken) in
     rw (rest s 1) (d .few, d .digits)
 
--- src/lib.rt:194:20
 cast-result : tie.Need-cast-result
 cast-result c = search needs
 
--- src/lib.rt:194:16
 sub-result : tie.Need-sub-result
 sub-result c =
     let v = c .number in
     rw (minus (v .result) (v .ensures .1)) (neg-fits (v .result) (v .ensures .1))
 
--- src/lib.rt:194:9
 returns : tie.Need-returns
 returns c =
     let s = c .before .before .before .before .before .args .word .now in
@@ -57,18 +44,15 @@ returns c =
     rw (minus (v .result) (v .ensures .1), toZ-ofZ (neg-fits (v .result) (v .ensures .1)))
     (ap (λ k. negℤ (pos k)) n ∙ sym (minus-value s (value-some s (c .before .before .before .before .before .pre)) (c .before .before .if1 .taken)))
 
--- src/lib.rt:196:5
 number-requires-2 : tie.Need-number-requires-2
 number-requires-2 c κs =
     let s = c .before .before .before .args .word .now in
     let d = plain-digits s (c .before .before .before .pre) (c .if1 .left) in
     (d .few, d .digits)
 
--- src/lib.rt:196:5
 cast-result-2 : tie.Need-cast-result-2
 cast-result-2 c = search needs
 
--- src/lib.rt:189:1
 returns-2 : tie.Need-returns-2
 returns-2 c =
     let s = c .before .before .before .before .args .word .now in

@@ -1,0 +1,4 @@
+pub mod Rows
+pub mod Bounds
+pub mod Refusals
+pub mod Distances
