@@ -26,7 +26,7 @@ place-row : (a b : ℕ) → b ≤ a → place a b ≡ rowStart a + b
 unfolding place
 place-row a b h = ap₂ _+_ (ap rowStart (max-eq-left h)) (min-eq-right h)
 
-row-lt : (n a b : ℕ) → a < n → b ≤ a → rowStart a + b < rowStart n
+pub row-lt : (n a b : ℕ) → a < n → b ≤ a → rowStart a + b < rowStart n
 row-lt zero a b h k = absurd (omega arith)
 row-lt (suc n) a b h k = go (ℕ-discrete a n) (row-lt n a b)
   where
@@ -76,7 +76,7 @@ unfolding pairList
 pairList-cong n s t f = each-cong (below n) (λ a. map (s a) (below (suc a))) (λ a. map (t a) (below (suc a)))
     (λ a h. map-cong (s a) (t a) (below (suc a)) (λ b k. f a b (below-lt n h) (omega (arith, below-lt (suc a) k))))
 
-pairList-suc : (n : ℕ) (s : Similarity) → pairList (suc n) s ≡ pairList n s ++ map (s n) (below (suc n))
+pub pairList-suc : (n : ℕ) (s : Similarity) → pairList (suc n) s ≡ pairList n s ++ map (s n) (below (suc n))
 unfolding pairList
 pairList-suc n s = each-below n (λ a. map (s a) (below (suc a)))
 

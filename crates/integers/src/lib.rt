@@ -3,7 +3,7 @@ ghost use mathlib.Core.Path.{_≡_};
 ghost use Prim.Native.Nat.{_-_, _^_, _≤_};
 ghost use lib.IntN.{pos, _+ℤ_, _-ℤ_, _*ℤ_};
 ghost use lib.Signed.{leZ};
-ghost use Rattle.integers.specs.Integers.{minZ, maxZ, eqZ};
+ghost use Rattle.integers.specs.Integers.{minZ, maxZ, eqZ, half, even};
 ghost use Rattle.integers.specs.Range.{Within};
 
 pub fn wide(x: i32) -> i64
@@ -62,4 +62,18 @@ pub fn times(k: usize, x: i64) -> i64
     ensures { λ r. ⌜ r ≡ pos k *ℤ x ⌝ }
 {
     (k as i64) * x
+}
+
+pub fn half(x: i64) -> i64
+    ensures { λ r. ⌜ r ≡ half x ⌝ }
+{
+    x / 2
+}
+
+pub fn is_even(x: i64) -> bool
+    requires { ⌜ Within (2 ^ 61) x ⌝ }
+    ensures { λ r. ⌜ r ≡ even x ⌝ }
+{
+    let h = half(x);
+    is_equal(sum(h, h), x)
 }
