@@ -168,7 +168,7 @@ pub score-anchored : (n x : ℕ) (l : List ℤ) (a b : ℕ) → a < n → b < n 
 unfolding anchoredScores
 score-anchored n x l = score-pairList n (farris (score l) x) (farris-symm (score l) (score-symm l) x)
 
-score-back : (n : ℕ) (l : List ℤ) (a b : ℕ) → a < n → b < n → score (distancesBack n l) a b ≡ unfarris (score l) a b
+pub score-back : (n : ℕ) (l : List ℤ) (a b : ℕ) → a < n → b < n → score (distancesBack n l) a b ≡ unfarris (score l) a b
 unfolding distancesBack
 score-back n l = score-pairList n (unfarris (score l)) (unfarris-symm (score l) (score-symm l))
 

@@ -1,31 +1,43 @@
--- The size of anchored scores and of distances back.
-use mathlib.Core.Path.{_≡_, sym, subst}
+-- The size of anchored scores and of distances back, and of what the code adds up for them.
+use mathlib.Core.Path.{_≡_, refl, sym, ap₂, subst, _∙_}
 use mathlib.Core.List.{List}
-use Prim.Native.Nat.{ℕ, _-_, _^_}
+use Prim.Native.Nat.{ℕ, _-_, _^_, _<_}
 use native.Mathlib.Omega.{arith}
 use lib.Dec.{T}
 use lib.IntN.{ℤ, _+ℤ_}
+use lib.Signed.{mag}
+use mir.Syntax.{w64}
+use mir.Val.{hbits, ofZ, toZ}
 use Rattle.integers.specs.Range.{Within, Bounded}
-use Rattle.integers.proofs.Halves.{half-within}
+use Rattle.integers.proofs.Held.{passed}
 use Rattle.integers.proofs.Range.{within-grow, within-sum, within-difference}
-use Rattle.clusters.specs.PairList.{Similarity, score, inRange}
-use Rattle.clusters.specs.Farris.{farris, unfarris, anchoredScores}
+use Rattle.clusters.specs.PairList.{score, inRange}
+use Rattle.clusters.specs.Farris.{farris, unfarris, anchoredScores, distancesBack}
 use Rattle.clusters.proofs.PairList.{of-pairList}
+use Rattle.clusters.proofs.Farris.{score-back}
 use Rattle.matrix.proofs.Scores.{score-within}
 
--- what the code adds and subtracts
-pub score-small : (l : List ℤ) (a b : ℕ) → T (inRange l) → Within (2 ^ 61) (score l a b)
-score-small l a b t = within-grow (omega arith) (score-within l a b t)
+-- the results of two calls, numbers of 32 bits, and the result of a call that adds them: each may be added or subtracted
+pub addend : {u : ℤ} → mag u < 2 ^ hbits w64 → Within (2 ^ 31) u → Within (2 ^ 61) (toZ w64 (ofZ w64 u))
+addend h p = subst (Within (2 ^ 61)) (sym (passed w64 h refl)) (within-grow (omega arith) p)
 
-pub sum-small : (l : List ℤ) (x a b : ℕ) → T (inRange l) → Within (2 ^ 61) (score l a x +ℤ score l b x)
-sum-small l x a b t = within-grow (omega arith) (within-sum (score-within l a x t) (score-within l b x t))
+pub addends : {u v r : ℤ} → mag u < 2 ^ hbits w64 → mag v < 2 ^ hbits w64 → mag r < 2 ^ hbits w64 → r ≡ toZ w64 (ofZ w64 u) +ℤ toZ w64 (ofZ w64 v)
+    → Within (2 ^ 31) u → Within (2 ^ 31) v → Within (2 ^ 61) (toZ w64 (ofZ w64 r))
+addends {u} {v} h k m e p q =
+    let f : toZ w64 (ofZ w64 u) ≡ u = passed w64 h refl in
+    let g : toZ w64 (ofZ w64 v) ≡ v = passed w64 k refl in
+    subst (Within (2 ^ 61)) (sym (passed w64 m (e ∙ ap₂ _+ℤ_ f g))) (within-grow (omega arith) (within-sum p q))
 
-pub farris-within : (l : List ℤ) (x a b : ℕ) → T (inRange l) → Within 3000000 (farris (score l) x a b)
+farris-within : (l : List ℤ) (x a b : ℕ) → T (inRange l) → Within 3000000 (farris (score l) x a b)
 unfolding farris
 farris-within l x a b t = within-difference (within-sum (score-within l a x t) (score-within l b x t)) (score-within l a b t)
 
+-- what is written fits 32 bits
 pub farris-small : (l : List ℤ) (x a b : ℕ) → T (inRange l) → Within (2 ^ 31 - 1) (farris (score l) x a b)
 farris-small l x a b t = within-grow (omega arith) (farris-within l x a b t)
+
+pub unfarris-small : (n : ℕ) (l : List ℤ) (a b : ℕ) → T (inRange (distancesBack n l)) → a < n → b < n → Within (2 ^ 31 - 1) (unfarris (score l) a b)
+unfarris-small n l a b t h k = within-grow (omega arith) (subst (Within 1000000) (score-back n l a b h k) (score-within (distancesBack n l) a b t))
 
 pub anchored-bounded : (n x : ℕ) (l : List ℤ) → T (inRange l) → Bounded (2 ^ 22) (anchoredScores n x l)
 unfolding anchoredScores

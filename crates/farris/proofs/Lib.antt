@@ -1,3 +1,4 @@
 pub mod Rows
 pub mod Bounds
 pub mod Refusals
+pub mod Distances

@@ -10,8 +10,9 @@ use lib.IntN.{ℤ}
 use lib.ListN.{length}
 use Rattle.lists.proofs.Tests.{true-T, false-T}
 use Rattle.clusters.specs.PairList.{rowStart, hasLength, inRange, areDistances}
-use Rattle.clusters.specs.Farris.{isAnchored}
+use Rattle.clusters.specs.Farris.{distancesBack, isAnchored}
 use Rattle.clusters.specs.Refusals.{firstOf, wrongCount}
+use Rattle.farris.proofs.Distances.{anchored-ranged}
 use Rattle.farris.specs.Calls.{anchoredChecks, anchoredRefusal, backChecks, backRefusal}
 
 -- the table l gives r
@@ -39,6 +40,13 @@ unfolding firstOf
 no-first k true l h e = absurd (omega arith)
 no-first k false l h e = (refl, e)
 
+-- one of two conditions
+pub or-first : {a : Bool} (b : Bool) → a ≡ true → a || b ≡ true
+or-first b e = rw e
+
+pub or-second : {a b t : Bool} → a ≡ false → b ≡ t → a || b ≡ t
+or-second e q = rw e q
+
 or-none : (a b : Bool) → a || b ≡ false → (a ≡ false) × (b ≡ false)
 or-none true b e = absurd (false-T {b = true} e)
 or-none false b e = (refl, e)
@@ -51,7 +59,7 @@ pub right-length : (n : ℕ) (l : List ℤ) → not (hasLength n l) ≡ false �
 unfolding hasLength
 right-length n l e = eqb-true (length l) (rowStart n) (not-false (hasLength n l) e)
 
-in-place : (n x room : ℕ) → leb n x || ltb room (rowStart n) ≡ false → (x < n) × (rowStart n ≤ room)
+pub in-place : (n x room : ℕ) → leb n x || ltb room (rowStart n) ≡ false → (x < n) × (rowStart n ≤ room)
 in-place n x room e = let (p, q) = or-none (leb n x) (ltb room (rowStart n)) e in (leb-false n x p, ltb-false room (rowStart n) q)
 
 pub anchored-passes : (n x : ℕ) (l : List ℤ) (room : ℕ) → anchoredRefusal n x l room ≡ 0
@@ -67,12 +75,11 @@ anchored-passes n x l room e₀ =
     (right-count n c₆, hx, right-length n l c₁₀, true-T (not-false (inRange l) c₁₁), hr)
 
 pub back-passes : (n x : ℕ) (l : List ℤ) (room : ℕ) → backRefusal n x l room ≡ 0
-    → (n ≤ 32) × (x < n) × (length l ≡ rowStart n) × T (isAnchored n x l) × (rowStart n ≤ room)
+    → (n ≤ 32) × (length l ≡ rowStart n) × T (inRange (distancesBack n l)) × (rowStart n ≤ room)
 unfolding backRefusal backChecks
 back-passes n x l room e₀ =
     let (c₆, e₆) = no-first 6 (wrongCount n) _ (lit< tt) e₀ in
     let (c₁₀, e₁₀) = no-first 10 (not (hasLength n l)) _ (lit< tt) e₆ in
     let (c₁₅, e₁₅) = no-first 15 (leb n x || ltb room (rowStart n) || not (isAnchored n x l)) _ (lit< tt) e₁₀ in
     let (c, t) = or-none (leb n x || ltb room (rowStart n)) (not (isAnchored n x l)) c₁₅ in
-    let (hx, hr) = in-place n x room c in
-    (right-count n c₆, hx, right-length n l c₁₀, true-T (not-false (isAnchored n x l) t), hr)
+    (right-count n c₆, right-length n l c₁₀, anchored-ranged n x l (true-T (not-false (isAnchored n x l) t)), in-place n x room c .1)

@@ -2,14 +2,15 @@
 ghost use mathlib.Core.Path.{_≡_};
 ghost use mathlib.Core.Bool.{_&&_, _||_};
 ghost use mathlib.Core.List.{_++_, map};
-ghost use Prim.Native.Nat.{suc, _<_, _≤_};
+ghost use Prim.Native.Nat.{suc, _^_, _<_, _≤_};
 ghost use lib.Dec.{T, leb, ltb};
 ghost use lib.IntN.{pos};
 ghost use lib.ListN.{length, drop};
 ghost use lib.Seq.{sets};
 ghost use Rattle.lists.specs.Lists.{all, below};
 ghost use Rattle.integers.specs.Integers.{eqZ, even};
-ghost use Rattle.clusters.specs.PairList.{rowStart, score, inRange, areDistances};
+ghost use Rattle.integers.specs.Range.{Within};
+ghost use Rattle.clusters.specs.PairList.{rowStart, place, score, inRange, areDistances};
 ghost use Rattle.clusters.specs.Farris.{farris, unfarris, anchoredScores, distancesBack, isAnchored};
 ghost use Rattle.clusters.specs.Refusals.{wrongCount};
 ghost use Rattle.answers.specs.Answers.{answer, slots};
@@ -17,13 +18,21 @@ ghost use Rattle.farris.specs.Calls.{anchoredRefusal, backRefusal};
 ghost use Rattle.farris.specs.Distances.{isDistance};
 use answers::Answer;
 
+// The score of a and b in any list; it has 32 bits, so sums of a few do not wrap.
+fn listed_score(pairs: &[i32], a: usize, b: usize) -> i64
+    requires { ⌜ (a < 32) × (b < 32) × (place a b < length (now pairs)) ⌝ }
+    ensures { λ r. ⌜ (r ≡ score (now (pairs .entry)) a b) × Within (2 ^ 31) r ⌝ }
+{
+    integers::wide(pairs[matrix::place_of(a, b)])
+}
+
 // S(a,b) at the anchor x.
 fn anchored_score(n: usize, x: usize, pairs: &[i32], a: usize, b: usize) -> i64
-    requires { ⌜ (n ≤ 32) × (x < n) × (length (now pairs) ≡ rowStart n) × T (inRange (now pairs)) × (a < n) × (b < n) ⌝ }
+    requires { ⌜ (n ≤ 32) × (x < n) × (length (now pairs) ≡ rowStart n) × (a < n) × (b < n) ⌝ }
     ensures { λ r. ⌜ r ≡ farris (score (now (pairs .entry))) x a b ⌝ }
 {
-    let anchored = integers::sum(matrix::score(pairs, a, x), matrix::score(pairs, b, x));
-    integers::difference(anchored, matrix::score(pairs, a, b))
+    let to_anchor = integers::sum(listed_score(pairs, a, x), listed_score(pairs, b, x));
+    integers::difference(to_anchor, listed_score(pairs, a, b))
 }
 
 // Row a of the anchored scores.
@@ -100,5 +109,128 @@ pub fn anchored_scores(n: usize, x: usize, pairs: &[i32], out: &mut [i32]) -> An
         return Answer::Refused(refusal);
     }
     anchor(n, x, pairs, out);
+    Answer::Count(matrix::pair_count(n))
+}
+
+// d(a,b), found back from the anchored scores.
+fn distance_back(n: usize, scores: &[i32], a: usize, b: usize) -> i64
+    requires { ⌜ (n ≤ 32) × (length (now scores) ≡ rowStart n) × (a < n) × (b < n) ⌝ }
+    ensures { λ r. ⌜ r ≡ unfarris (score (now (scores .entry))) a b ⌝ }
+{
+    let own = integers::sum(listed_score(scores, a, a), listed_score(scores, b, b));
+    let between = listed_score(scores, a, b);
+    integers::half(integers::difference(own, integers::sum(between, between)))
+}
+
+fn is_distance(v: i64) -> bool
+    ensures { λ r. ⌜ r ≡ isDistance v ⌝ }
+{
+    integers::at_most(0, v) && integers::at_most(v, 1000000)
+}
+
+// Row a, found back, is of distances.
+fn is_row_back(n: usize, scores: &[i32], a: usize) -> bool
+    requires { ⌜ (n ≤ 32) × (length (now scores) ≡ rowStart n) × (a < n) ⌝ }
+    ensures { λ r. ⌜ r ≡ all (λ b. isDistance (unfarris (score (now (scores .entry))) a b)) (below (suc a)) ⌝ }
+{
+    for b in 0..a + 1 {
+        if !is_distance(distance_back(n, scores, a, b)) {
+            return false;
+        }
+    }
+    true
+}
+
+// What is found back passes checks 11 and 12.
+fn are_distances_back(n: usize, scores: &[i32]) -> bool
+    requires { ⌜ (n ≤ 32) × (length (now scores) ≡ rowStart n) ⌝ }
+    ensures { λ r. ⌜ r ≡ (inRange (distancesBack n (now (scores .entry))) && areDistances n (distancesBack n (now (scores .entry)))) ⌝ }
+{
+    for a in 0..n {
+        if !is_row_back(n, scores, a) {
+            return false;
+        }
+    }
+    true
+}
+
+// S(a,x) is 0 and S(a,a) is even.
+fn is_own(n: usize, x: usize, scores: &[i32], a: usize) -> bool
+    requires { ⌜ (n ≤ 32) × (x < n) × (length (now scores) ≡ rowStart n) × (a < n) ⌝ }
+    ensures { λ r. ⌜ r ≡ (eqZ (score (now (scores .entry)) a x) (pos 0) && even (score (now (scores .entry)) a a)) ⌝ }
+{
+    integers::is_equal(listed_score(scores, a, x), 0) && integers::is_even(listed_score(scores, a, a))
+}
+
+fn are_own(n: usize, x: usize, scores: &[i32]) -> bool
+    requires { ⌜ (n ≤ 32) × (x < n) × (length (now scores) ≡ rowStart n) ⌝ }
+    ensures { λ r. ⌜ r ≡ all (λ a. eqZ (score (now (scores .entry)) a x) (pos 0) && even (score (now (scores .entry)) a a)) (below n) ⌝ }
+{
+    for a in 0..n {
+        if !is_own(n, x, scores, a) {
+            return false;
+        }
+    }
+    true
+}
+
+// The list is the anchored scores, at x, of distances.
+fn is_anchored(n: usize, x: usize, scores: &[i32]) -> bool
+    requires { ⌜ (n ≤ 32) × (x < n) × (length (now scores) ≡ rowStart n) ⌝ }
+    ensures { λ r. ⌜ r ≡ isAnchored n x (now (scores .entry)) ⌝ }
+{
+    are_own(n, x, scores) && are_distances_back(n, scores)
+}
+
+// Row a of the distances back.
+fn back_row(n: usize, scores: &[i32], a: usize, out: &mut [i32])
+    requires { ⌜ (n ≤ 32) × (length (now scores) ≡ rowStart n) × T (inRange (distancesBack n (now scores))) × (a < n) × (rowStart n ≤ length (now out)) ⌝ }
+    ensures { λ _. ⌜ now (out .exit) ≡ sets (now (out .entry)) (rowStart a) (map (unfarris (score (now (scores .entry))) a) (below (suc a))) ⌝ }
+{
+    let start = matrix::row_start(a);
+    for b in 0..a + 1 {
+        out[start + b] = integers::narrow(distance_back(n, scores, a, b));
+    }
+}
+
+// The distances back of scores that passed their checks.
+fn back(n: usize, scores: &[i32], out: &mut [i32])
+    requires { ⌜ (n ≤ 32) × (length (now scores) ≡ rowStart n) × T (inRange (distancesBack n (now scores))) × (rowStart n ≤ length (now out)) ⌝ }
+    ensures { λ _. ⌜ now (out .exit) ≡ distancesBack n (now (scores .entry)) ++ drop (rowStart n) (now (out .entry)) ⌝ }
+{
+    for a in 0..n {
+        back_row(n, scores, a, out);
+    }
+}
+
+// The first number of the way back's table whose condition holds, 0 if none does.
+fn back_refusal(n: usize, x: usize, scores: &[i32], room: usize) -> usize
+    ensures { λ r. ⌜ r ≡ backRefusal n x (now (scores .entry)) room ⌝ }
+{
+    if is_wrong_count(n) {
+        return 6;
+    }
+    if !matrix::has_length(n, scores) {
+        return 10;
+    }
+    if is_out_of_place(n, x, room) {
+        return 15;
+    }
+    if !is_anchored(n, x, scores) {
+        return 15;
+    }
+    0
+}
+
+// The way back.
+pub fn distances_back(n: usize, x: usize, scores: &[i32], out: &mut [i32]) -> Answer
+    ensures { λ r. ⌜ r ≡ answer (backRefusal n x (now (scores .entry)) (length (now (out .entry)))) (rowStart n) ⌝ }
+    ensures { λ _. ⌜ now (out .exit) ≡ slots (backRefusal n x (now (scores .entry)) (length (now (out .entry)))) (distancesBack n (now (scores .entry))) (now (out .entry)) ⌝ }
+{
+    let refusal = back_refusal(n, x, scores, out.len());
+    if refusal != 0 {
+        return Answer::Refused(refusal);
+    }
+    back(n, scores, out);
     Answer::Count(matrix::pair_count(n))
 }

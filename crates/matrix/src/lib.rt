@@ -64,7 +64,7 @@ pub fn pair_count(n: usize) -> usize
 }
 
 // Where the pair of a and b stands.
-fn place_of(a: usize, b: usize) -> usize
+pub fn place_of(a: usize, b: usize) -> usize
     requires { ⌜ (a < 32) × (b < 32) ⌝ }
     ensures { λ r. ⌜ r ≡ place a b ⌝ }
 {
