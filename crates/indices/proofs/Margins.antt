@@ -4,6 +4,7 @@ use mathlib.Core.Bool.{Bool, true, false, not}
 use mathlib.Core.List.{List, map, foldl, Memᴰ·cast}
 use Prim.Native.Nat.{ℕ, _+_, _^_, _<_}
 use lib.Dec.{lit<, lit≤}
+use lib.ListN.{length}
 use lib.IntN.{ℤ, pos, negℤ, _+ℤ_, _-ℤ_}
 use lib.Signed.{_≤ℤ_, mag}
 use mir.Syntax.{w64}
@@ -18,10 +19,11 @@ use Rattle.integers.proofs.Range.{within-grow, within-difference}
 use Rattle.integers.proofs.Held.{Held, held-value, held-result, held-equal}
 use Rattle.sets.specs.Sets.{has, _∋_, _∌_, members, others}
 use Rattle.sets.proofs.Sets.{in-members, of-members, in-others, of-others, size-member, size-less}
-use Rattle.clusters.specs.PairList.{Similarity, score}
+use Rattle.clusters.specs.PairList.{Similarity, place, score}
 use Rattle.clusters.specs.Indices.{strongValues, strongIndex, separationValues, separationIndex}
 use Rattle.clusters.proofs.PairList.{score-element}
 use Rattle.clusters.proofs.Strong.{in-separationValues, of-separationValues}
+use Rattle.matrix.proofs.RowStarts.{in-list}
 use Rattle.indices.specs.Asked.{Scores, Proper}
 use Rattle.indices.specs.Margins.{margin, nearness, separationFrom}
 use Rattle.indices.proofs.Running.{Run, run-start, run-yes, run-no, run-least, run-greatest}
@@ -190,6 +192,13 @@ module _ {n A : ℕ} (p : Proper n A) {f : ℕ → ℤ} (b : (y : ℕ) → y < n
 module _ {n : ℕ} {l : List ℤ} (s : Scores n l) where
   pub score-within : {a b : ℕ} → a < n → b < n → Within (2 ^ 22) (score l a b)
   score-within {a} {b} h k = s .small (score l a b) (score-element n l (s .long) h k)
+
+  -- a score may be looked up, and its differences fit
+  pub score-asked : {a b : ℕ} → a < n → b < n → (a < 32) × (b < 32) × (place a b < length l)
+  score-asked h k = in-list l (s .few) (s .long) h k
+
+  pub score-safe : {a b : ℕ} → a < n → b < n → {z : ℤ} → z ≡ score l a b → Within (2 ^ 61) z
+  score-safe h k e = subst (Within (2 ^ 61)) (sym e) (within-grow (lit≤ tt) (score-within h k))
 
   pub nearness-within : {a x : ℕ} → a < n → x < n → (y : ℕ) → y < n → Within (2 ^ 23) (nearness (score l) a x y)
   unfolding nearness

@@ -11,8 +11,7 @@ use Rattle.integers.specs.Integers.{minZ, maxZ}
 use Rattle.integers.proofs.Held.{Held, held-value, held-result, held-equal, passed}
 use Rattle.sets.specs.Sets.{has}
 use Rattle.clusters.specs.PairList.{score}
-use Rattle.matrix.proofs.RowStarts.{in-list}
-use Rattle.indices.proofs.Margins.{Seen, seen-none, seen-member, seen-other, seen-within, seen-margin, score-beyond}
+use Rattle.indices.proofs.Margins.{Seen, seen-none, seen-member, seen-other, seen-within, seen-margin, score-asked, score-beyond}
 use borrow.Author.Needs.{needs}
 use native.Mathlib.Omega.{arith}
 use Rattle.indices.proofs.strong_margin.Statement.{statement}
@@ -41,7 +40,7 @@ loop-holds c = (omega arith, seen-none)
 
 -- src/lib.rt:23:13
 score-requires : tie.Need-score-requires Inv-loop μ-loop
-score-requires c κs = let s = c .before .before in let g = s .pre .0 in in-list {n = s .args .n} (s .args .pairs .now) (g .few) (g .long) (omega arith) (omega arith)
+score-requires c κs = score-asked (c .before .before .pre .0) (omega arith) (omega arith)
 
 -- src/lib.rt:24:12
 has-requires : tie.Need-has-requires Inv-loop μ-loop
