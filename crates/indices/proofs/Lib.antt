@@ -1,2 +1,4 @@
 pub mod Running
 pub mod Margins
+pub mod Smallest
+pub mod Totals

@@ -1,19 +1,12 @@
 -- The smallest numbers of a list (document 01, Clean index: "the sum of the |A| − 1 smallest weights"), kept one by one.
-use mathlib.Core.List.{List, [], _∷_, foldl}
+use mathlib.Core.List.{List, foldl}
 use Prim.Native.Nat.{ℕ}
 use lib.IntN.{ℤ}
-use lib.Signed.{_≤ℤ_}
 use lib.ListN.{take}
-use Rattle.lists.specs.Lists.{_∈_}
 use Rattle.integers.specs.Integers.{insert}
 use Rattle.sets.specs.Sets.{members, others}
 use Rattle.clusters.specs.PairList.{Similarity}
 use Rattle.clusters.specs.Indices.{weight}
-
--- the numbers rise
-abbrev pub Sorted : List ℤ → Type 0
-Sorted [] = Unit {0}
-Sorted (x ∷ l) = ((y : ℤ) → y ∈ l → x ≤ℤ y) × Sorted l
 
 -- the k smallest of the numbers kept and w
 unfoldable pub keepSmallest : ℕ → List ℤ → ℤ → List ℤ
