@@ -21,11 +21,11 @@ use Rattle.sets.specs.Sets.{has, _∋_, _∌_, members, others}
 use Rattle.sets.proofs.Sets.{in-members, of-members, in-others, of-others, size-member, size-less}
 use Rattle.clusters.specs.PairList.{Similarity, place, score}
 use Rattle.clusters.specs.Indices.{strongValues, strongIndex, separationValues, separationIndex}
-use Rattle.clusters.proofs.PairList.{score-element}
 use Rattle.clusters.proofs.Strong.{in-separationValues, of-separationValues}
 use Rattle.matrix.proofs.RowStarts.{in-list}
 use Rattle.indices.specs.Asked.{Scores, Proper}
 use Rattle.indices.specs.Margins.{margin, nearness, separationFrom}
+use Rattle.indices.proofs.Bounds.{score-within}
 use Rattle.indices.proofs.Running.{Run, run-start, run-yes, run-no, run-least, run-greatest}
 
 -- a member, and an entry outside
@@ -190,29 +190,26 @@ module _ {n A : ℕ} (p : Proper n A) {f : ℕ → ℤ} (b : (y : ℕ) → y < n
 
 -- the values that the loops over a pair list see
 module _ {n : ℕ} {l : List ℤ} (s : Scores n l) where
-  pub score-within : {a b : ℕ} → a < n → b < n → Within (2 ^ 22) (score l a b)
-  score-within {a} {b} h k = s .small (score l a b) (score-element n l (s .long) h k)
-
   -- a score may be looked up, and its differences fit
   pub score-asked : {a b : ℕ} → a < n → b < n → (a < 32) × (b < 32) × (place a b < length l)
   score-asked h k = in-list l (s .few) (s .long) h k
 
   pub score-safe : {a b : ℕ} → a < n → b < n → {z : ℤ} → z ≡ score l a b → Within (2 ^ 61) z
-  score-safe h k e = subst (Within (2 ^ 61)) (sym e) (within-grow (lit≤ tt) (score-within h k))
+  score-safe h k e = subst (Within (2 ^ 61)) (sym e) (within-grow (lit≤ tt) (score-within n l (s .long) (s .small) h k))
 
   pub nearness-within : {a x : ℕ} → a < n → x < n → (y : ℕ) → y < n → Within (2 ^ 23) (nearness (score l) a x y)
   unfolding nearness
-  nearness-within h k y m = within-difference (score-within m k) (score-within h m)
+  nearness-within h k y m = within-difference (score-within n l (s .long) (s .small) m k) (score-within n l (s .long) (s .small) h m)
 
   pub score-beyond : {a : ℕ} → a < n → (y : ℕ) → y < n → Within (2 ^ 30) (score l a y)
-  score-beyond h y k = within-grow (lit≤ tt) (score-within h k)
+  score-beyond h y k = within-grow (lit≤ tt) (score-within n l (s .long) (s .small) h k)
 
   pub nearness-beyond : {a x : ℕ} → a < n → x < n → (y : ℕ) → y < n → Within (2 ^ 30) (nearness (score l) a x y)
   nearness-beyond h k y m = within-grow (lit≤ tt) (nearness-within h k y m)
 
   module _ {A : ℕ} (p : Proper n A) where
     pub strong-beyond : (a : ℕ) → a < n → Within (2 ^ 30) (margin n (score l a) A)
-    strong-beyond a h = within-grow (lit≤ tt) (margin-within p (λ y k. score-within h k))
+    strong-beyond a h = within-grow (lit≤ tt) (margin-within p (λ y k. score-within n l (s .long) (s .small) h k))
 
     pub split-beyond : {a : ℕ} → a < n → (x : ℕ) → x < n → Within (2 ^ 30) (margin n (nearness (score l) a x) A)
     split-beyond h x k = within-grow (lit≤ tt) (margin-within p (nearness-within h k))
