@@ -1,6 +1,6 @@
 -- The tests of order as a branch of the code leaves them, equations with true or false; and back.
-use mathlib.Core.Path.{_≡_}
-use mathlib.Core.Bool.{Bool, true, false, not}
+use mathlib.Core.Path.{_≡_, sym, _∙_}
+use mathlib.Core.Bool.{Bool, true, false, not, _&&_}
 use mathlib.Core.Logic.{_⊎_, inl, inr}
 use lib.Dec.{T}
 use lib.IntN.{ℤ}
@@ -30,3 +30,10 @@ false-leZ {a} {b} h = go (T-or-not (leZ a b))
 -- a test of two parameters, which the code reads back from their bits
 pub leZ-read : {w : Width} {a b : ℤ} {t : Bool} → SFits w a → SFits w b → leZ (toZ w (ofZ w a)) (toZ w (ofZ w b)) ≡ t → leZ a b ≡ t
 leZ-read f g e = rw (toZ-ofZ f, toZ-ofZ g) at e
+
+-- what `a && b` answers for two calls a and b: the second is made only if the first holds
+pub and-second : {a b p q : Bool} → a ≡ p → a ≡ true → b ≡ q → b ≡ p && q
+and-second e t f = rw (sym e ∙ t) f
+
+pub and-first : {a p : Bool} (q : Bool) → a ≡ p → a ≡ false → a ≡ p && q
+and-first q e t = rw (sym e ∙ t) t

@@ -1,0 +1,2 @@
+pub mod RowStarts
+pub mod Walk

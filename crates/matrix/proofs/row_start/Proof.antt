@@ -1,0 +1,30 @@
+use mathlib.Core.Bool.{Bool}
+use mathlib.Core.List.{List, [], _∷_}
+use Prim.Native.Nat.{ℕ}
+use borrow.Author.Needs.{needs}
+use lib.Dec.{eqb, eqb→eq}
+use lib.ListN.{getD}
+use Rattle.lists.specs.Lists.{all, below}
+use Rattle.lists.proofs.Lists.{lt-below, all-in}
+use Rattle.clusters.specs.PairList.{rowStart}
+use Rattle.matrix.proofs.row_start.Statement.{statement}
+use Rattle.matrix.proofs.row_start.Tie as tie
+
+starts : List ℕ
+starts = 0 ∷ 1 ∷ 3 ∷ 6 ∷ 10 ∷ 15 ∷ 21 ∷ 28 ∷ 36 ∷ 45 ∷ 55 ∷ 66 ∷ 78 ∷ 91 ∷ 105 ∷ 120 ∷ 136 ∷ 153 ∷ 171 ∷ 190 ∷ 210 ∷ 231 ∷ 253 ∷ 276 ∷ 300 ∷ 325 ∷ 351 ∷ 378 ∷ 406 ∷ 435 ∷ 465 ∷ 496 ∷ []
+
+right : ℕ → Bool
+right i = eqb (getD starts i 0) (rowStart i)
+
+mul-result : tie.Need-mul-result
+mul-result c = search needs
+
+array-read-result : tie.Need-array-read-result
+array-read-result c = search needs
+
+returns : tie.Need-returns
+unfolding starts right all below rowStart
+returns c = eqb→eq (getD starts (c .args .i) 0) (rowStart (c .args .i)) (all-in right (below 32) tt (lt-below 32 (c .args .i) (search needs)))
+
+pub row-start-spec : {M : Type 1} → statement M
+row-start-spec = tie.close (tie.spec mul-result array-read-result returns)

@@ -1,0 +1,150 @@
+// The pair list as lent: scores looked up by two entries, and checks 10 to 12 (document 01, Where a call is turned away).
+ghost use mathlib.Core.Path.{_≡_};
+ghost use mathlib.Core.Bool.{_&&_};
+ghost use Prim.Native.Nat.{_<_, _≤_};
+ghost use lib.IntN.{pos, negℤ};
+ghost use lib.ListN.{length, getD};
+ghost use lib.Signed.{leZ};
+ghost use Rattle.lists.specs.Lists.{all, below};
+ghost use Rattle.integers.specs.Integers.{eqZ};
+ghost use Rattle.clusters.specs.PairList.{rowStart, place, score, hasLength, inRange, areDistances};
+
+// The row starts: row i of the lower triangle starts at i(i+1)/2.
+const ROW_STARTS: [usize; 32] = [
+    0,
+    1,
+    3,
+    6,
+    10,
+    15,
+    21,
+    28,
+    36,
+    45,
+    55,
+    66,
+    78,
+    91,
+    105,
+    120,
+    136,
+    153,
+    171,
+    190,
+    210,
+    231,
+    253,
+    276,
+    300,
+    325,
+    351,
+    378,
+    406,
+    435,
+    465,
+    496,
+];
+
+pub fn row_start(i: usize) -> usize
+    requires { ⌜ i < 32 ⌝ }
+    ensures { λ r. ⌜ r ≡ rowStart i ⌝ }
+{
+    ROW_STARTS[i]
+}
+
+// How many pairs n entries have: the row that would come next starts there.
+pub fn pair_count(n: usize) -> usize
+    requires { ⌜ n ≤ 32 ⌝ }
+    ensures { λ r. ⌜ r ≡ rowStart n ⌝ }
+{
+    if n == 0 {
+        return 0;
+    }
+    row_start(n - 1) + n
+}
+
+// Where the pair of a and b stands.
+fn place_of(a: usize, b: usize) -> usize
+    requires { ⌜ (a < 32) × (b < 32) ⌝ }
+    ensures { λ r. ⌜ r ≡ place a b ⌝ }
+{
+    if a < b {
+        row_start(b) + a
+    } else {
+        row_start(a) + b
+    }
+}
+
+// The value at a place.
+fn value(pairs: &[i32], i: usize) -> i64
+    requires { ⌜ i < length (now pairs) ⌝ }
+    ensures { λ r. ⌜ r ≡ getD (now (pairs .entry)) i (pos 0) ⌝ }
+{
+    integers::wide(pairs[i])
+}
+
+// The score of a and b.
+pub fn score(pairs: &[i32], a: usize, b: usize) -> i64
+    requires { ⌜ (a < 32) × (b < 32) × (place a b < length (now pairs)) ⌝ }
+    ensures { λ r. ⌜ r ≡ score (now (pairs .entry)) a b ⌝ }
+{
+    value(pairs, place_of(a, b))
+}
+
+// Check 10.
+pub fn has_length(n: usize, pairs: &[i32]) -> bool
+    requires { ⌜ n ≤ 32 ⌝ }
+    ensures { λ r. ⌜ r ≡ hasLength n (now (pairs .entry)) ⌝ }
+{
+    pairs.len() == pair_count(n)
+}
+
+fn is_in_range(v: i64) -> bool
+    ensures { λ r. ⌜ r ≡ (leZ (negℤ (pos 1000000)) v && leZ v (pos 1000000)) ⌝ }
+{
+    integers::at_most(-1000000, v) && integers::at_most(v, 1000000)
+}
+
+// Check 11.
+pub fn in_range(pairs: &[i32]) -> bool
+    ensures { λ r. ⌜ r ≡ inRange (now (pairs .entry)) ⌝ }
+{
+    for i in 0..pairs.len() {
+        if !is_in_range(value(pairs, i)) {
+            return false;
+        }
+    }
+    true
+}
+
+fn are_not_negative(pairs: &[i32]) -> bool
+    ensures { λ r. ⌜ r ≡ all (leZ (pos 0)) (now (pairs .entry)) ⌝ }
+{
+    for i in 0..pairs.len() {
+        if !integers::at_most(0, value(pairs, i)) {
+            return false;
+        }
+    }
+    true
+}
+
+// Every own value is 0.
+fn are_own_zero(n: usize, pairs: &[i32]) -> bool
+    requires { ⌜ (n ≤ 32) × (length (now pairs) ≡ rowStart n) ⌝ }
+    ensures { λ r. ⌜ r ≡ all (λ a. eqZ (score (now (pairs .entry)) a a) (pos 0)) (below n) ⌝ }
+{
+    for a in 0..n {
+        if !integers::is_equal(score(pairs, a, a), 0) {
+            return false;
+        }
+    }
+    true
+}
+
+// Check 12.
+pub fn are_distances(n: usize, pairs: &[i32]) -> bool
+    requires { ⌜ (n ≤ 32) × (length (now pairs) ≡ rowStart n) ⌝ }
+    ensures { λ r. ⌜ r ≡ areDistances n (now (pairs .entry)) ⌝ }
+{
+    are_not_negative(pairs) && are_own_zero(n, pairs)
+}
