@@ -1,0 +1,1 @@
+// The links between the blocks of a linkage, kept in a table.
