@@ -57,8 +57,14 @@ atMost p q = leZ (pos (q .den) *ℤ p .num) (pos (p .den) *ℤ q .num)
 abbrev pub Weights : ℕ → List ℕ → Type 0
 Weights k w = (a : ℕ) → a < k → (1 ≤ getD w a 0) × (getD w a 0 ≤ 32)
 
--- two places, and the link of the blocks there is at least that of any two of the first k places in this order
+-- two of the first k places, in rising order, and the link of the blocks there is at least that of any such two
 pub record GreatestAt (k : ℕ) (link : ℕ → ℕ → Quotient) (i j : ℕ) : Type 0 where
   pub rising : i < j
   pub inside : j < k
   pub most : (p q : ℕ) → p < q → q < k → link p q ≼ link i j
+
+-- of those that stand before the place m of the table
+pub record GreatestBefore (k : ℕ) (link : ℕ → ℕ → Quotient) (m i j : ℕ) : Type 0 where
+  pub rising : i < j
+  pub inside : j < k
+  pub most : (p q : ℕ) → p < q → q < k → p * 32 + q < m → link p q ≼ link i j

@@ -5,7 +5,7 @@ ghost use mathlib.Core.Bool.{true};
 ghost use Prim.Native.Nat.{_+_, _*_, _^_, _<_, _≤_};
 ghost use lib.IntN.{pos, _*ℤ_};
 ghost use lib.Signed.{leZ};
-ghost use lib.ListN.{length};
+ghost use lib.ListN.{length, getD};
 ghost use Rattle.integers.specs.Range.{Within};
 ghost use Rattle.clusters.specs.PairList.{rowStart, score};
 ghost use Rattle.links.specs.Table.{
@@ -20,6 +20,7 @@ ghost use Rattle.links.specs.Table.{
     atMost,
     Weights,
     GreatestAt,
+    GreatestBefore,
 };
 
 fn get(t: &[i64; 1024], a: usize, b: usize) -> i64
@@ -92,4 +93,60 @@ pub fn move_row(last: usize, j: usize, t: &mut [i64; 1024])
     for q in 0..last {
         put(t, j, q, get(t, last, q));
     }
+}
+
+// x / c is at most y / d.
+fn is_quotient_at_most(x: i64, c: usize, y: i64, d: usize) -> bool
+    requires { ⌜ (c ≤ 1024) × (d ≤ 1024) × Within (2 ^ 40) x × Within (2 ^ 40) y ⌝ }
+    ensures { λ r. ⌜ r ≡ leZ (pos d *ℤ x) (pos c *ℤ y) ⌝ }
+{
+    integers::at_most(integers::times(d, x), integers::times(c, y))
+}
+
+fn denominator(weights: &[usize; 32], a: usize, b: usize) -> usize
+    requires { ⌜ (a < 32) × (b < 32) × (getD (now weights) a 0 ≤ 32) × (getD (now weights) b 0 ≤ 32) ⌝ }
+    ensures { λ r. ⌜ (r ≡ getD (now (weights .entry)) a 0 * getD (now (weights .entry)) b 0) × (r ≤ 1024) ⌝ }
+{
+    weights[a] * weights[b]
+}
+
+// The link at a and b is at most that at i and j.
+fn is_at_most(count: usize, weights: &[usize; 32], t: &[i64; 1024], a: usize, b: usize, i: usize, j: usize) -> bool
+    requires { ⌜ (a < b) × (b < count) × (i < j) × (j < count) × (count ≤ 32) × Small count (now t) × Weights count (now weights) ⌝ }
+    ensures { λ r. ⌜ r ≡ atMost (quotientAt (now (weights .entry)) (now (t .entry)) a b) (quotientAt (now (weights .entry)) (now (t .entry)) i j) ⌝ }
+{
+    is_quotient_at_most(get(t, a, b), denominator(weights, a, b), get(t, i, j), denominator(weights, i, j))
+}
+
+// Two places of the table.
+pub struct Pair {
+    pub i: usize,
+    pub j: usize,
+}
+
+// The greatest of what was found before and the links at i and a later place.
+fn greatest_in_row(count: usize, weights: &[usize; 32], t: &[i64; 1024], i: usize, found: Pair) -> Pair
+    requires { ⌜ (i < count) × (count ≤ 32) × Small count (now t) × Weights count (now weights) × GreatestBefore count (quotientAt (now weights) (now t)) (i * 32) (found .i) (found .j) ⌝ }
+    ensures { λ r. ⌜ GreatestBefore count (quotientAt (now (weights .entry)) (now (t .entry))) ((i + 1) * 32) (r .i) (r .j) ⌝ }
+{
+    let mut best = found;
+    for j in i + 1..count {
+        if is_at_most(count, weights, t, i, j, best.i, best.j) {
+            continue;
+        }
+        best = Pair { i, j };
+    }
+    best
+}
+
+// The places of two blocks with the greatest link.
+pub fn greatest(count: usize, weights: &[usize; 32], t: &[i64; 1024]) -> Pair
+    requires { ⌜ (2 ≤ count) × (count ≤ 32) × Small count (now t) × Weights count (now weights) ⌝ }
+    ensures { λ r. ⌜ GreatestAt count (quotientAt (now (weights .entry)) (now (t .entry))) (r .i) (r .j) ⌝ }
+{
+    let mut best = Pair { i: 0, j: 1 };
+    for i in 0..count {
+        best = greatest_in_row(count, weights, t, i, best);
+    }
+    best
 }
