@@ -1,1 +1,2 @@
 pub mod Merging
+pub mod Unions
