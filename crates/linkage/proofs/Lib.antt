@@ -1,2 +1,4 @@
 pub mod Merging
 pub mod Unions
+pub mod Places
+pub mod Updates
