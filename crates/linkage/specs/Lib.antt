@@ -1,3 +1,3 @@
 pub mod Blocks
 pub mod Calls
-pub mod Weights
+pub mod Steps
