@@ -3,12 +3,13 @@ use mathlib.Core.Path.{_≡_, refl, sym, ap, ap₂, _∙_, subst, subst₂}
 use mathlib.Core.Bool.{Bool, true, false}
 use mathlib.Core.Logic.{_≢_}
 use mathlib.Core.List.{List}
-use Prim.Native.Nat.{ℕ, _*_, _^_, _≤_, _<_}
+use Prim.Native.Nat.{ℕ, _+_, _*_, _^_, _≤_, _<_}
 use native.Mathlib.Nat.{lt-of-lt-of-le}
-use native.Mathlib.Decide.{decLt}
+use native.Mathlib.Decide.{ℕ-discrete, decLt}
 use native.Mathlib.Omega.{arith}
 use lib.IntN.{ℤ}
-use lib.ListN.{length, getD}
+use lib.ListN.{length, getD, set}
+use lib.Seq.{getD-set-same, getD-set-other}
 use Rattle.lists.specs.Lists.{_∈_}
 use Rattle.lists.proofs.Lists.{getD-in}
 use Rattle.sets.specs.Sets.{_∋_, size}
@@ -71,3 +72,11 @@ module _ (avg : Bool) (n : ℕ) (s : Similarity) (few : n ≤ 32) {bs : List ℕ
             go : Dec (a < b) → L (getD bs a 0) (getD bs b 0) ≼ L (getD bs i 0) (getD bs j 0)
             go (yes h) = rising a b h hb
             go (no o) = subst (λ q. q ≼ L (getD bs i 0) (getD bs j 0)) (link-symm n s symm (linkageOf avg) (getD bs b 0) (getD bs a 0)) (rising b a (omega arith) ha)
+
+-- one more weight
+pub weighed-next : (avg : Bool) (i : ℕ) (bs w : List ℕ) {z : ℕ} → Weighed avg i bs w → i < length w → z ≡ weight avg (getD bs i 0) → Weighed avg (i + 1) bs (set w i z)
+weighed-next avg i bs w {z} v h e a l = go (ℕ-discrete a i)
+  where
+    go : Dec (a ≡ i) → getD (set w i z) a 0 ≡ weight avg (getD bs a 0)
+    go (yes r) = rw r (getD-set-same w i z 0 h ∙ e)
+    go (no d) = getD-set-other w i a z 0 d ∙ v a (omega arith)
