@@ -22,7 +22,7 @@ use Rattle.sets.proofs.Sets.{in-members, of-members, in-others, of-others, size
 use Rattle.clusters.specs.PairList.{Similarity, place, score}
 use Rattle.clusters.specs.Indices.{strongValues, strongIndex, separationValues, separationIndex}
 use Rattle.clusters.proofs.Strong.{in-separationValues, of-separationValues}
-use Rattle.matrix.proofs.RowStarts.{in-list}
+use Rattle.matrix.proofs.Places.{score-asks}
 use Rattle.indices.specs.Asked.{Scores, Proper}
 use Rattle.indices.specs.Margins.{margin, nearness, separationFrom}
 use Rattle.indices.proofs.Bounds.{score-within}
@@ -192,7 +192,7 @@ module _ {n A : ℕ} (p : Proper n A) {f : ℕ → ℤ} (b : (y : ℕ) → y < n
 module _ {n : ℕ} {l : List ℤ} (s : Scores n l) where
   -- a score may be looked up, and its differences fit
   pub score-asked : {a b : ℕ} → a < n → b < n → (a < 32) × (b < 32) × (place a b < length l)
-  score-asked h k = in-list l (s .few) (s .long) h k
+  score-asked h k = score-asks l (s .few) (s .long) h k
 
   pub score-safe : {a b : ℕ} → a < n → b < n → {z : ℤ} → z ≡ score l a b → Within (2 ^ 61) z
   score-safe h k e = subst (Within (2 ^ 61)) (sym e) (within-grow (lit≤ tt) (score-within n l (s .long) (s .small) h k))
