@@ -1,6 +1,6 @@
 -- The indices of a pair list whose numbers are between −k and k.
-use mathlib.Core.Path.{_≡_, sym, ap, subst}
-use mathlib.Core.List.{List, [], _∷_, map}
+use mathlib.Core.Path.{_≡_, refl, sym, ap, subst}
+use mathlib.Core.List.{List, [], _∷_, map, List·Memᴰ·head}
 use Prim.Native.Nat.{ℕ, _+_, _-_, _*_, _≤_, _<_}
 use native.Mathlib.Nat.{mul-le-mul}
 use native.Mathlib.Omega.{arith}
@@ -11,7 +11,7 @@ use Rattle.lists.proofs.Lists.{of-each, of-map}
 use Rattle.integers.specs.Integers.{least, sum, sort, sumOfSmallest}
 use Rattle.integers.specs.Range.{Within, Bounded}
 use Rattle.integers.proofs.Linear.{up, dn}
-use Rattle.integers.proofs.Least.{least-in}
+use Rattle.integers.proofs.Least.{least-of}
 use Rattle.integers.proofs.Range.{within, within-grow, within-sum, within-difference, within-max}
 use Rattle.integers.proofs.Smallest.{of-sort}
 use Rattle.sets.specs.Sets.{_∋_, _∌_, members, others, size}
@@ -38,7 +38,7 @@ of-weights n s A m =
 least-within : {k : ℕ} (l : List ℤ) → Bounded k l → Within k (least l)
 unfolding least up dn
 least-within [] b = within (omega arith) (omega arith)
-least-within (z ∷ l) b = b (least (z ∷ l)) (least-in z l)
+least-within (z ∷ l) b = b (least (z ∷ l)) (least-of (z ∷ l) (List·Memᴰ·head refl))
 
 module _ (n : ℕ) (l : List ℤ) (long : length l ≡ rowStart n) {k : ℕ} (b : Bounded k l) where
   pub score-within : {x y : ℕ} → x < n → y < n → Within k (score l x y)

@@ -1,7 +1,7 @@
 use mathlib.Core.Path.{_≡_}
 use mir.Syntax.{w64}
 use Rattle.integers.proofs.Held.{passed}
-use Rattle.matrix.proofs.RowStarts.{in-list}
+use Rattle.matrix.proofs.Places.{score-asks}
 use Rattle.links.proofs.Rows.{written-start, written-next, written-all}
 use Prim.Native.Nat.{_≤_, _-_}
 use Rattle.clusters.specs.PairList.{score}
@@ -28,7 +28,7 @@ loop-holds c = (omega arith, written-start _ _ _ _ (c .pre .3))
 -- src/lib.rt:45:22
 score-requires : tie.Need-score-requires Inv-loop μ-loop
 score-requires c κs = let s = c .before .before .before in
-    in-list (s .args .pairs .now) (search needs) (s .pre .2) (search needs) (omega arith)
+    score-asks (s .args .pairs .now) (search needs) (s .pre .2) (search needs) (omega arith)
 
 -- src/lib.rt:45:9
 put-requires : tie.Need-put-requires Inv-loop μ-loop
