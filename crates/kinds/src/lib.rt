@@ -2,14 +2,15 @@
 ghost use mathlib.Core.Path.{_≡_};
 ghost use mathlib.Core.Bool.{_&&_};
 ghost use Prim.Native.Nat.{_<_, _≤_, _^_};
-ghost use lib.Dec.{leb};
+ghost use lib.Dec.{T, leb};
 ghost use lib.ListN.{length};
 ghost use Rattle.integers.specs.Integers.{eqZ};
 ghost use Rattle.sets.specs.Sets.{size};
-ghost use Rattle.clusters.specs.PairList.{rowStart};
-ghost use Rattle.clusters.specs.Groups.{proper, speaksOf};
+ghost use Rattle.clusters.specs.PairList.{rowStart, score};
+ghost use Rattle.clusters.specs.Groups.{index, proper, speaksOf, listed};
 ghost use Rattle.clusters.specs.Refusals.{wrongKind, kindOf, wrongDistances};
 ghost use Rattle.kinds.specs.Kinds.{kindFor};
+ghost use Rattle.kinds.specs.Checked.{Checked};
 
 // Strong groups, clean groups, Buneman splits.
 pub enum Kind {
@@ -82,4 +83,23 @@ fn speaks(kind: Kind, n: usize, set: u32) -> bool
         Kind::Clean => has_size(2, n, set),
         Kind::Splits => has_size(1, n, set) && !sets::has(set, 0),
     }
+}
+
+// The index of a set that the kind speaks of.
+pub fn index(kind: Kind, n: usize, pairs: &[i32], set: u32) -> i64
+    requires { ⌜ Checked n (now pairs) × (set < 2 ^ n) × T (speaksOf (kindFor kind) n set) ⌝ }
+    ensures { λ r. ⌜ r ≡ index (kindFor kind) n (score (now (pairs .entry))) set ⌝ }
+{
+    match kind {
+        Kind::Strong => indices::strong_index(n, pairs, set),
+        Kind::Clean => indices::clean_index(n, pairs, set),
+        Kind::Splits => indices::separation_index(n, pairs, set),
+    }
+}
+
+pub fn is_listed(kind: Kind, n: usize, pairs: &[i32], set: u32) -> bool
+    requires { ⌜ Checked n (now pairs) × (set < 2 ^ n) ⌝ }
+    ensures { λ r. ⌜ r ≡ listed (kindFor kind) n (score (now (pairs .entry))) set ⌝ }
+{
+    speaks(kind, n, set) && integers::at_most(1, index(kind, n, pairs, set))
 }

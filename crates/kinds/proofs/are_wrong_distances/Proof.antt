@@ -1,4 +1,4 @@
-use Rattle.kinds.proofs.Listed.{told}
+use Rattle.kinds.proofs.Listed.{told-number}
 use lib.IntN.{pos}
 use mathlib.Core.Path.{sym}
 use Rattle.clusters.specs.Refusals.{wrongDistances}
@@ -23,13 +23,13 @@ are-distances-requires c κs = search needs
 returns : tie.Need-returns
 unfolding wrongDistances
 returns c = let s = c .before .before .before in
-    let e = told (pos 3) (s .fits .kind) (c .before .before .is-number .ensures) (c .before .if1 .taken) in rw (e, sym (c .are-distances .ensures))
+    let e = told-number (pos 3) (s .fits .kind) (c .before .before .is-number .ensures) (c .before .if1 .taken) in rw (e, sym (c .are-distances .ensures))
 
 -- src/lib.rt:54:1
 returns-2 : tie.Need-returns-2
 unfolding wrongDistances
 returns-2 c = let s = c .before .before in
-    let e = told (pos 3) (s .fits .kind) (c .before .is-number .ensures) (c .if1 .left) in rw e
+    let e = told-number (pos 3) (s .fits .kind) (c .before .is-number .ensures) (c .if1 .left) in rw e
 
 pub are-wrong-distances-spec : {M : Type 1} → statement M
 are-wrong-distances-spec =

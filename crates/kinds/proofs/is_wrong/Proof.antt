@@ -1,4 +1,4 @@
-use Rattle.kinds.proofs.Listed.{told}
+use Rattle.kinds.proofs.Listed.{told-number}
 use lib.IntN.{pos}
 use mathlib.Core.Path.{refl}
 use Rattle.clusters.specs.Refusals.{wrongKind}
@@ -17,7 +17,7 @@ is-number-requires c κs = search needs
 -- src/lib.rt:33:9
 returns : tie.Need-returns
 unfolding wrongKind
-returns c = let e = told (pos 1) (c .before .before .fits .kind) (c .before .is-number .ensures) (c .if1 .taken) in rw e
+returns c = let e = told-number (pos 1) (c .before .before .fits .kind) (c .before .is-number .ensures) (c .if1 .taken) in rw e
 
 -- src/lib.rt:35:8
 is-number-requires-2 : tie.Need-is-number-requires-2
@@ -27,8 +27,8 @@ is-number-requires-2 c κs = search needs
 returns-2 : tie.Need-returns-2
 unfolding wrongKind
 returns-2 c = let s = c .before .before .before .before in
-    let e = told (pos 1) (s .fits .kind) (c .before .before .before .is-number .ensures) (c .before .before .if1 .left) in
-    let f = told (pos 2) (s .fits .kind) (c .before .is-number2 .ensures) (c .if2 .taken) in rw (e, f)
+    let e = told-number (pos 1) (s .fits .kind) (c .before .before .before .is-number .ensures) (c .before .before .if1 .left) in
+    let f = told-number (pos 2) (s .fits .kind) (c .before .is-number2 .ensures) (c .if2 .taken) in rw (e, f)
 
 -- src/lib.rt:38:6
 is-number-requires-3 : tie.Need-is-number-requires-3
@@ -38,9 +38,9 @@ is-number-requires-3 c κs = search needs
 returns-3 : tie.Need-returns-3
 unfolding wrongKind
 returns-3 c = let s = c .before .before .before .before .before in
-    let e = told (pos 1) (s .fits .kind) (c .before .before .before .before .is-number .ensures) (c .before .before .before .if1 .left) in
-    let f = told (pos 2) (s .fits .kind) (c .before .before .is-number2 .ensures) (c .before .if2 .left) in
-    let g = told (pos 3) (s .fits .kind) (c .is-number3 .ensures) refl in rw (e, f, g)
+    let e = told-number (pos 1) (s .fits .kind) (c .before .before .before .before .is-number .ensures) (c .before .before .before .if1 .left) in
+    let f = told-number (pos 2) (s .fits .kind) (c .before .before .is-number2 .ensures) (c .before .if2 .left) in
+    let g = told-number (pos 3) (s .fits .kind) (c .is-number3 .ensures) refl in rw (e, f, g)
 
 pub is-wrong-spec : {M : Type 1} → statement M
 is-wrong-spec =

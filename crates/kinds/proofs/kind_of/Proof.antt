@@ -1,4 +1,4 @@
-use Rattle.kinds.proofs.Listed.{told}
+use Rattle.kinds.proofs.Listed.{told-number}
 use lib.IntN.{pos}
 use Rattle.clusters.specs.Refusals.{kindOf}
 use Rattle.kinds.specs.Kinds.{kindFor}
@@ -17,7 +17,7 @@ is-number-requires c κs = search needs
 -- src/lib.rt:45:9
 returns : tie.Need-returns
 unfolding kindOf kindFor
-returns c = let e = told (pos 1) (c .before .before .fits .kind) (c .before .is-number .ensures) (c .if1 .taken) in rw e
+returns c = let e = told-number (pos 1) (c .before .before .fits .kind) (c .before .is-number .ensures) (c .if1 .taken) in rw e
 
 -- src/lib.rt:47:8
 is-number-requires-2 : tie.Need-is-number-requires-2
@@ -27,15 +27,15 @@ is-number-requires-2 c κs = search needs
 returns-2 : tie.Need-returns-2
 unfolding kindOf kindFor
 returns-2 c = let s = c .before .before .before .before in
-    let e = told (pos 1) (s .fits .kind) (c .before .before .before .is-number .ensures) (c .before .before .if1 .left) in
-    let f = told (pos 2) (s .fits .kind) (c .before .is-number2 .ensures) (c .if2 .taken) in rw (e, f)
+    let e = told-number (pos 1) (s .fits .kind) (c .before .before .before .is-number .ensures) (c .before .before .if1 .left) in
+    let f = told-number (pos 2) (s .fits .kind) (c .before .is-number2 .ensures) (c .if2 .taken) in rw (e, f)
 
 -- src/lib.rt:41:1
 returns-3 : tie.Need-returns-3
 unfolding kindOf kindFor
 returns-3 c = let s = c .before .before .before .before in
-    let e = told (pos 1) (s .fits .kind) (c .before .before .before .is-number .ensures) (c .before .before .if1 .left) in
-    let f = told (pos 2) (s .fits .kind) (c .before .is-number2 .ensures) (c .if2 .left) in rw (e, f)
+    let e = told-number (pos 1) (s .fits .kind) (c .before .before .before .is-number .ensures) (c .before .before .if1 .left) in
+    let f = told-number (pos 2) (s .fits .kind) (c .before .is-number2 .ensures) (c .if2 .left) in rw (e, f)
 
 pub kind-of-spec : {M : Type 1} → statement M
 kind-of-spec =
