@@ -164,7 +164,7 @@ unfarris-cong : (S R : Similarity) (a b : ℕ) → S a a ≡ R a a → S b b ≡
 unfolding unfarris
 unfarris-cong S R a b p q r = cc
 
-score-anchored : (n x : ℕ) (l : List ℤ) (a b : ℕ) → a < n → b < n → score (anchoredScores n x l) a b ≡ farris (score l) x a b
+pub score-anchored : (n x : ℕ) (l : List ℤ) (a b : ℕ) → a < n → b < n → score (anchoredScores n x l) a b ≡ farris (score l) x a b
 unfolding anchoredScores
 score-anchored n x l = score-pairList n (farris (score l) x) (farris-symm (score l) (score-symm l) x)
 

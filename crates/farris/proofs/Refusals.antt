@@ -35,7 +35,7 @@ unfolding firstOf
 none = record { is = refl }
 
 -- a table that gives 0, read backwards
-no-first : (k : ℕ) (b : Bool) (l : List (ℕ × Bool)) → 0 < k → firstOf ((k, b) ∷ l) ≡ 0 → (b ≡ false) × (firstOf l ≡ 0)
+pub no-first : (k : ℕ) (b : Bool) (l : List (ℕ × Bool)) → 0 < k → firstOf ((k, b) ∷ l) ≡ 0 → (b ≡ false) × (firstOf l ≡ 0)
 unfolding firstOf
 no-first k true l h e = absurd (omega arith)
 no-first k false l h e = (refl, e)
@@ -47,7 +47,7 @@ or-first b e = rw e
 pub or-second : {a b t : Bool} → a ≡ false → b ≡ t → a || b ≡ t
 or-second e q = rw e q
 
-or-none : (a b : Bool) → a || b ≡ false → (a ≡ false) × (b ≡ false)
+pub or-none : (a b : Bool) → a || b ≡ false → (a ≡ false) × (b ≡ false)
 or-none true b e = absurd (false-T {b = true} e)
 or-none false b e = (refl, e)
 

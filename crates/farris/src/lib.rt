@@ -57,7 +57,7 @@ pub fn anchor(n: usize, x: usize, pairs: &[i32], out: &mut [i32])
 }
 
 // Check 6.
-fn is_wrong_count(n: usize) -> bool
+pub fn is_wrong_count(n: usize) -> bool
     ensures { λ r. ⌜ r ≡ wrongCount n ⌝ }
 {
     if n == 0 {

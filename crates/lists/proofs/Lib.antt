@@ -1,3 +1,4 @@
 pub mod Tests
 pub mod Lists
 pub mod Distinct
+pub mod Written

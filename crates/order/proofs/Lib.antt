@@ -1,0 +1,3 @@
+pub mod Order
+pub mod Inserted
+pub mod Steps
