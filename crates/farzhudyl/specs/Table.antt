@@ -1,16 +1,16 @@
 -- Where a call is turned away (document 01): the one table, for every call.
-use mathlib.Core.Bool.{Bool, false, not, _&&_, _||_}
+use mathlib.Core.Bool.{Bool, true, false, not, _&&_, _||_}
 use mathlib.Core.List.{List, [], _∷_}
-use Prim.Native.Nat.{ℕ, _*_}
-use lib.IntN.{ℤ}
+use Prim.Native.Nat.{ℕ, _*_, _-_}
+use lib.IntN.{ℤ, pos}
 use lib.Dec.{eqb, leb, ltb}
 use lib.ListN.{length}
 use Rattle.lists.specs.Lists.{keep}
-use Rattle.clusters.specs.PairList.{score, hasLength, inRange}
+use Rattle.clusters.specs.PairList.{rowStart, score, hasLength, inRange}
 use Rattle.clusters.specs.Farris.{isAnchored}
 use Rattle.clusters.specs.Groups.{groups}
 use Rattle.clusters.specs.Refusals.{firstOf, wrongKind, kindOf, wrongCount, wrongDistances}
-use Rattle.sheet.specs.Sheet.{value, wrongLength, wrongByte, wrongNames, equalNames, wrongLines, wrongValues, mirrored}
+use Rattle.sheet.specs.Sheet.{entries, pairs, value, wrongLength, wrongByte, wrongNames, equalNames, wrongLines, wrongValues, mirrored}
 use Rattle.listing.specs.Listing.{listing}
 
 -- what the table's lines speak of; a call sets what its own checks ask for
@@ -66,3 +66,85 @@ makes (j ∷ l) k = eqb j k || makes l k
 
 unfoldable pub refusal : Call → Arguments → ℕ
 refusal call a = firstOf (keep (λ c. makes (checksOf call) (c .0)) (table a))
+
+-- what each call is given
+unfoldable pub sheetArguments : ℤ → List ℕ → ℕ → Arguments
+sheetArguments kind s buffer = record {
+  kind = kind;
+  sheet = s;
+  entries = entries s;
+  pairs = pairs s;
+  sets = 0;
+  indices = 0;
+  buffer = buffer;
+  takesAnchor = false;
+  anchor = 0;
+  room = 0;
+  result = 0;
+  wayBack = false;
+}
+
+unfoldable pub numbersArguments : ℤ → ℕ → List ℤ → ℕ → ℕ → Arguments
+numbersArguments kind n l sets indices = record {
+  kind = kind;
+  sheet = [];
+  entries = n;
+  pairs = l;
+  sets = sets;
+  indices = indices;
+  buffer = 0;
+  takesAnchor = false;
+  anchor = 0;
+  room = 0;
+  result = 0;
+  wayBack = false;
+}
+
+unfoldable pub linkageArguments : ℕ → List ℤ → ℕ → Arguments
+linkageArguments n l room = record {
+  kind = pos 1;
+  sheet = [];
+  entries = n;
+  pairs = l;
+  sets = 0;
+  indices = 0;
+  buffer = 0;
+  takesAnchor = false;
+  anchor = 0;
+  room = room;
+  result = n - 1;
+  wayBack = false;
+}
+
+-- "judged as kind 3"
+unfoldable pub anchoredArguments : ℕ → ℕ → List ℤ → ℕ → Arguments
+anchoredArguments n x l room = record {
+  kind = pos 3;
+  sheet = [];
+  entries = n;
+  pairs = l;
+  sets = 0;
+  indices = 0;
+  buffer = 0;
+  takesAnchor = true;
+  anchor = x;
+  room = room;
+  result = rowStart n;
+  wayBack = false;
+}
+
+unfoldable pub backArguments : ℕ → ℕ → List ℤ → ℕ → Arguments
+backArguments n x l room = record {
+  kind = pos 3;
+  sheet = [];
+  entries = n;
+  pairs = l;
+  sets = 0;
+  indices = 0;
+  buffer = 0;
+  takesAnchor = true;
+  anchor = x;
+  room = room;
+  result = rowStart n;
+  wayBack = true;
+}
