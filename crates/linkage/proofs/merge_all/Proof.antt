@@ -3,13 +3,13 @@ use mathlib.Core.List.{List}
 use Prim.Native.Nat.{ℕ, _-_, _+_, _≤_, _<_}
 use native.Mathlib.Omega.{arith}
 use borrow.Author.Needs.{needs}
-use lib.ListN.{getD, length-set, length}
+use lib.ListN.{length, set, getD, length-set}
 use lib.Seq.{getD-take}
 use Rattle.clusters.specs.PairList.{score}
 use Rattle.clusters.proofs.PairList.{score-symm, score-element}
 use Rattle.clusters.proofs.Exists.{count-singles}
 use Rattle.links.specs.Table.{Small, Weights}
-use Rattle.linkage.specs.Blocks.{blocksOf, mergedAt}
+use Rattle.linkage.specs.Blocks.{blocksOf}
 use Rattle.linkage.specs.Steps.{Weighed}
 use Rattle.linkage.proofs.Places.{length-mergedAt}
 use Rattle.linkage.proofs.Runs.{Run, run-start, run-small, run-weights, run-next, run-end}
@@ -25,9 +25,12 @@ abbrev μ-loop : tie.MeasureT-loop
 start : tie.At-loop Inv-loop μ-loop → tie.Start Inv-loop μ-loop
 start s = s .before .before .before .before .before
 
--- the loop's turn that led to the store
+-- of the loop's turn that led to the store: its search, and its begin
+search-of : tie.After-out Inv-loop μ-loop → tie.After-greatest Inv-loop μ-loop
+search-of c = c .before .before .before .before .before .before
+
 turn : tie.After-out Inv-loop μ-loop → tie.In-loop Inv-loop μ-loop
-turn c = c .before .before .before .before .before .before .before .before .before .before
+turn c = search-of c .before .before .before .before
 
 short : (s : tie.At-loop Inv-loop μ-loop) → s .loop .blocks .count ≤ 32
 short s = omega (arith, s .loop .inv .0, s .before .before .before .before .before .pre .1)
@@ -62,12 +65,12 @@ weights-requires : tie.Need-weights-requires Inv-loop μ-loop
 weights-requires c κs = search needs
 
 greatest-requires : tie.Need-greatest-requires Inv-loop μ-loop
-unfolding start turn
+unfolding start
 greatest-requires c κs = let s = c .before .before .before .before in
     (omega arith, short s, small s, weights s (c .before .before .weights .result) (c .before .before .weights .ensures))
 
 join-rows-requires : tie.Need-join-rows-requires Inv-loop μ-loop
-unfolding start turn
+unfolding start
 join-rows-requires c κs = let s = c .before .before .before .before .before .before in
     let g = c .before .greatest .ensures in
     (g .rising, g .inside, short s, small s)
@@ -96,38 +99,54 @@ mul-out-2 : tie.Need-mul-out-2 Inv-loop μ-loop
 mul-out-2 c = search needs
 
 slice-write-out : tie.Need-slice-write-out Inv-loop μ-loop
-unfolding start turn
+unfolding turn search-of
 slice-write-out c = room (turn c)
 
 add-k : tie.Need-add-k Inv-loop μ-loop
 add-k c = search needs
 
 loop-less : tie.Need-loop-less Inv-loop μ-loop
-unfolding start turn
+unfolding turn search-of
 loop-less c = let t = turn c in omega (arith, t .loop-test .taken, c .before .merge .ensures .0)
 
-loop-again : tie.Need-loop-again Inv-loop μ-loop
-unfolding start turn
-loop-again c = let s = turn c .before in
+-- the run after the turn
+next : (c : tie.After-out Inv-loop μ-loop) → let s = turn c .before in let a = start s .args in let i = search-of c .greatest .result .i in let m = c .before .merge .result in
+    Run (a .average) (a .n) (score (a .pairs .now)) (a .out .now) (s .loop .k + 1) (blocksOf m) (c .before .before .move-row .last .1 .1 .0) (set (s .loop .out) (s .loop .k) (getD (m .sets) i 0))
+unfolding start turn search-of
+next c =
+    let s = turn c .before in
     let l = s .loop in
     let a = start s .args in
+    let g = search-of c .greatest in
+    let w = search-of c .before .before .before .weights in
     let m = c .before .merge in
-    let g = c .before .before .before .before .before .before .greatest in
-    let many = turn c .loop-test .taken in
-    let i-inside : g .result .i < m .result .count = omega (arith, m .ensures .0, g .ensures .rising, g .ensures .inside) in
-    let j-inside : g .result .j < length (blocksOf (l .blocks)) = omega (arith, g .ensures .inside, l .inv .2) in
-    let long : length (mergedAt (g .result .i) (g .result .j) (blocksOf (l .blocks))) ≡ m .result .count = length-mergedAt (g .result .i) (g .result .j) (blocksOf (l .blocks)) (g .ensures .rising) j-inside ∙ omega (arith, l .inv .2, m .ensures .0) in
-    (omega (arith, l .inv .0, m .ensures .0, many), omega (arith, m .ensures .0, many), ap length (m .ensures .1) ∙ long, length-set (l .out) (l .k) (getD (m .result .sets) (g .result .i) 0) ∙ l .inv .3,
+    let inside : g .result .i < m .result .count = omega (arith, m .ensures .0, g .ensures .rising, g .ensures .inside) in
     run-next (a .average) (a .n) (score (a .pairs .now)) (score-symm (a .pairs .now)) (l .inv .4) (start s .pre .1) (l .blocks .count) (l .inv .2)
-    (c .before .before .before .before .before .before .before .before .before .weights .result) (c .before .before .before .before .before .before .before .before .before .weights .ensures)
-    (g .ensures) (short s) (rw (← l .inv .3) (room (turn c))) (c .before .before .before .before .join-rows .ensures) (c .before .before .move-row .ensures)
-    (m .ensures .1) (sym (getD-take (m .result .count) (m .result .sets) (g .result .i) 0 i-inside)))
+    (w .result) (w .ensures) (g .ensures) (short s) (rw (← l .inv .3) (room (turn c))) (c .before .before .before .before .join-rows .ensures) (c .before .before .move-row .ensures)
+    (m .ensures .1) (sym (getD-take (m .result .count) (m .result .sets) (g .result .i) 0 inside))
+
+counted : (c : tie.After-out Inv-loop μ-loop) → length (blocksOf (c .before .merge .result)) ≡ c .before .merge .result .count
+unfolding start turn search-of
+counted c =
+    let bs = blocksOf (turn c .before .loop .blocks) in
+    let g = search-of c .greatest in
+    let m = c .before .merge in
+    let inside : g .result .j < length bs = omega (arith, g .ensures .inside, turn c .before .loop .inv .2) in
+    ap length (m .ensures .1) ∙ length-mergedAt (g .result .i) (g .result .j) bs (g .ensures .rising) inside ∙ omega (arith, turn c .before .loop .inv .2, m .ensures .0)
+
+loop-again : tie.Need-loop-again Inv-loop μ-loop
+unfolding start turn search-of
+loop-again c =
+    let l = turn c .before .loop in
+    let m = c .before .merge in
+    let many = turn c .loop-test .taken in
+    (omega (arith, l .inv .0, m .ensures .0, many), omega (arith, m .ensures .0, many), counted c, length-set (l .out) (l .k) (getD (m .result .sets) (search-of c .greatest .result .i) 0) ∙ l .inv .3, next c)
 
 same-length : tie.Need-same-length Inv-loop μ-loop
 same-length c = search needs
 
 returns : tie.Need-returns Inv-loop μ-loop
-unfolding start turn
+unfolding start
 returns c = let s = c .before in
     let l = s .loop in
     let a = start s .args in

@@ -21,8 +21,7 @@ loop-holds c = (omega arith, omega arith, before-same (c .pre .4) (λ p q h l m.
 
 is-at-most-requires : tie.Need-is-at-most-requires Inv-loop μ-loop
 is-at-most-requires c κs = let s = c .before .before in
-    let g = c .before .loop .inv .2 in
-    (search needs, search needs, g .rising, g .inside, s .pre .1, s .pre .2, s .pre .3)
+    (omega arith, omega arith, omega arith, omega arith, s .pre .1, s .pre .2, s .pre .3)
 
 add-j-2 : tie.Need-add-j-2 Inv-loop μ-loop
 add-j-2 c = search needs
