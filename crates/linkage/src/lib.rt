@@ -1,0 +1,119 @@
+// The blocks of a linkage, and the linkage calls.
+use answers::Answer;
+ghost use mathlib.Core.Path.{_≡_};
+ghost use Prim.Native.Nat.{_-_, _^_, _<_, _≤_};
+ghost use lib.ListN.{length};
+ghost use Rattle.integers.specs.Range.{Bounded};
+ghost use Rattle.clusters.specs.PairList.{rowStart};
+ghost use Rattle.clusters.specs.Linkage.{single, average, singles};
+ghost use Rattle.linkage.specs.Blocks.{blocksOf, mergedAt, linkageOf};
+ghost use Rattle.linkage.specs.Steps.{weight, Weighed, Merged};
+ghost use Rattle.linkage.specs.Calls.{Linked};
+
+// "The blocks of a linkage number at most 32": the first `count` of the sets.
+pub struct Blocks {
+    pub sets: [u32; 32],
+    pub count: usize,
+}
+
+impl Blocks {
+    // The single entries.
+    pub fn singles(n: usize) -> Blocks
+        requires { ⌜ n ≤ 32 ⌝ }
+        ensures { λ r. ⌜ (r .count ≡ n) × (blocksOf r ≡ singles n) ⌝ }
+    {
+        let mut filled = [0u32; 32];
+        for i in 0..n {
+            filled[i] = sets::single(i);
+        }
+        Blocks {
+            sets: filled,
+            count: n,
+        }
+    }
+
+    // The blocks that remain: the union of the two at the first's place, the last block at the second's.
+    pub fn merge(mut self, i: usize, j: usize) -> Blocks
+        requires { ⌜ (i < j) × (j < self .count) × (self .count ≤ 32) ⌝ }
+        ensures { λ r. ⌜ (r .count ≡ self .count - 1) × (blocksOf r ≡ mergedAt i j (blocksOf self)) ⌝ }
+    {
+        let last = self.count - 1;
+        self.sets[i] = sets::union(self.sets[i], self.sets[j]);
+        self.sets[j] = self.sets[last];
+        self.count = last;
+        self
+    }
+}
+
+fn weight(average: bool, set: u32) -> usize
+    ensures { λ r. ⌜ r ≡ weight average set ⌝ }
+{
+    if average { sets::size(set) } else { 1 }
+}
+
+fn weights(average: bool, blocks: Blocks) -> [usize; 32]
+    requires { ⌜ blocks .count ≤ 32 ⌝ }
+    ensures { λ r. ⌜ Weighed average (blocks .count) (blocksOf blocks) r ⌝ }
+{
+    let mut found = [0usize; 32];
+    for i in 0..blocks.count {
+        found[i] = weight(average, blocks.sets[i]);
+    }
+    found
+}
+
+// All merges of a tree: each merged block goes into the next slot.
+pub fn merge_all(average: bool, n: usize, pairs: &[i32], out: &mut [u32])
+    requires { ⌜ (1 ≤ n) × (n ≤ 32) × (length (now pairs) ≡ rowStart n) × Bounded (2 ^ 22) (now pairs) × (n - 1 ≤ length (now out)) ⌝ }
+    ensures { λ _. ⌜ Merged (linkageOf average) n (now (pairs .entry)) (now (out .entry)) (now (out .exit)) ⌝ }
+{
+    let mut blocks = Blocks::singles(n);
+    let mut table = [0i64; 1024];
+    links::fill(pairs, n, &mut table);
+    let mut k = 0;
+    while 1 < blocks.count {
+        let w = weights(average, blocks);
+        let found = links::greatest(blocks.count, &w, &table);
+        let i = found.i;
+        links::join_rows(average, blocks.count, i, found.j, &mut table);
+        links::move_row(blocks.count - 1, found.j, &mut table);
+        blocks = blocks.merge(i, found.j);
+        out[k] = blocks.sets[i];
+        k += 1;
+    }
+}
+
+// The checks of a linkage call, in the table's order, and the merges.
+fn linkage(average: bool, n: usize, pairs: &[i32], blocks: &mut [u32]) -> Answer
+    ensures { λ r. ⌜ Linked (linkageOf average) n (now (pairs .entry)) (now (blocks .entry)) r (now (blocks .exit)) ⌝ }
+{
+    if n == 0 {
+        return Answer::Refused(6);
+    }
+    if 32 < n {
+        return Answer::Refused(6);
+    }
+    if !matrix::has_length(n, pairs) {
+        return Answer::Refused(10);
+    }
+    if !matrix::in_range(pairs) {
+        return Answer::Refused(11);
+    }
+    if blocks.len() < n - 1 {
+        return Answer::Refused(15);
+    }
+    merge_all(average, n, pairs, blocks);
+    Answer::Count(n - 1)
+}
+
+pub fn single_linkage(n: usize, pairs: &[i32], blocks: &mut [u32]) -> Answer
+    ensures { λ r. ⌜ Linked single n (now (pairs .entry)) (now (blocks .entry)) r (now (blocks .exit)) ⌝ }
+{
+    linkage(false, n, pairs, blocks)
+}
+
+pub fn average_linkage(n: usize, pairs: &[i32], blocks: &mut [u32]) -> Answer
+    ensures { λ r. ⌜ Linked average n (now (pairs .entry)) (now (blocks .entry)) r (now (blocks .exit)) ⌝ }
+{
+    linkage(true, n, pairs, blocks)
+}

@@ -1,0 +1,42 @@
+use mathlib.Core.Path.{_≡_}
+use Prim.Native.Nat.{_≤_, _-_}
+use native.Mathlib.Omega.{arith}
+use borrow.Author.Needs.{needs}
+use Rattle.clusters.specs.PairList.{score}
+use Rattle.clusters.proofs.PairList.{score-symm}
+use Rattle.links.specs.Table.{Holds}
+use Rattle.links.proofs.Rows.{holds-start, holds-next, holds-all}
+use Rattle.links.proofs.fill.Statement.{statement}
+use Rattle.links.proofs.fill.Tie as tie
+
+abbrev Inv-loop : tie.InvT-loop
+Inv-loop pairs n t₀ a₀ t a = (a ≤ n) × Holds a (score pairs) t
+
+abbrev μ-loop : tie.MeasureT-loop
+μ-loop pairs n t₀ a₀ t a = n - a
+
+loop-holds : tie.Need-loop-holds Inv-loop μ-loop
+loop-holds c = (omega arith, holds-start _ _ (c .pre .2))
+
+fill-row-requires : tie.Need-fill-row-requires Inv-loop μ-loop
+fill-row-requires c κs = let l = c .before .before .loop in (search needs, search needs, c .before .before .before .pre .1, l .inv .1 .size)
+
+add-a : tie.Need-add-a Inv-loop μ-loop
+add-a c = search needs
+
+loop-less : tie.Need-loop-less Inv-loop μ-loop
+loop-less c = search needs
+
+loop-again : tie.Need-loop-again Inv-loop μ-loop
+loop-again c = let s = c .before .before .before in
+    (omega arith, holds-next (score-symm (s .before .args .pairs .now)) (omega arith) (s .loop .inv .1) (c .fill-row .ensures))
+
+returns : tie.Need-returns Inv-loop μ-loop
+returns c = let l = c .before .loop in
+    let e : l .a ≡ c .before .before .args .n = omega arith in
+    holds-all (l .inv .1) e
+
+pub fill-spec : {M : Type 1} → statement M
+fill-spec =
+    tie.close
+    (tie.spec Inv-loop μ-loop loop-holds fill-row-requires add-a loop-less loop-again returns)

@@ -1,0 +1,70 @@
+-- The table of the links between the blocks left, as the code holds it (document 01, Linkage trees): 32 rows of 32 numbers. The
+-- link of two blocks is a quotient; the table has its numerator, and the denominator is the product of two weights.
+use mathlib.Core.Path.{_≡_}
+use mathlib.Core.Bool.{Bool, cond}
+use mathlib.Core.Logic.{_≢_}
+use mathlib.Core.List.{List}
+use Prim.Native.Nat.{ℕ, _+_, _*_, _^_, _≤_, _<_}
+use lib.IntN.{ℤ, pos, _+ℤ_, _*ℤ_}
+use lib.Signed.{leZ}
+use lib.ListN.{length, getD, set}
+use Rattle.integers.specs.Integers.{maxZ}
+use Rattle.integers.specs.Range.{Within}
+use Rattle.clusters.specs.Linkage.{Quotient, _≼_}
+
+-- what the table has for the blocks at the places a and b
+abbrev pub entry : List ℤ → ℕ → ℕ → ℤ
+entry t a b = getD t (a * 32 + b) (pos 0)
+
+-- the table with z there, both ways round
+unfoldable pub stored : ℕ → ℕ → ℤ → List ℤ → List ℤ
+stored a b z t = set (set t (a * 32 + b) z) (b * 32 + a) z
+
+-- the table has f for any two of the first k places
+pub record Holds (k : ℕ) (f : ℕ → ℕ → ℤ) (t : List ℤ) : Type 0 where
+  pub size : length t ≡ 1024
+  pub is : (a b : ℕ) → a < k → b < k → a ≢ b → entry t a b ≡ f a b
+
+-- what it has for any two of the first k places is of bounded size
+pub record Small (k : ℕ) (t : List ℤ) : Type 0 where
+  pub size : length t ≡ 1024
+  pub within : (a b : ℕ) → a < k → b < k → a ≢ b → Within (2 ^ 40) (entry t a b)
+
+-- in row i and column i, the first k numbers have become those of g, but for the places i and j; the rest stands
+pub record Written (i j : ℕ) (g : ℕ → ℤ) (k : ℕ) (t₀ t : List ℤ) : Type 0 where
+  pub size : length t ≡ 1024
+  pub row : (q : ℕ) → q < k → q ≢ i → q ≢ j → entry t i q ≡ g q
+  pub column : (q : ℕ) → q < k → q ≢ i → q ≢ j → entry t q i ≡ g q
+  pub rest : (p q : ℕ) → p < 32 → q < 32 → (p ≡ i → k ≤ q) → (q ≡ i → k ≤ p) → entry t p q ≡ entry t₀ p q
+
+-- the numerator for a union of two blocks: "the greatest score between the blocks (single) or the sum of scores" (average)
+unfoldable pub joined : Bool → ℤ → ℤ → ℤ
+joined average x y = cond average (x +ℤ y) (maxZ x y)
+
+-- those for the union of the blocks at i and j
+unfoldable pub joinedRow : Bool → ℕ → ℕ → List ℤ → ℕ → ℤ
+joinedRow average i j t q = joined average (entry t i q) (entry t j q)
+
+-- the link of the blocks at a and b, by the table and the weights
+unfoldable pub quotientAt : List ℕ → List ℤ → ℕ → ℕ → Quotient
+quotientAt w t a b = record { num = entry t a b; den = getD w a 0 * getD w b 0 }
+
+-- the test of the order of links
+unfoldable pub atMost : Quotient → Quotient → Bool
+atMost p q = leZ (pos (q .den) *ℤ p .num) (pos (p .den) *ℤ q .num)
+
+-- the weights of the first k places
+abbrev pub Weights : ℕ → List ℕ → Type 0
+Weights k w = (a : ℕ) → a < k → (1 ≤ getD w a 0) × (getD w a 0 ≤ 32)
+
+-- two of the first k places, in rising order, and the link of the blocks there is at least that of any such two
+pub record GreatestAt (k : ℕ) (link : ℕ → ℕ → Quotient) (i j : ℕ) : Type 0 where
+  pub rising : i < j
+  pub inside : j < k
+  pub most : (p q : ℕ) → p < q → q < k → link p q ≼ link i j
+
+-- of those that stand before the place m of the table
+pub record GreatestBefore (k : ℕ) (link : ℕ → ℕ → Quotient) (m i j : ℕ) : Type 0 where
+  pub rising : i < j
+  pub inside : j < k
+  pub most : (p q : ℕ) → p < q → q < k → p * 32 + q < m → link p q ≼ link i j
