@@ -1,4 +1,5 @@
 -- Laws of bounded numbers: sums, differences, products, the smaller and the larger; and which numbers fit a machine's width.
+use mathlib.Core.Path.{_≡_}
 use Prim.Native.Nat.{ℕ, _+_, _*_, _≤_, _<_, _^_}
 use native.Mathlib.Nat.{mul-le-mul}
 use native.Mathlib.Omega.{arith}
@@ -37,6 +38,10 @@ within {k} h l = record { top = omega zarith; low = →low k (omega arith) }
 
 pub within-grow : {j k : ℕ} {z : ℤ} → j ≤ k → Within j z → Within k z
 within-grow l h = within (omega (arith, up-le h)) (omega (arith, dn-le h))
+
+-- of an equal number: what a call reads is equal to what the call before gave (`passed` of Held)
+pub within-equal : {k : ℕ} {x z : ℤ} → x ≡ z → Within k z → Within k x
+within-equal e h = rw e h
 
 pub within-sum : {j k : ℕ} {a b : ℤ} → Within j a → Within k b → Within (j + k) (a +ℤ b)
 unfolding up dn

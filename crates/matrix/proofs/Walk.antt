@@ -13,6 +13,7 @@ use Rattle.lists.proofs.Lists.{count-below, getD-below}
 pub record Passed {A : Type 0} (p : A → Bool) (l : List A) (i : ℕ) : Type 0 where
   pub rest : all p (drop i l) ≡ all p l
 
+-- first the element at place i, then the rest
 step : {A : Type 0} (p : A → Bool) (l : List A) (i : ℕ) (d : A) → i < length l → all p (drop i l) ≡ p (getD l i d) && all p (drop (i + 1) l)
 unfolding all
 step p l i d h = rw (add-one, drop-cons l i d)
@@ -20,6 +21,7 @@ step p l i d h = rw (add-one, drop-cons l i d)
 pub started : {A : Type 0} {p : A → Bool} {l : List A} → Passed p l 0
 started = record { rest = refl }
 
+-- the element at place i passes, or it fails; none is left
 module _ {A : Type 0} {p : A → Bool} {l : List A} {i : ℕ} (s : Passed p l i) (d : A) where
   pub next : i < length l → p (getD l i d) ≡ true → Passed p l (i + 1)
   next h t = record { rest = sym (step p l i d h ∙ rw t) ∙ s .rest }

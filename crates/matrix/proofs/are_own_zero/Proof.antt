@@ -10,7 +10,7 @@ use Rattle.integers.specs.Integers.{eqZ}
 use Rattle.integers.proofs.Held.{passed}
 use Rattle.clusters.specs.PairList.{score}
 use Rattle.matrix.proofs.Walk.{Passed, started, next-below, failed-below, ended-below}
-use Rattle.matrix.proofs.RowStarts.{in-list}
+use Rattle.matrix.proofs.Places.{score-asks}
 use Rattle.matrix.proofs.are_own_zero.Statement.{statement}
 use Rattle.matrix.proofs.are_own_zero.Tie as tie
 
@@ -24,7 +24,7 @@ loop-holds : tie.Need-loop-holds Inv-loop μ-loop
 loop-holds c = (omega arith, started)
 
 score-requires : tie.Need-score-requires Inv-loop μ-loop
-score-requires c κs = let s = c .before .before in in-list {n = s .args .n} (s .args .pairs .now) (s .pre .0) (s .pre .1) (omega arith) (omega arith)
+score-requires c κs = let s = c .before .before in score-asks {n = s .args .n} (s .args .pairs .now) (s .pre .0) (s .pre .1) (omega arith) (omega arith)
 
 is-equal-requires : tie.Need-is-equal-requires Inv-loop μ-loop
 is-equal-requires c κs = search needs

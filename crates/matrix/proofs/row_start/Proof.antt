@@ -1,3 +1,4 @@
+-- The rule of the table is one test that is computed over all its places.
 use mathlib.Core.Bool.{Bool}
 use mathlib.Core.List.{List, [], _∷_}
 use Prim.Native.Nat.{ℕ}
@@ -10,11 +11,11 @@ use Rattle.clusters.specs.PairList.{rowStart}
 use Rattle.matrix.proofs.row_start.Statement.{statement}
 use Rattle.matrix.proofs.row_start.Tie as tie
 
-starts : List ℕ
-starts = 0 ∷ 1 ∷ 3 ∷ 6 ∷ 10 ∷ 15 ∷ 21 ∷ 28 ∷ 36 ∷ 45 ∷ 55 ∷ 66 ∷ 78 ∷ 91 ∷ 105 ∷ 120 ∷ 136 ∷ 153 ∷ 171 ∷ 190 ∷ 210 ∷ 231 ∷ 253 ∷ 276 ∷ 300 ∷ 325 ∷ 351 ∷ 378 ∷ 406 ∷ 435 ∷ 465 ∷ 496 ∷ []
+table : List ℕ
+table = 0 ∷ 1 ∷ 3 ∷ 6 ∷ 10 ∷ 15 ∷ 21 ∷ 28 ∷ 36 ∷ 45 ∷ 55 ∷ 66 ∷ 78 ∷ 91 ∷ 105 ∷ 120 ∷ 136 ∷ 153 ∷ 171 ∷ 190 ∷ 210 ∷ 231 ∷ 253 ∷ 276 ∷ 300 ∷ 325 ∷ 351 ∷ 378 ∷ 406 ∷ 435 ∷ 465 ∷ 496 ∷ []
 
 right : ℕ → Bool
-right i = eqb (getD starts i 0) (rowStart i)
+right i = eqb (getD table i 0) (rowStart i)
 
 mul-result : tie.Need-mul-result
 mul-result c = search needs
@@ -23,8 +24,8 @@ array-read-result : tie.Need-array-read-result
 array-read-result c = search needs
 
 returns : tie.Need-returns
-unfolding starts right all below rowStart
-returns c = eqb→eq (getD starts (c .args .i) 0) (rowStart (c .args .i)) (all-in right (below 32) tt (lt-below 32 (c .args .i) (search needs)))
+unfolding table right all below rowStart
+returns c = let i = c .args .i in eqb→eq (getD table i 0) (rowStart i) (all-in right (below 32) tt (lt-below 32 i (search needs)))
 
 pub row-start-spec : {M : Type 1} → statement M
 row-start-spec = tie.close (tie.spec mul-result array-read-result returns)

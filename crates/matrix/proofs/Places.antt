@@ -1,4 +1,4 @@
--- Row starts as the code computes with them, and the places of pairs.
+-- Row starts and places of pairs, as the code computes with them.
 use mathlib.Core.Path.{_≡_, ap}
 use mathlib.Core.List.{List}
 use Prim.Native.Nat.{ℕ, zero, suc, _+_, _-_, _≤_, _<_}
@@ -19,5 +19,5 @@ unfolding rowStart
 rowStart-le n h = let k : n + 1 ≤ 33 = omega arith in omega (arith, mul-le-mul h k)
 
 -- what the lookup of a score asks, in a pair list of n entries
-pub in-list : {n a b : ℕ} (l : List ℤ) → n ≤ 32 → length l ≡ rowStart n → a < n → b < n → (a < 32) × (b < 32) × (place a b < length l)
-in-list {n} {a} {b} l m e h k = (omega arith, omega arith, omega (arith, place-lt n a b h k))
+pub score-asks : {n a b : ℕ} (l : List ℤ) → n ≤ 32 → length l ≡ rowStart n → a < n → b < n → (a < 32) × (b < 32) × (place a b < length l)
+score-asks {n} {a} {b} l m e h k = (omega arith, omega arith, omega (arith, place-lt n a b h k))
