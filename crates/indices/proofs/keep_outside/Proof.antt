@@ -5,9 +5,8 @@ use Prim.Native.Nat.{_-_, _≤_, _^_}
 use lib.IntN.{_-ℤ_}
 use mir.Syntax.{w64}
 use Rattle.integers.specs.Integers.{maxZ}
-use Rattle.integers.specs.Range.{Within}
 use Rattle.integers.proofs.Held.{passed}
-use Rattle.integers.proofs.Range.{within-max}
+use Rattle.integers.proofs.Range.{within-equal, within-max}
 use Rattle.sets.specs.Sets.{has, others}
 use Rattle.clusters.specs.PairList.{score}
 use Rattle.clusters.specs.Indices.{weight}
@@ -64,9 +63,8 @@ difference-requires c κs = let s = c .before .before .before .before .before .b
     let u = c .before .before .score3 in
     let m = c .before .larger in
     (
-      score-safe g (omega arith) (omega arith) (passed w64 (s .score .ok) (s .score .ensures)),
-      subst (Within (2 ^ 61)) (sym (passed w64 (m .ok) (m .ensures)))
-      (within-max (score-safe g (omega arith) (omega arith) (passed w64 (v .ok) (v .ensures))) (score-safe g (omega arith) (omega arith) (passed w64 (u .ok) (u .ensures)))),
+      within-equal (passed w64 (s .score .ok) (s .score .ensures)) (score-safe g _ _),
+      within-equal (passed w64 (m .ok) (m .ensures)) (within-max (within-equal (passed w64 (v .ok) (v .ensures)) (score-safe g _ _)) (within-equal (passed w64 (u .ok) (u .ensures)) (score-safe g _ _))),
     )
 
 -- src/lib.rt:119:13

@@ -64,7 +64,7 @@ returns : tie.Need-returns Inv-loop μ-loop
 unfolding separationFrom
 returns c = let s = c .before in
     let g = s .before in
-    least-other (g .pre .1) (split-beyond (g .pre .0) (g .pre .1) (g .pre .2)) (omega arith) (s .loop .inv .1)
+    least-other (g .pre .1) (split-beyond (g .pre .0) (g .pre .1) (g .args .a)) (omega arith) (s .loop .inv .1)
 
 pub separation-from-spec : {M : Type 1} → statement M
 separation-from-spec =

@@ -6,6 +6,7 @@ use lib.Dec.{lit<}
 use mir.Syntax.{w64}
 use Rattle.integers.specs.Integers.{minZ, maxZ}
 use Rattle.integers.proofs.Held.{passed}
+use Rattle.integers.proofs.Range.{within-equal}
 use Rattle.clusters.specs.PairList.{score}
 use Rattle.indices.specs.Margins.{nearness}
 use Rattle.indices.proofs.Margins.{Seen, seen-none, seen-member, seen-other, seen-within, seen-margin, score-asked, score-safe, nearness-beyond}
@@ -48,7 +49,7 @@ difference-requires : tie.Need-difference-requires Inv-loop μ-loop
 difference-requires c κs = let g = c .before .before .before .before in
     let v = c .before .score in
     let u = c .score2 in
-    (score-safe (g .pre .0) (omega arith) (omega arith) (passed w64 (v .ok) (v .ensures)), score-safe (g .pre .0) (omega arith) (omega arith) (passed w64 (u .ok) (u .ensures)))
+    (within-equal (passed w64 (v .ok) (v .ensures)) (score-safe (g .pre .0) _ _), within-equal (passed w64 (u .ok) (u .ensures)) (score-safe (g .pre .0) _ _))
 
 -- src/lib.rt:54:12
 has-requires : tie.Need-has-requires Inv-loop μ-loop
@@ -88,13 +89,13 @@ loop-again c = let s = c .before .before .before .before .before .before in
 difference-requires-2 : tie.Need-difference-requires-2 Inv-loop μ-loop
 difference-requires-2 c κs = let s = c .before in
     let g = s .before in
-    seen-within (g .pre .1) (nearness-beyond (g .pre .0) (g .pre .2) (g .pre .3)) (omega arith) (s .loop .inv .1)
+    seen-within (g .pre .1) (nearness-beyond (g .pre .0) (g .args .a) (g .args .x)) (omega arith) (s .loop .inv .1)
 
 -- src/lib.rt:46:1
 returns : tie.Need-returns Inv-loop μ-loop
 returns c = let s = c .before .before in
     let g = s .before in
-    passed w64 (c .difference2 .ok) (c .difference2 .ensures ∙ seen-margin (g .pre .1) (nearness-beyond (g .pre .0) (g .pre .2) (g .pre .3)) (omega arith) (s .loop .inv .1))
+    passed w64 (c .difference2 .ok) (c .difference2 .ensures ∙ seen-margin (g .pre .1) (nearness-beyond (g .pre .0) (g .args .a) (g .args .x)) (omega arith) (s .loop .inv .1))
 
 pub separation-margin-spec : {M : Type 1} → statement M
 separation-margin-spec =

@@ -76,13 +76,13 @@ loop-again c = let s = c .before .before .before .before in
 difference-requires : tie.Need-difference-requires Inv-loop μ-loop
 difference-requires c κs = let s = c .before in
     let g = s .before in
-    seen-within (g .pre .1) (score-beyond (g .pre .0) (g .pre .2)) (omega arith) (s .loop .inv .1)
+    seen-within (g .pre .1) (score-beyond (g .pre .0) (g .args .a)) (omega arith) (s .loop .inv .1)
 
 -- src/lib.rt:16:1
 returns : tie.Need-returns Inv-loop μ-loop
 returns c = let s = c .before .before in
     let g = s .before in
-    passed w64 (c .difference .ok) (c .difference .ensures ∙ seen-margin (g .pre .1) (score-beyond (g .pre .0) (g .pre .2)) (omega arith) (s .loop .inv .1))
+    passed w64 (c .difference .ok) (c .difference .ensures ∙ seen-margin (g .pre .1) (score-beyond (g .pre .0) (g .args .a)) (omega arith) (s .loop .inv .1))
 
 pub strong-margin-spec : {M : Type 1} → statement M
 strong-margin-spec =
