@@ -2,10 +2,10 @@
 -- within 4k, the clean index of up to 32 entries within 62k.
 use mathlib.Core.Path.{_≡_, refl}
 use mathlib.Core.List.{List, [], _∷_, map, List·Memᴰ·head, List·Memᴰ·tail}
-use Prim.Native.Nat.{ℕ, zero, suc, _+_, _-_, _*_, _≤_}
+use Prim.Native.Nat.{ℕ, zero, suc, _-_, _*_, _≤_}
 use native.Mathlib.Omega.{arith}
 use lib.IntN.{ℤ, pos}
-use lib.ListN.{length, take, getD, length-take}
+use lib.ListN.{take, getD, length-take}
 use Rattle.lists.specs.Lists.{_∈_}
 use Rattle.lists.proofs.Lists.{of-each, of-map}
 use Rattle.integers.specs.Integers.{least, sort, sumOfSmallest}
@@ -14,7 +14,7 @@ use Rattle.integers.proofs.Linear.{up, dn}
 use Rattle.integers.proofs.Least.{least-in}
 use Rattle.integers.proofs.Range.{within, within-grow, within-equal, within-sum, within-difference, within-max}
 use Rattle.integers.proofs.Smallest.{of-sort}
-use Rattle.sets.specs.Sets.{members, others, size}
+use Rattle.sets.specs.Sets.{others, size}
 use Rattle.sets.proofs.Sets.{size-le}
 use Rattle.clusters.specs.PairList.{Similarity, place, score}
 use Rattle.clusters.specs.Indices.{strongValues, strongIndex, weight, pairsOf, weights, cleanIndex, separationValues, separationIndex}

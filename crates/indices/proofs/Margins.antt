@@ -1,23 +1,23 @@
 -- The strong and the separation index are least margins; margins are bounded; a loop finds a margin.
 use mathlib.Core.Path.{_≡_, refl, sym, ap, ap₂, _∙_, subst}
-use mathlib.Core.Bool.{Bool, true, false, not}
-use mathlib.Core.List.{List, map, foldl, Memᴰ·cast}
+use mathlib.Core.Bool.{true, false, not}
+use mathlib.Core.List.{List, map, Memᴰ·cast}
 use Prim.Native.Nat.{ℕ, _+_, _^_, _<_}
 use lib.Dec.{lit<, lit≤}
 use lib.ListN.{length}
 use lib.IntN.{ℤ, pos, negℤ, _+ℤ_, _-ℤ_}
-use lib.Signed.{_≤ℤ_, mag}
+use lib.Signed.{mag}
 use mir.Syntax.{w64}
 use mir.Val.{ofZ, toZ, hbits}
-use Rattle.lists.specs.Lists.{_∈_, each, keep, below}
+use Rattle.lists.specs.Lists.{_∈_, each}
 use Rattle.lists.proofs.Lists.{in-map, of-map, in-each, of-each, map-cong}
 use Rattle.integers.specs.Integers.{minZ, maxZ, least, greatest}
 use Rattle.integers.specs.Range.{Within, Bounded}
 use Rattle.integers.proofs.Linear.{zarith, -at, +at}
 use Rattle.integers.proofs.Least.{least-le, least-of, least-same, least-each, greatest-ge, greatest-of}
 use Rattle.integers.proofs.Range.{within-grow, within-equal, within-difference}
-use Rattle.integers.proofs.Held.{Held, held-value, held-result, held-equal}
-use Rattle.sets.specs.Sets.{has, _∋_, _∌_, members, others}
+use Rattle.integers.proofs.Held.{Held, held-result}
+use Rattle.sets.specs.Sets.{has, members, others}
 use Rattle.sets.proofs.Sets.{in-members, of-members, in-others, of-others, size-member, size-less}
 use Rattle.clusters.specs.PairList.{Similarity, place, score}
 use Rattle.clusters.specs.Indices.{strongValues, strongIndex, separationValues, separationIndex}
@@ -26,7 +26,7 @@ use Rattle.matrix.proofs.Places.{score-asks}
 use Rattle.indices.specs.Asked.{Scores, Proper}
 use Rattle.indices.specs.Margins.{margin, nearness, separationFrom}
 use Rattle.indices.proofs.Bounds.{score-within}
-use Rattle.indices.proofs.Running.{Run, run-start, run-yes, run-no, run-least, run-greatest}
+use Rattle.integers.proofs.Running.{Run, run-start, run-yes, run-no, run-least, run-greatest}
 
 -- a member, and an entry outside
 pub a-member : {n A : ℕ} → Proper n A → (a : ℕ) × (a ∈ members n A)
