@@ -3,8 +3,9 @@ use mathlib.Core.Bool.{Bool, cond, _&&_}
 use mathlib.Core.List.{List, [], _∷_}
 use Prim.Native.Nat.{ℕ}
 use lib.IntN.{ℤ, pos, _+ℤ_}
-use lib.Signed.{leZ, quotZ}
+use lib.Signed.{_≤ℤ_, leZ, quotZ}
 use lib.ListN.{take}
+use Rattle.lists.specs.Lists.{_∈_}
 
 -- the smaller and the larger of two
 unfoldable pub minZ : ℤ → ℤ → ℤ
@@ -44,6 +45,11 @@ insert x (y ∷ l) = cond (leZ x y) (x ∷ y ∷ l) (y ∷ insert x l)
 unfoldable pub sort : List ℤ → List ℤ
 sort [] = []
 sort (x ∷ l) = insert x (sort l)
+
+-- the numbers rise
+abbrev pub Sorted : List ℤ → Type 0
+Sorted [] = Unit {0}
+Sorted (x ∷ l) = ((y : ℤ) → y ∈ l → x ≤ℤ y) × Sorted l
 
 -- the sum of the k smallest, equal ones counted each
 unfoldable pub sumOfSmallest : ℕ → List ℤ → ℤ

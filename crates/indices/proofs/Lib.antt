@@ -1,0 +1,5 @@
+pub mod Smallest
+pub mod Totals
+pub mod Bounds
+pub mod Margins
+pub mod Clean

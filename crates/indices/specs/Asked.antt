@@ -1,0 +1,21 @@
+-- What the code for the indices asks of its callers.
+use mathlib.Core.Path.{_≡_}
+use mathlib.Core.List.{List}
+use Prim.Native.Nat.{ℕ, _^_, _≤_, _<_}
+use lib.IntN.{ℤ}
+use lib.ListN.{length}
+use Rattle.integers.specs.Range.{Bounded}
+use Rattle.sets.specs.Sets.{size}
+use Rattle.clusters.specs.PairList.{rowStart}
+
+-- a pair list of n entries, up to 32 of them, with scores and anchored scores far from the machine's limits
+pub record Scores (n : ℕ) (l : List ℤ) : Type 0 where
+  pub few : n ≤ 32
+  pub long : length l ≡ rowStart n
+  pub small : Bounded (2 ^ 22) l
+
+-- a set of the n entries that is neither empty nor all of them
+pub record Proper (n A : ℕ) : Type 0 where
+  pub fits : A < 2 ^ n
+  pub some : 1 ≤ size n A
+  pub rest : size n A < n

@@ -1,0 +1,23 @@
+-- The smallest numbers of a list (document 01, Clean index: "the sum of the |A| − 1 smallest weights"), kept one by one.
+use mathlib.Core.List.{List, foldl}
+use Prim.Native.Nat.{ℕ}
+use lib.IntN.{ℤ}
+use lib.ListN.{take}
+use Rattle.integers.specs.Integers.{insert}
+use Rattle.sets.specs.Sets.{members, others}
+use Rattle.clusters.specs.PairList.{Similarity}
+use Rattle.clusters.specs.Indices.{weight}
+
+-- the k smallest of the numbers kept and w
+unfoldable pub keepSmallest : ℕ → List ℤ → ℤ → List ℤ
+keepSmallest k kept w = take k (insert w kept)
+
+-- of the numbers kept and the weights of the triples ab|c, c outside A; b in A before a; a in A
+unfoldable pub keepOutside : ℕ → Similarity → ℕ → ℕ → ℕ → ℕ → List ℤ → List ℤ
+keepOutside n s A k a b kept = foldl (λ l c. keepSmallest k l (weight s a b c)) kept (others n A)
+
+unfoldable pub keepBefore : ℕ → Similarity → ℕ → ℕ → ℕ → List ℤ → List ℤ
+keepBefore n s A k a kept = foldl (λ l b. keepOutside n s A k a b l) kept (members a A)
+
+unfoldable pub keepAll : ℕ → Similarity → ℕ → ℕ → List ℤ → List ℤ
+keepAll n s A k kept = foldl (λ l a. keepBefore n s A k a l) kept (members n A)
