@@ -1,7 +1,7 @@
 -- Bounds of the indices: of a pair list whose numbers are between −k and k, the strong index is within 2k, the separation index
 -- within 4k, the clean index of up to 32 entries within 62k.
 use mathlib.Core.Path.{_≡_, refl}
-use mathlib.Core.List.{List, [], _∷_, map, List·Memᴰ·head, List·Memᴰ·tail}
+use mathlib.Core.List.{List, [], _∷_, map, List·Memᴰ·head, List·Memᴰ·tail, List·Memᴰ·head}
 use Prim.Native.Nat.{ℕ, zero, suc, _-_, _*_, _≤_}
 use native.Mathlib.Omega.{arith}
 use lib.IntN.{ℤ, pos}
@@ -11,7 +11,7 @@ use Rattle.lists.proofs.Lists.{of-each, of-map}
 use Rattle.integers.specs.Integers.{least, sort, sumOfSmallest}
 use Rattle.integers.specs.Range.{Within, Bounded}
 use Rattle.integers.proofs.Linear.{up, dn}
-use Rattle.integers.proofs.Least.{least-in}
+use Rattle.integers.proofs.Least.{least-of}
 use Rattle.integers.proofs.Range.{within, within-grow, within-equal, within-sum, within-difference, within-max}
 use Rattle.integers.proofs.Smallest.{of-sort}
 use Rattle.sets.specs.Sets.{others, size}
@@ -34,7 +34,7 @@ value-within (z ∷ l) (suc i) b = value-within l i (λ y m. b y (List·Memᴰ·
 least-within : {k : ℕ} (l : List ℤ) → Bounded k l → Within k (least l)
 unfolding least
 least-within [] b = zero-within
-least-within (z ∷ l) b = b (least (z ∷ l)) (least-in z l)
+least-within (z ∷ l) b = b (least (z ∷ l)) (least-of (z ∷ l) (List·Memᴰ·head refl))
 
 of-weights : (n : ℕ) (s : Similarity) (A : ℕ) {z : ℤ} → z ∈ weights n s A → (a b c : ℕ) × (z ≡ weight s a b c)
 unfolding weights

@@ -5,7 +5,7 @@ use borrow.Author.Needs.{needs}
 use mir.Syntax.{w64}
 use Rattle.integers.proofs.Held.{passed}
 use Rattle.clusters.specs.PairList.{score}
-use Rattle.matrix.proofs.RowStarts.{in-list}
+use Rattle.matrix.proofs.Places.{score-asks}
 use Rattle.links.specs.Table.{Written}
 use Rattle.links.proofs.Rows.{written-start, written-next, written-all}
 use Rattle.links.proofs.fill_row.Statement.{statement}
@@ -22,7 +22,7 @@ loop-holds c = (omega arith, written-start _ _ _ _ (c .pre .3))
 
 score-requires : tie.Need-score-requires Inv-loop μ-loop
 score-requires c κs = let s = c .before .before .before in
-    in-list (s .args .pairs .now) (search needs) (s .pre .2) (search needs) (omega arith)
+    score-asks (s .args .pairs .now) (search needs) (s .pre .2) (search needs) (omega arith)
 
 put-requires : tie.Need-put-requires Inv-loop μ-loop
 put-requires c κs = search needs
