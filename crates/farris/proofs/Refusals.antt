@@ -30,9 +30,9 @@ pub first-no : {k r : ℕ} {b : Bool} {l : List (ℕ × Bool)} → b ≡ false �
 unfolding firstOf
 first-no e g = record { is = rw e (g .is) }
 
-pub none : Gives [] 0
+pub no-more : Gives [] 0
 unfolding firstOf
-none = record { is = refl }
+no-more = record { is = refl }
 
 -- a table that gives 0, read backwards
 pub no-first : (k : ℕ) (b : Bool) (l : List (ℕ × Bool)) → 0 < k → firstOf ((k, b) ∷ l) ≡ 0 → (b ≡ false) × (firstOf l ≡ 0)

@@ -1,4 +1,3 @@
-pub mod Running
 pub mod Smallest
 pub mod Totals
 pub mod Bounds

@@ -1,7 +1,6 @@
 // The links between the blocks of a linkage, in a table of 32 rows: made from the scores, kept up to date by merges, and searched
 // for the greatest.
 ghost use mathlib.Core.Path.{_≡_};
-ghost use mathlib.Core.Bool.{true};
 ghost use Prim.Native.Nat.{_+_, _*_, _^_, _<_, _≤_};
 ghost use lib.IntN.{pos, _*ℤ_};
 ghost use lib.Signed.{leZ};
@@ -9,18 +8,18 @@ ghost use lib.ListN.{length, getD};
 ghost use Rattle.integers.specs.Range.{Within};
 ghost use Rattle.clusters.specs.PairList.{rowStart, score};
 ghost use Rattle.links.specs.Table.{
-    entry,
-    stored,
-    Holds,
-    Small,
-    Written,
-    joined,
-    joinedRow,
-    quotientAt,
-    atMost,
-    Weights,
-    GreatestAt,
-    GreatestBefore,
+  entry,
+  stored,
+  Holds,
+  Small,
+  Written,
+  joined,
+  joinedRow,
+  quotientAt,
+  atMost,
+  Weights,
+  GreatestAt,
+  GreatestBefore,
 };
 
 fn get(t: &[i64; 1024], a: usize, b: usize) -> i64
@@ -111,11 +110,24 @@ fn denominator(weights: &[usize; 32], a: usize, b: usize) -> usize
 }
 
 // The link at a and b is at most that at i and j.
-fn is_at_most(count: usize, weights: &[usize; 32], t: &[i64; 1024], a: usize, b: usize, i: usize, j: usize) -> bool
+fn is_at_most(
+    count: usize,
+    weights: &[usize; 32],
+    t: &[i64; 1024],
+    a: usize,
+    b: usize,
+    i: usize,
+    j: usize,
+) -> bool
     requires { ⌜ (a < b) × (b < count) × (i < j) × (j < count) × (count ≤ 32) × Small count (now t) × Weights count (now weights) ⌝ }
     ensures { λ r. ⌜ r ≡ atMost (quotientAt (now (weights .entry)) (now (t .entry)) a b) (quotientAt (now (weights .entry)) (now (t .entry)) i j) ⌝ }
 {
-    is_quotient_at_most(get(t, a, b), denominator(weights, a, b), get(t, i, j), denominator(weights, i, j))
+    is_quotient_at_most(
+        get(t, a, b),
+        denominator(weights, a, b),
+        get(t, i, j),
+        denominator(weights, i, j),
+    )
 }
 
 // Two places of the table.
@@ -125,7 +137,13 @@ pub struct Pair {
 }
 
 // The greatest of what was found before and the links at i and a later place.
-fn greatest_in_row(count: usize, weights: &[usize; 32], t: &[i64; 1024], i: usize, found: Pair) -> Pair
+fn greatest_in_row(
+    count: usize,
+    weights: &[usize; 32],
+    t: &[i64; 1024],
+    i: usize,
+    found: Pair,
+) -> Pair
     requires { ⌜ (i < count) × (count ≤ 32) × Small count (now t) × Weights count (now weights) × GreatestBefore count (quotientAt (now weights) (now t)) (i * 32) (found .i) (found .j) ⌝ }
     ensures { λ r. ⌜ GreatestBefore count (quotientAt (now (weights .entry)) (now (t .entry))) ((i + 1) * 32) (r .i) (r .j) ⌝ }
 {

@@ -9,35 +9,24 @@ use native.Mathlib.Omega.{arith}
 use borrow.Author.Needs.{needs}
 use Rattle.indices.proofs.clean_index.Statement.{statement}
 use Rattle.indices.proofs.clean_index.Tie as tie
-use Rattle.indices.proofs.clean_index.Reads as reads
-use Rattle.indices.proofs.clean_index.Lts as lts
-use Rattle.indices.proofs.keep_all.Reads as keep-all-reads
-use Rattle.indices.proofs.total.Reads as total-reads
-use Rattle.sets.proofs.size.Reads as size-reads
 
--- src/lib.rt:163:13
 size-requires : tie.Need-size-requires
 size-requires c κs = search needs
 
--- src/lib.rt:163:13
 sub-k : tie.Need-sub-k
 sub-k c = let g = c .before in counted (g .pre .0) (g .pre .1) (c .size .ensures) .1
 
--- src/lib.rt:165:32
 slice-aggregate-keep-all : tie.Need-slice-aggregate-keep-all
 slice-aggregate-keep-all c = search needs
 
--- src/lib.rt:165:5
 keep-all-requires : tie.Need-keep-all-requires
 keep-all-requires c κs = let g = c .before .before in
     let h = counted (g .pre .0) (g .pre .1) (c .before .size .ensures) .2 in
     (g .pre .0, h, tops-sorted _ h)
 
--- src/lib.rt:166:11
 slice-aggregate-total : tie.Need-slice-aggregate-total
 slice-aggregate-total c = search needs
 
--- src/lib.rt:166:5
 total-requires : tie.Need-total-requires
 total-requires c κs = let s = c .before .before .before .before in
     let g = s .before in
@@ -45,7 +34,6 @@ total-requires c κs = let s = c .before .before .before .before in
     let r = c .before .before .keep-all in
     (h, omega (arith, h, r .kept .0), subst (Bounded (2 ^ 30)) (sym (r .ensures)) (kept-within (g .pre .0) (g .pre .1) (s .size .result - 1)))
 
--- src/lib.rt:159:1
 returns : tie.Need-returns
 returns c = let s = c .before .before .before .before .before in
     let g = s .before in
