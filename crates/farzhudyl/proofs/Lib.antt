@@ -1,3 +1,4 @@
 pub mod Lines
 pub mod Table
+pub mod Room
 pub mod Demands

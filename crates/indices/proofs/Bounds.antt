@@ -1,11 +1,8 @@
-use mathlib.Core.Path.{_≡_, refl, sym, ap, subst}
-use mathlib.Core.List.{List, [], _∷_, map, List·Memᴰ·head, List·Memᴰ·tail}
-use Prim.Native.Nat.{ℕ, _+_, _-_, _*_, _≤_, _<_, zero, suc}
-use native.Mathlib.Nat.{mul-le-mul}
--- The indices of a pair list whose numbers are between −k and k.
-
 -- Bounds of the indices: of a pair list whose numbers are between −k and k, the strong index is within 2k, the separation index
 -- within 4k, the clean index of up to 32 entries within 62k.
+use mathlib.Core.Path.{_≡_, refl}
+use mathlib.Core.List.{List, [], _∷_, map, List·Memᴰ·head, List·Memᴰ·tail, List·Memᴰ·head}
+use Prim.Native.Nat.{ℕ, zero, suc, _-_, _*_, _≤_}
 use native.Mathlib.Omega.{arith}
 use lib.IntN.{ℤ, pos}
 use lib.ListN.{take, getD, length-take}
@@ -15,7 +12,7 @@ use Rattle.integers.specs.Integers.{least, sort, sumOfSmallest}
 use Rattle.integers.specs.Range.{Within, Bounded}
 use Rattle.integers.proofs.Linear.{up, dn}
 use Rattle.integers.proofs.Least.{least-of}
-use Rattle.integers.proofs.Range.{within, within-grow, within-sum, within-difference, within-max, within-equal}
+use Rattle.integers.proofs.Range.{within, within-grow, within-equal, within-sum, within-difference, within-max}
 use Rattle.integers.proofs.Smallest.{of-sort}
 use Rattle.sets.specs.Sets.{others, size}
 use Rattle.sets.proofs.Sets.{size-le}
@@ -35,9 +32,6 @@ value-within (z ∷ l) zero b = b z (List·Memᴰ·head refl)
 value-within (z ∷ l) (suc i) b = value-within l i (λ y m. b y (List·Memᴰ·tail m))
 
 least-within : {k : ℕ} (l : List ℤ) → Bounded k l → Within k (least l)
-unfolding least up dn
-least-within [] b = within (omega arith) (omega arith)
-
 unfolding least
 least-within [] b = zero-within
 least-within (z ∷ l) b = b (least (z ∷ l)) (least-of (z ∷ l) (List·Memᴰ·head refl))

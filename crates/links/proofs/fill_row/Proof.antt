@@ -4,9 +4,6 @@ use native.Mathlib.Omega.{arith}
 use borrow.Author.Needs.{needs}
 use mir.Syntax.{w64}
 use Rattle.integers.proofs.Held.{passed}
-use Rattle.matrix.proofs.Places.{score-asks}
-use Rattle.links.proofs.Rows.{written-start, written-next, written-all}
-use Prim.Native.Nat.{_≤_, _-_}
 use Rattle.clusters.specs.PairList.{score}
 use Rattle.matrix.proofs.Places.{score-asks}
 use Rattle.links.specs.Table.{Written}
