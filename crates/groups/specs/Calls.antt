@@ -1,12 +1,16 @@
 -- What the numbers call answers and writes (document 01, What is written; Where a call is turned away).
+use mathlib.Core.Path.{_≡_}
 use mathlib.Core.Bool.{Bool, not, _||_}
 use mathlib.Core.List.{List, [], _∷_, map}
 use Prim.Native.Nat.{ℕ, _*_}
-use lib.IntN.{ℤ}
+use lib.IntN.{ℤ, pos}
 use lib.Dec.{ltb}
+use lib.ListN.{length}
 use Rattle.clusters.specs.PairList.{score, hasLength, inRange}
 use Rattle.clusters.specs.Groups.{groups}
 use Rattle.clusters.specs.Refusals.{firstOf, wrongKind, kindOf, wrongCount, wrongDistances}
+use Rattle.answers.specs.declared.Answer.{Answer}
+use Rattle.answers.specs.Answers.{answer, filled}
 
 -- "the numbers call [makes checks] 1, 6, 10 to 13"; 13: "either has fewer than 2n slots"
 unfoldable pub numbersChecks : ℤ → ℕ → List ℤ → ℕ → ℕ → List (ℕ × Bool)
@@ -31,3 +35,9 @@ setsFound kind n l = map (λ g. g .0) (groupsFound kind n l)
 
 unfoldable pub indicesFound : ℤ → ℕ → List ℤ → List ℤ
 indicesFound kind n l = map (λ g. g .1) (groupsFound kind n l)
+
+-- what the call answers, and what then stands in the lent slices: it "fills all further slots with 0"
+pub record Numbered (kind : ℤ) (n : ℕ) (l : List ℤ) (sets : List ℕ) (indices : List ℤ) (r : Answer) (sets′ : List ℕ) (indices′ : List ℤ) : Type 0 where
+  pub answered : r ≡ answer (numbersRefusal kind n l (length sets) (length indices)) (length (groupsFound kind n l))
+  pub setsWritten : sets′ ≡ filled 0 (numbersRefusal kind n l (length sets) (length indices)) (setsFound kind n l) sets
+  pub indicesWritten : indices′ ≡ filled (pos 0) (numbersRefusal kind n l (length sets) (length indices)) (indicesFound kind n l) indices

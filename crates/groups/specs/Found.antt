@@ -1,8 +1,11 @@
 -- Groups as the code holds them.
-use mathlib.Core.List.{List}
-use Prim.Native.Nat.{ℕ}
+use mathlib.Core.Path.{_≡_}
+use mathlib.Core.List.{List, map}
+use Prim.Native.Nat.{ℕ, _≤_}
 use lib.IntN.{ℤ}
 use lib.ListN.{take}
+use Rattle.clusters.specs.PairList.{score}
+use Rattle.clusters.specs.Groups.{Kind, index, groupSets}
 use Rattle.groups.specs.declared.Found.{Found}
 
 abbrev pub setsOf : Found → List ℕ
@@ -10,3 +13,9 @@ setsOf f = take (f .count) (f .sets)
 
 abbrev pub indicesOf : Found → List ℤ
 indicesOf f = take (f .count) (f .indices)
+
+-- they are the groups of a kind, each with its index
+pub record Groups (kind : Kind) (n : ℕ) (l : List ℤ) (f : Found) : Type 0 where
+  pub sets : setsOf f ≡ groupSets kind n (score l)
+  pub indices : indicesOf f ≡ map (index kind n (score l)) (groupSets kind n (score l))
+  pub few : f .count ≤ 62
