@@ -1,7 +1,7 @@
 -- What the sheet call and the C call answer and write (document 01, What is written; Where a call is turned away).
 use mathlib.Core.Bool.{Bool, not}
 use mathlib.Core.List.{List, [], _∷_}
-use Prim.Native.Nat.{ℕ}
+use Prim.Native.Nat.{ℕ, _^_, _<_}
 use lib.IntN.{ℤ, pos, negℤ}
 use lib.Dec.{ltb}
 use lib.ListN.{length}
@@ -13,7 +13,10 @@ use Rattle.answers.specs.declared.Answer.the-variants.{Count, Refused}
 use Rattle.sheet.specs.Sheet.{entries, pairs, value, wrongLength, wrongByte, wrongNames, equalNames, wrongLines, wrongValues, mirrored}
 use Rattle.listing.specs.Listing.{listing}
 
--- the groups of a sheet, and its listing
+-- the listing of a pair list; the groups of a sheet, and its listing
+unfoldable pub pairsListing : ℤ → ℕ → List ℤ → List ℕ
+pairsListing kind n l = listing n (groups (kindOf kind) n (score l))
+
 unfoldable pub sheetGroups : ℤ → List ℕ → List (ℕ × ℤ)
 sheetGroups kind s = groups (kindOf kind) (entries s) (score (pairs s))
 
@@ -40,7 +43,21 @@ sheetCallChecks kind s room =
 unfoldable pub sheetRefusal : ℤ → List ℕ → ℕ → ℕ
 sheetRefusal kind s room = firstOf (sheetCallChecks kind s room)
 
+-- the last three of them, of a pair list that was read
+unfoldable pub pairsRefusal : ℤ → ℕ → List ℤ → ℕ → ℕ
+pairsRefusal kind n l room = firstOf (
+    (11, not (inRange l))
+    ∷ (12, wrongDistances kind n l)
+    ∷ (14, ltb room (length (pairsListing kind n l)))
+    ∷ []
+    )
+
 -- "The C call answers the listing's length in bytes, or minus the refusal number": for each case of the sheet call's answer
 unfoldable pub cNumber : Answer → ℤ
 cNumber (Count length) = pos length
 cNumber (Refused k) = negℤ (pos k)
+
+-- the length and the number fit a 64-bit number
+unfoldable pub Small : Answer → Type 0
+Small (Count length) = length < 2 ^ 63
+Small (Refused k) = k < 2 ^ 63

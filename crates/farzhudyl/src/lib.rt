@@ -1,1 +1,69 @@
 // The sheet call and the C call.
+ghost use mathlib.Core.Path.{_≡_};
+ghost use Prim.Native.Nat.{_≤_};
+ghost use lib.ListN.{length};
+ghost use Rattle.clusters.specs.PairList.{rowStart};
+ghost use Rattle.answers.specs.Answers.{answer, slots};
+ghost use Rattle.farzhudyl.specs.Calls.{sheetListing, sheetRefusal, pairsListing, pairsRefusal, cNumber, Small};
+use answers::Answer;
+use reader::Reading;
+
+// The listing of a pair list, or the first of checks 11, 12 and 14 that refuses.
+fn list_pairs(kind: i32, n: usize, pairs: &[i32], out: &mut [u8]) -> Answer
+    requires { ⌜ (1 ≤ n) × (n ≤ 32) × (length (now pairs) ≡ rowStart n) ⌝ }
+    ensures { λ r. ⌜ r ≡ answer (pairsRefusal kind n (now (pairs .entry)) (length (now (out .entry)))) (length (pairsListing kind n (now (pairs .entry)))) ⌝ }
+    ensures { λ _. ⌜ now (out .exit) ≡ slots (pairsRefusal kind n (now (pairs .entry)) (length (now (out .entry)))) (pairsListing kind n (now (pairs .entry))) (now (out .entry)) ⌝ }
+{
+    if !matrix::in_range(pairs) {
+        return Answer::Refused(11);
+    }
+    if kinds::are_wrong_distances(kind, n, pairs) {
+        return Answer::Refused(12);
+    }
+    let found = groups::find(kind, n, pairs);
+    let sets = found.sets;
+    let indices = found.indices;
+    let count = found.count;
+    if out.len() < listing::length(&sets, &indices, count) {
+        return Answer::Refused(14);
+    }
+    Answer::Count(listing::write(out, &sets, &indices, count))
+}
+
+// The sheet call: the listing's length, and the listing in the first bytes; or the refusal, and nothing is written.
+pub fn listing(kind: i32, sheet: &[u8], out: &mut [u8]) -> Answer
+    ensures { λ r. ⌜ r ≡ answer (sheetRefusal kind (now (sheet .entry)) (length (now (out .entry)))) (length (sheetListing kind (now (sheet .entry)))) ⌝ }
+    ensures { λ _. ⌜ now (out .exit) ≡ slots (sheetRefusal kind (now (sheet .entry)) (length (now (out .entry)))) (sheetListing kind (now (sheet .entry))) (now (out .entry)) ⌝ }
+{
+    if kinds::is_wrong(kind) {
+        return Answer::Refused(1);
+    }
+    let mut pairs = [0i32; 528];
+    let reading = reader::read(sheet, &mut pairs);
+    match reading {
+        Reading::Refused(number) => Answer::Refused(number),
+        Reading::Entries(n) => {
+            let count = matrix::pair_count(n);
+            list_pairs(kind, n, &pairs[..count], out)
+        }
+    }
+}
+
+fn as_number(a: Answer) -> i64
+    requires { ⌜ Small a ⌝ }
+    ensures { λ r. ⌜ r ≡ cNumber a ⌝ }
+{
+    match a {
+        Answer::Count(length) => length as i64,
+        Answer::Refused(number) => 0 - number as i64,
+    }
+}
+
+// The C call: the listing's length, or minus the refusal's number.
+#[no_mangle]
+pub extern "C" fn farzhudyl_listing(kind: i32, sheet: &[u8], out: &mut [u8]) -> i64
+    ensures { λ r. ⌜ r ≡ cNumber (answer (sheetRefusal kind (now (sheet .entry)) (length (now (out .entry)))) (length (sheetListing kind (now (sheet .entry))))) ⌝ }
+    ensures { λ _. ⌜ now (out .exit) ≡ slots (sheetRefusal kind (now (sheet .entry)) (length (now (out .entry)))) (sheetListing kind (now (sheet .entry))) (now (out .entry)) ⌝ }
+{
+    as_number(listing(kind, sheet, out))
+}
