@@ -1,2 +1,3 @@
 pub mod Filled
 pub mod Listing
+pub mod WaysOut

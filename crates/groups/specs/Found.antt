@@ -3,7 +3,7 @@ use mathlib.Core.Path.{_≡_}
 use mathlib.Core.List.{List, map}
 use Prim.Native.Nat.{ℕ, _≤_}
 use lib.IntN.{ℤ}
-use lib.ListN.{take}
+use lib.ListN.{length, take}
 use Rattle.clusters.specs.PairList.{score}
 use Rattle.clusters.specs.Groups.{Kind, index, groupSets}
 use Rattle.groups.specs.declared.Found.{Found}
@@ -18,4 +18,5 @@ indicesOf f = take (f .count) (f .indices)
 pub record Groups (kind : Kind) (n : ℕ) (l : List ℤ) (f : Found) : Type 0 where
   pub sets : setsOf f ≡ groupSets kind n (score l)
   pub indices : indicesOf f ≡ map (index kind n (score l)) (groupSets kind n (score l))
+  pub count : f .count ≡ length (groupSets kind n (score l))
   pub few : f .count ≤ 62

@@ -1,0 +1,96 @@
+-- The two ways out of the numbers call.
+use mathlib.Core.Path.{_≡_, sym, ap, _∙_}
+use mathlib.Core.Bool.{false, not, _||_}
+use mathlib.Core.List.{List, [], _++_, map, map-map, map-id}
+use Prim.Native.Nat.{ℕ, _*_, _-_, _≤_}
+use native.Mathlib.Omega.{arith}
+use borrow.Author.Tests.{eq-eqb, ne-eqb, eqb-false, ltb-false, not-false}
+use lib.Dec.{eqb, ltb, lit<}
+use lib.IntN.{ℤ, pos}
+use lib.ListN.{length, take, replicate, length-take, length-map}
+use Rattle.lists.proofs.Tests.{true-T}
+use Rattle.clusters.specs.PairList.{score, hasLength, inRange}
+use Rattle.clusters.specs.Groups.{Kind, index, groupSets, groups}
+use Rattle.clusters.specs.Refusals.{wrongKind, kindOf, wrongCount, wrongDistances}
+use Rattle.answers.specs.declared.Answer.the-variants.{Count, Refused}
+use Rattle.answers.specs.Answers.{answer, filled}
+use Rattle.answers.proofs.Answers.{refused, counted}
+use Rattle.farris.proofs.Refusals.{no-first, or-none, right-count, right-length}
+use Rattle.kinds.specs.Checked.{Checked}
+use Rattle.groups.specs.declared.Found.{Found}
+use Rattle.groups.specs.Found.{setsOf, indicesOf, Groups}
+use Rattle.groups.proofs.Listing.{groups-few}
+use Rattle.groups.specs.Calls.{numbersChecks, numbersRefusal, groupsFound, setsFound, indicesFound, Numbered}
+
+-- what the call relies on once no check refuses it
+some-count : (n : ℕ) → wrongCount n ≡ false → 1 ≤ n
+unfolding wrongCount
+some-count n e = let f = eqb-false n 0 (or-none (eqb n 0) (ltb 32 n) e .0) in omega arith
+
+pub numbers-pass : (kind : ℤ) (n : ℕ) (l : List ℤ) (sets indices : ℕ) → numbersRefusal kind n l sets indices ≡ 0 → Checked n l × (2 * n ≤ sets) × (2 * n ≤ indices)
+unfolding numbersRefusal numbersChecks
+numbers-pass kind n l sets indices e₀ =
+    let (c₁, e₁) = no-first 1 (wrongKind kind) _ (lit< tt) e₀ in
+    let (c₆, e₆) = no-first 6 (wrongCount n) _ (lit< tt) e₁ in
+    let (c₁₀, e₁₀) = no-first 10 (not (hasLength n l)) _ (lit< tt) e₆ in
+    let (c₁₁, e₁₁) = no-first 11 (not (inRange l)) _ (lit< tt) e₁₀ in
+    let (c₁₂, e₁₂) = no-first 12 (wrongDistances kind n l) _ (lit< tt) e₁₁ in
+    let (c₁₃, e₁₃) = no-first 13 (ltb sets (2 * n) || ltb indices (2 * n)) _ (lit< tt) e₁₂ in
+    let (p, q) = or-none (ltb sets (2 * n)) (ltb indices (2 * n)) c₁₃ in
+    (
+      record { some = some-count n c₆; few = right-count n c₆; long = right-length n l c₁₀; range = true-T (not-false (inRange l) c₁₁) },
+      ltb-false sets (2 * n) p,
+      ltb-false indices (2 * n) q,
+    )
+
+-- the sets and the indices of the groups
+sets-found : (kind : ℤ) (n : ℕ) (l : List ℤ) → setsFound kind n l ≡ groupSets (kindOf kind) n (score l)
+unfolding setsFound groupsFound groups
+sets-found kind n l = let gs = groupSets (kindOf kind) n (score l) in
+    map-map (λ (g : ℕ × ℤ). g .0) (λ A. (A, index (kindOf kind) n (score l) A)) gs ∙ map-id gs
+
+indices-found : (kind : ℤ) (n : ℕ) (l : List ℤ) → indicesFound kind n l ≡ map (index (kindOf kind) n (score l)) (groupSets (kindOf kind) n (score l))
+unfolding indicesFound groupsFound groups
+indices-found kind n l = map-map (λ (g : ℕ × ℤ). g .1) (λ A. (A, index (kindOf kind) n (score l) A)) (groupSets (kindOf kind) n (score l))
+
+count-found : (kind : ℤ) (n : ℕ) (l : List ℤ) → length (groupsFound kind n l) ≡ length (groupSets (kindOf kind) n (score l))
+unfolding groupsFound groups
+count-found kind n l = length-map {B = ℕ × ℤ} (groupSets (kindOf kind) n (score l)) (λ A. (A, index (kindOf kind) n (score l) A))
+
+module _ {kind : Kind} {n : ℕ} {l : List ℤ} {f : Found} (g : Groups kind n l f) where
+  pub sets-long : length (setsOf f) ≡ f .count
+  sets-long = ap length (g .sets) ∙ sym (g .count)
+
+  pub indices-long : length (indicesOf f) ≡ f .count
+  indices-long = ap length (g .indices) ∙ length-map (groupSets kind n (score l)) (index kind n (score l)) ∙ sym (g .count)
+
+  pub sets-room : {m : ℕ} → 2 * n ≤ m → length (setsOf f) ≤ m
+  sets-room h = omega (arith, sets-long, g .count, groups-few kind n l)
+
+  pub indices-room : {m : ℕ} → 2 * n ≤ m → length (indicesOf f) ≤ m
+  indices-room h = omega (arith, indices-long, g .count, groups-few kind n l)
+
+  pub sets-fit : f .count ≤ length (f .sets)
+  sets-fit = omega (arith, sets-long, length-take (f .count) (f .sets))
+
+  pub indices-fit : f .count ≤ length (f .indices)
+  indices-fit = omega (arith, indices-long, length-take (f .count) (f .indices))
+
+module _ {kind : ℤ} {n : ℕ} {l : List ℤ} {sets : List ℕ} {indices : List ℤ} {r : ℕ} (e : r ≡ numbersRefusal kind n l (length sets) (length indices)) where
+  pub numbers-refused : (r ≡ 0 → ⊥) → Numbered kind n l sets indices (Refused r) sets indices
+  unfolding filled
+  numbers-refused f = record {
+    answered = refused (length (groupsFound kind n l)) sets sets e f .0;
+    setsWritten = rw (sym e, ne-eqb r 0 f);
+    indicesWritten = rw (sym e, ne-eqb r 0 f);
+  }
+
+  pub numbers-counted : {found : Found} {sets′ : List ℕ} {indices′ : List ℤ} → r ≡ 0 → Groups (kindOf kind) n l found
+      → sets′ ≡ setsOf found ++ replicate (length sets - length (setsOf found)) 0 → indices′ ≡ indicesOf found ++ replicate (length indices - length (indicesOf found)) (pos 0)
+      → Numbered kind n l sets indices (Count (found .count)) sets′ indices′
+  unfolding filled answer
+  numbers-counted z g s x = record {
+    answered = rw (sym e ∙ z) (ap Count (g .count ∙ sym (count-found kind n l)));
+    setsWritten = s ∙ rw (eq-eqb _ 0 (sym e ∙ z), sets-found kind n l, g .sets);
+    indicesWritten = x ∙ rw (eq-eqb _ 0 (sym e ∙ z), indices-found kind n l, g .indices);
+  }
