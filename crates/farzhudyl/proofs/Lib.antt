@@ -1,4 +1,5 @@
 pub mod Lines
 pub mod Table
 pub mod Room
+pub mod Found
 pub mod Demands

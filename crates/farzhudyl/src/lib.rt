@@ -1,6 +1,7 @@
 // The sheet call and the C call.
 ghost use mathlib.Core.Path.{_≡_};
-ghost use Prim.Native.Nat.{_≤_};
+ghost use Prim.Native.Nat.{_^_, _<_, _≤_};
+ghost use lib.IntN.{pos, negℤ};
 ghost use lib.ListN.{length};
 ghost use Rattle.clusters.specs.PairList.{rowStart};
 ghost use Rattle.answers.specs.Answers.{answer, slots};
@@ -49,13 +50,27 @@ pub fn listing(kind: i32, sheet: &[u8], out: &mut [u8]) -> Answer
     }
 }
 
+fn plus(length: usize) -> i64
+    requires { ⌜ length < 2 ^ 63 ⌝ }
+    ensures { λ r. ⌜ r ≡ pos length ⌝ }
+{
+    length as i64
+}
+
+fn minus(number: usize) -> i64
+    requires { ⌜ number < 2 ^ 63 ⌝ }
+    ensures { λ r. ⌜ r ≡ negℤ (pos number) ⌝ }
+{
+    0 - number as i64
+}
+
 fn as_number(a: Answer) -> i64
     requires { ⌜ Small a ⌝ }
     ensures { λ r. ⌜ r ≡ cNumber a ⌝ }
 {
     match a {
-        Answer::Count(length) => length as i64,
-        Answer::Refused(number) => 0 - number as i64,
+        Answer::Count(length) => plus(length),
+        Answer::Refused(number) => minus(number),
     }
 }
 
