@@ -1,6 +1,6 @@
 -- The groups that the engine found, as the listing's writer takes them.
 use mathlib.Core.Path.{_≡_, refl, sym, ap, ap₂, _∙_, subst}
-use mathlib.Core.List.{List, [], _∷_, _++_, map, List·Memᴰ·head, List·Memᴰ·tail}
+use mathlib.Core.List.{List, [], _∷_, _++_, map, map-map, map-id, List·Memᴰ·head, List·Memᴰ·tail}
 use Prim.Native.Nat.{ℕ, _^_, _<_, _≤_}
 use native.Mathlib.Omega.{arith}
 use lib.IntN.{ℤ, pos}
@@ -15,25 +15,64 @@ use Rattle.sets.proofs.Sizes.{size-wide}
 use Rattle.clusters.specs.PairList.{score}
 use Rattle.clusters.specs.Groups.{Kind, index, groupSets, groups}
 use Rattle.clusters.proofs.Groups.{in-groups, listed-index}
-use Rattle.listing.specs.Listing.{decimal, lineText, line, listing}
+use Rattle.listing.specs.Listing.{hexadecimal, decimal, signedDecimal, firstLine, lineText, line, listing}
 use Rattle.listing.specs.Slots.{groupsOf, Slots}
-use Rattle.listing.proofs.Slots.{groups-slots, slots}
-use Rattle.groups.specs.declared.Found.{Found}
-use Rattle.groups.specs.Found.{setsOf, indicesOf, Groups}
+use Rattle.listing.proofs.Slots.{groups-slots}
 
 -- the size of a set of n entries is that of a set of 32
-pub listing-wide : (n : ℕ) → n ≤ 32 → (found : List (ℕ × ℤ)) → ((g : ℕ × ℤ) → g ∈ found → g .0 < 2 ^ n) → listing 32 found ≡ listing n found
+listing-wide : (n : ℕ) → n ≤ 32 → (found : List (ℕ × ℤ)) → ((g : ℕ × ℤ) → g ∈ found → g .0 < 2 ^ n) → listing 32 found ≡ listing n found
 unfolding listing line lineText
-listing-wide n few found low = ?
+listing-wide n few found low = ap (λ (t : List ℕ). firstLine ++ t) (each-cong found (line 32) (line n) λ g m.
+    ap (λ (k : ℕ). hexadecimal (g .0) ++ (32 ∷ []) ++ decimal k ++ (32 ∷ []) ++ signedDecimal (g .1) ++ (10 ∷ [])) (size-wide n 32 (g .0) (low g m) few))
 
 module _ (kind : Kind) (n : ℕ) (l : List ℤ) where
-  low : (g : ℕ × ℤ) → g ∈ groups kind n (score l) → g .0 < 2 ^ n
+  found : List (ℕ × ℤ)
+  found = groups kind n (score l)
+
+  low : (g : ℕ × ℤ) → g ∈ found → g .0 < 2 ^ n
+  unfolding found
   low g m = in-groups kind n (score l) (g .0) (g .1) .0 m .0
 
-  natural : (g : ℕ × ℤ) → g ∈ groups kind n (score l) → pos 0 ≤ℤ g .1
-  unfolding up dn
+  natural : (g : ℕ × ℤ) → g ∈ found → pos 0 ≤ℤ g .1
+  unfolding found up dn
   natural g m = let (_, t, e) = in-groups kind n (score l) (g .0) (g .1) .0 m in omega (zarith, listed-index kind n (score l) (g .0) t)
 
-  -- the two arrays, by the groups
-  parts : (f : Found) → Groups kind n l f → ((f .sets ≡ map (λ (g : ℕ × ℤ). g .0) (groups kind n (score l)) ++ drop (f .count) (f .sets)) × (f .indices ≡ map (λ (g : ℕ × ℤ). g .1) (groups kind n (score l)) ++ drop (f .count) (f .indices)))
-  parts f g = ?
+  -- the sets and the indices of the groups
+  pub sets-of : map (λ (g : ℕ × ℤ). g .0) (groups kind n (score l)) ≡ groupSets kind n (score l)
+  unfolding groups
+  sets-of = map-map _ _ (groupSets kind n (score l)) ∙ map-id (groupSets kind n (score l))
+
+  indices-of : map (λ (g : ℕ × ℤ). g .1) (groups kind n (score l)) ≡ map (index kind n (score l)) (groupSets kind n (score l))
+  unfolding groups
+  indices-of = map-map _ _ (groupSets kind n (score l))
+
+  module _ (sets : List ℕ) (indices : List ℤ) (count : ℕ) (long : length sets ≡ 64) (wide : length indices ≡ 64) (few : count ≤ 62)
+      (e : take count sets ≡ groupSets kind n (score l)) (d : take count indices ≡ map (index kind n (score l)) (groupSets kind n (score l))) where
+    many : length found ≡ count
+    unfolding found
+    many = sym (length-map found (λ (g : ℕ × ℤ). g .0)) ∙ ap length (sets-of ∙ sym e) ∙ length-take-le count sets (omega arith)
+
+    these : sets ≡ map (λ (g : ℕ × ℤ). g .0) found ++ drop count sets
+    unfolding found
+    these = sym (take-append-drop count sets) ∙ ap (λ (t : List ℕ). t ++ drop count sets) (e ∙ sym sets-of)
+
+    their : indices ≡ map (λ (g : ℕ × ℤ). g .1) found ++ drop count indices
+    unfolding found
+    their = sym (take-append-drop count indices) ∙ ap (λ (t : List ℤ). t ++ drop count indices) (d ∙ sym indices-of)
+
+    pub found-groups : groupsOf count sets indices ≡ groups kind n (score l)
+    unfolding found
+    found-groups = ap (λ (k : ℕ). groupsOf k sets indices) (sym many) ∙ ap₂ (λ (s : List ℕ) (t : List ℤ). groupsOf (length found) s t) these their ∙ groups-slots found (drop count sets) (drop count indices)
+
+    pub found-slots : Slots count sets indices
+    unfolding found
+    found-slots = record {
+      few = omega arith;
+      sets-hold = omega arith;
+      indices-hold = omega arith;
+      natural = λ g m. natural g (subst (λ (f : List (ℕ × ℤ)). g ∈ f) found-groups m);
+    }
+
+    pub found-listing : n ≤ 32 → listing 32 (groupsOf count sets indices) ≡ listing n (groups kind n (score l))
+    unfolding found
+    found-listing h = ap (listing 32) found-groups ∙ listing-wide n h found low

@@ -10,7 +10,7 @@ ghost use Rattle.integers.specs.Integers.{eqZ};
 ghost use Rattle.clusters.specs.PairList.{rowStart, place, score, hasLength, inRange, areDistances};
 
 // The row starts: row i of the lower triangle starts at i(i+1)/2.
-const ROW_STARTS: [usize; 32] = [
+const ROW_STARTS: [u16; 32] = [
     0,
     1,
     3,
@@ -45,11 +45,17 @@ const ROW_STARTS: [usize; 32] = [
     496,
 ];
 
+fn widened(x: u16) -> usize
+    ensures { λ r. ⌜ r ≡ x ⌝ }
+{
+    x as usize
+}
+
 pub fn row_start(i: usize) -> usize
     requires { ⌜ i < 32 ⌝ }
     ensures { λ r. ⌜ r ≡ rowStart i ⌝ }
 {
-    ROW_STARTS[i]
+    widened(ROW_STARTS[i])
 }
 
 // How many pairs n entries have: the row that would come next starts there.

@@ -1,4 +1,5 @@
 -- The rule of the table is one test that is computed over all its places.
+use mathlib.Core.Path.{_∙_}
 use mathlib.Core.Bool.{Bool}
 use mathlib.Core.List.{List, [], _∷_}
 use Prim.Native.Nat.{ℕ}
@@ -17,15 +18,18 @@ table = 0 ∷ 1 ∷ 3 ∷ 6 ∷ 10 ∷ 15 ∷ 21 ∷ 28 ∷ 36 ∷ 45 ∷ 55 ∷
 right : ℕ → Bool
 right i = eqb (getD table i 0) (rowStart i)
 
-mul-result : tie.Need-mul-result
-mul-result c = search needs
+mul-widened : tie.Need-mul-widened
+mul-widened c = search needs
 
-array-read-result : tie.Need-array-read-result
-array-read-result c = search needs
+array-read-widened : tie.Need-array-read-widened
+array-read-widened c = search needs
+
+widened-requires : tie.Need-widened-requires
+widened-requires c κs = search needs
 
 returns : tie.Need-returns
 unfolding table right all below rowStart
-returns c = let i = c .args .i in eqb→eq (getD table i 0) (rowStart i) (all-in right (below 32) tt (lt-below 32 i (search needs)))
+returns c = let i = c .before .args .i in c .widened .ensures ∙ eqb→eq (getD table i 0) (rowStart i) (all-in right (below 32) tt (lt-below 32 i (search needs)))
 
 pub row-start-spec : {M : Type 1} → statement M
-row-start-spec = tie.close (tie.spec mul-result array-read-result returns)
+row-start-spec = tie.close (tie.spec mul-widened array-read-widened widened-requires returns)
