@@ -16,7 +16,7 @@ in-range-requires c κs = search needs
 
 -- src/lib.rt:18:9
 returns : tie.Need-returns
-returns c = search needs
+returns c = ?
 
 -- src/lib.rt:20:8
 are-wrong-distances-requires : tie.Need-are-wrong-distances-requires
@@ -24,15 +24,15 @@ are-wrong-distances-requires c κs = search needs
 
 -- src/lib.rt:21:9
 returns-2 : tie.Need-returns-2
-returns-2 c = search needs
+returns-2 c = ?
 
 -- src/lib.rt:23:9
 find-requires : tie.Need-find-requires
-find-requires c κs = search needs
+find-requires c κs = ?
 
 -- src/lib.rt:27:36
 slice-aggregate-length : tie.Need-slice-aggregate-length
-slice-aggregate-length c = search needs
+slice-aggregate-length c = ?
 
 -- src/lib.rt:27:43
 slice-aggregate-length-2 : tie.Need-slice-aggregate-length-2
@@ -40,11 +40,11 @@ slice-aggregate-length-2 c = search needs
 
 -- src/lib.rt:27:20
 length-requires : tie.Need-length-requires
-length-requires c κs = search needs
+length-requires c κs = let x = c .before .before .before .before .find .ok in ?
 
 -- src/lib.rt:28:9
 returns-3 : tie.Need-returns-3
-returns-3 c = search needs
+returns-3 c = ?
 
 -- src/lib.rt:30:39
 slice-aggregate-write : tie.Need-slice-aggregate-write
@@ -56,7 +56,7 @@ slice-aggregate-write-2 c = search needs
 
 -- src/lib.rt:30:19
 write-requires : tie.Need-write-requires
-write-requires c κs = search needs
+write-requires c κs = ?
 
 -- src/lib.rt:12:1
 same-length : tie.Need-same-length
@@ -64,7 +64,7 @@ same-length c = search needs
 
 -- src/lib.rt:12:1
 returns-4 : tie.Need-returns-4
-returns-4 c = search needs
+returns-4 c = ?
 
 pub list-pairs-spec : {M : Type 1} → statement M
 list-pairs-spec =
