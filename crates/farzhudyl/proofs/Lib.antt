@@ -1,5 +1,6 @@
 pub mod Lines
 pub mod Table
 pub mod Room
+pub mod Numbers
 pub mod Found
 pub mod Demands
