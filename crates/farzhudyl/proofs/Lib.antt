@@ -1,6 +1,7 @@
 pub mod Lines
 pub mod Table
 pub mod Room
+pub mod Numbers
 pub mod Found
 pub mod Pairs
 pub mod Demands

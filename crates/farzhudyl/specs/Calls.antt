@@ -1,7 +1,7 @@
 -- What the sheet call and the C call answer and write (document 01, What is written; Where a call is turned away).
 use mathlib.Core.Bool.{Bool, not}
 use mathlib.Core.List.{List, [], _∷_}
-use Prim.Native.Nat.{ℕ, _^_, _<_}
+use Prim.Native.Nat.{ℕ}
 use lib.IntN.{ℤ, pos, negℤ}
 use lib.Dec.{ltb}
 use lib.ListN.{length}
@@ -56,8 +56,3 @@ pairsRefusal kind n l room = firstOf (
 unfoldable pub cNumber : Answer → ℤ
 cNumber (Count length) = pos length
 cNumber (Refused k) = negℤ (pos k)
-
--- the length and the number fit a 64-bit number
-unfoldable pub Small : Answer → Type 0
-Small (Count length) = length < 2 ^ 63
-Small (Refused k) = k < 2 ^ 63

@@ -4,8 +4,8 @@ ghost use Prim.Native.Nat.{_^_, _<_, _≤_};
 ghost use lib.IntN.{pos, negℤ};
 ghost use lib.ListN.{length};
 ghost use Rattle.clusters.specs.PairList.{rowStart};
-ghost use Rattle.answers.specs.Answers.{answer, slots};
-ghost use Rattle.farzhudyl.specs.Calls.{sheetListing, sheetRefusal, pairsListing, pairsRefusal, cNumber, Small};
+ghost use Rattle.answers.specs.Answers.{numberOf, countOf, answer, slots};
+ghost use Rattle.farzhudyl.specs.Calls.{sheetListing, sheetRefusal, pairsListing, pairsRefusal, cNumber};
 use answers::Answer;
 use reader::Reading;
 
@@ -65,7 +65,7 @@ fn minus(number: usize) -> i64
 }
 
 fn as_number(a: Answer) -> i64
-    requires { ⌜ Small a ⌝ }
+    requires { ⌜ (numberOf a < 2 ^ 63) × (countOf a < 2 ^ 63) ⌝ }
     ensures { λ r. ⌜ r ≡ cNumber a ⌝ }
 {
     match a {

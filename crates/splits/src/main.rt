@@ -1,0 +1,4 @@
+// The splits of the sheet on standard input.
+fn main() {
+    program::run(3);
+}

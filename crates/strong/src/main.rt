@@ -1,0 +1,4 @@
+// The strong groups of the sheet on standard input.
+fn main() {
+    program::run(1);
+}
