@@ -1,11 +1,12 @@
 -- What an answer says, read back.
 use mathlib.Core.Path.{_≡_, refl}
 use mathlib.Core.List.{List, _++_}
-use Prim.Native.Nat.{ℕ, zero, suc, _<_}
+use Prim.Native.Nat.{ℕ, zero, suc, _-_, _<_}
 use native.Mathlib.Omega.{arith}
 use lib.Dec.{eqb·suc-zero}
-use lib.ListN.{length, drop}
-use Rattle.answers.specs.Answers.{numberOf, countOf, answer, slots}
+use lib.ListN.{length, take, drop, replicate}
+use lib.Seq.{take-append-seam}
+use Rattle.answers.specs.Answers.{numberOf, countOf, answer, slots, filled}
 
 pub number-answer : (k c : ℕ) → numberOf (answer k c) ≡ k
 unfolding numberOf answer
@@ -30,3 +31,8 @@ slots-refused (suc k) result lent h = rw (eqb·suc-zero k)
 pub slots-written {ℓ} : {A : Type ℓ} (result lent : List A) → slots 0 result lent ≡ result ++ drop (length result) lent
 unfolding slots
 slots-written result lent = refl
+
+-- the first slots of a call that fills all further ones
+pub filled-written {ℓ} : {A : Type ℓ} (nil : A) (result lent : List A) → take (length result) (filled nil 0 result lent) ≡ result
+unfolding filled
+filled-written nil result lent = take-append-seam result (replicate (length lent - length result) nil)

@@ -2,7 +2,7 @@
 use mathlib.Core.Path.{_≡_, refl, sym, ap, ap₂, _∙_, subst}
 use mathlib.Core.Bool.{Bool, not, _&&_}
 use mathlib.Core.Logic.{_⊎_, inl, inr, _≢_, _↔_}
-use mathlib.Core.List.{List, [], _∷_, _++_, map, List·Memᴰ·head, List·Memᴰ·tail, List·Memᴰ·not-nil, List·Memᴰ·cases-cons, List·Memᴰ·append-cases, List·Memᴰ·eq-of-singleton, Memᴰ·cast}
+use mathlib.Core.List.{List, [], _∷_, _++_, map, map-map, map-id, List·Memᴰ·head, List·Memᴰ·tail, List·Memᴰ·not-nil, List·Memᴰ·cases-cons, List·Memᴰ·append-cases, List·Memᴰ·eq-of-singleton, Memᴰ·cast}
 use Prim.Native.Nat.{ℕ, zero, suc, _^_, _≤_, _<_}
 use native.Mathlib.Omega.{arith}
 use lib.IntN.{ℤ, pos}
@@ -178,3 +178,12 @@ rising-equal n (A ∷ l) (B ∷ m) rl rm f = ap₂ _∷_ same (rising-equal n l 
         go : (C ≡ B) ⊎ (C ∈ m) → C ∈ m
         go (inl q) = absurd (before-apart n (r .0 C c) (e ∙ sym q))
         go (inr d) = d
+
+-- the sets and the indices of the groups
+pub groups-sets : (k : Kind) (n : ℕ) (s : Similarity) → map (λ (g : ℕ × ℤ). g .0) (groups k n s) ≡ groupSets k n s
+unfolding groups
+groups-sets k n s = map-map _ _ (groupSets k n s) ∙ map-id (groupSets k n s)
+
+pub groups-indices : (k : Kind) (n : ℕ) (s : Similarity) → map (λ (g : ℕ × ℤ). g .1) (groups k n s) ≡ map (index k n s) (groupSets k n s)
+unfolding groups
+groups-indices k n s = map-map _ _ (groupSets k n s)

@@ -1,6 +1,6 @@
 -- The groups that the engine found, as the listing's writer takes them.
 use mathlib.Core.Path.{_≡_, refl, sym, ap, ap₂, _∙_, subst}
-use mathlib.Core.List.{List, [], _∷_, _++_, map, map-map, map-id, List·Memᴰ·head, List·Memᴰ·tail}
+use mathlib.Core.List.{List, [], _∷_, _++_, map, List·Memᴰ·head, List·Memᴰ·tail}
 use Prim.Native.Nat.{ℕ, _^_, _<_, _≤_}
 use native.Mathlib.Omega.{arith}
 use lib.IntN.{ℤ, pos}
@@ -13,7 +13,7 @@ use Rattle.sets.specs.Sets.{size}
 use Rattle.sets.proofs.Sizes.{size-wide}
 use Rattle.clusters.specs.PairList.{score}
 use Rattle.clusters.specs.Groups.{Kind, index, groupSets, groups}
-use Rattle.clusters.proofs.Groups.{in-groups, listed-index}
+use Rattle.clusters.proofs.Groups.{in-groups, listed-index, groups-sets, groups-indices}
 use Rattle.listing.specs.Listing.{hexadecimal, decimal, signedDecimal, firstLine, lineText, line, listing}
 use Rattle.listing.specs.Slots.{groupsOf, Slots}
 use Rattle.listing.proofs.Slots.{groups-slots}
@@ -38,15 +38,6 @@ module _ (kind : Kind) (n : ℕ) (l : List ℤ) where
   unfolding found up dn
   natural g m = let (_, t, e) = in-groups kind n (score l) (g .0) (g .1) .0 m in omega (zarith, listed-index kind n (score l) (g .0) t)
 
-  -- the sets and the indices of the groups
-  pub sets-of : map (λ (g : ℕ × ℤ). g .0) (groups kind n (score l)) ≡ groupSets kind n (score l)
-  unfolding groups
-  sets-of = map-map _ _ (groupSets kind n (score l)) ∙ map-id (groupSets kind n (score l))
-
-  indices-of : map (λ (g : ℕ × ℤ). g .1) (groups kind n (score l)) ≡ map (index kind n (score l)) (groupSets kind n (score l))
-  unfolding groups
-  indices-of = map-map _ _ (groupSets kind n (score l))
-
   module _ (f : Found) (g : Groups kind n l f) where
     sets : List ℕ
     sets = f .sets
@@ -59,15 +50,15 @@ module _ (kind : Kind) (n : ℕ) (l : List ℤ) where
 
     many : length found ≡ count
     unfolding found count
-    many = sym (length-map found (λ (g : ℕ × ℤ). g .0)) ∙ ap length sets-of ∙ sym (g .count)
+    many = sym (length-map found (λ (g : ℕ × ℤ). g .0)) ∙ ap length (groups-sets kind n (score l)) ∙ sym (g .count)
 
     these : sets ≡ map (λ (g : ℕ × ℤ). g .0) found ++ drop count sets
     unfolding found sets count
-    these = sym (take-append-drop (f .count) (f .sets)) ∙ ap (λ (t : List ℕ). t ++ drop (f .count) (f .sets)) (g .sets ∙ sym sets-of)
+    these = sym (take-append-drop (f .count) (f .sets)) ∙ ap (λ (t : List ℕ). t ++ drop (f .count) (f .sets)) (g .sets ∙ sym (groups-sets kind n (score l)))
 
     their : indices ≡ map (λ (g : ℕ × ℤ). g .1) found ++ drop count indices
     unfolding found indices count
-    their = sym (take-append-drop (f .count) (f .indices)) ∙ ap (λ (t : List ℤ). t ++ drop (f .count) (f .indices)) (g .indices ∙ sym indices-of)
+    their = sym (take-append-drop (f .count) (f .indices)) ∙ ap (λ (t : List ℤ). t ++ drop (f .count) (f .indices)) (g .indices ∙ sym (groups-indices kind n (score l)))
 
     pub found-groups : groupsOf (f .count) (f .sets) (f .indices) ≡ groups kind n (score l)
     unfolding found sets indices count

@@ -8,10 +8,11 @@ use Rattle.lists.specs.Lists.{keep}
 use Rattle.integers.specs.Integers.{eqZ}
 use Rattle.clusters.specs.Refusals.{firstOf, wrongDistances}
 use Rattle.sheet.specs.Sheet.{entries, pairs}
+use Rattle.groups.specs.Calls.{numbersChecks, numbersRefusal}
 use Rattle.linkage.specs.Calls.{linkageChecks, linkageRefusal}
 use Rattle.farris.specs.Calls.{anchoredChecks, anchoredRefusal, backChecks, backRefusal}
 use Rattle.farzhudyl.specs.Calls.{sheetGroups, sheetListing, sheetCallChecks, sheetRefusal}
-use Rattle.farzhudyl.specs.Table.{Arguments, table, sheetCall, numbersCall, linkageCall, anchoredCall, backCall, checksOf, makes, refusal, sheetArguments, linkageArguments, anchoredArguments, backArguments}
+use Rattle.farzhudyl.specs.Table.{Arguments, table, sheetCall, numbersCall, linkageCall, anchoredCall, backCall, checksOf, makes, refusal, sheetArguments, numbersArguments, linkageArguments, anchoredArguments, backArguments}
 
 pub sheet-refusal : (kind : ℤ) (s : List ℕ) (buffer : ℕ) → refusal sheetCall (sheetArguments kind s buffer) ≡ sheetRefusal kind s buffer
 unfolding refusal keep makes checksOf table sheetArguments sheetRefusal sheetCallChecks sheetListing sheetGroups firstOf
@@ -28,3 +29,7 @@ anchored-refusal n x l room = simp or-false
 pub back-refusal : (n x : ℕ) (l : List ℤ) (room : ℕ) → refusal backCall (backArguments n x l room) ≡ backRefusal n x l room
 unfolding refusal keep makes checksOf table backArguments backRefusal backChecks firstOf
 back-refusal n x l room = refl
+
+pub numbers-refusal : (kind : ℤ) (n : ℕ) (l : List ℤ) (sets indices : ℕ) → refusal numbersCall (numbersArguments kind n l sets indices) ≡ numbersRefusal kind n l sets indices
+unfolding refusal keep makes checksOf table numbersArguments numbersRefusal numbersChecks firstOf
+numbers-refusal kind n l sets indices = refl

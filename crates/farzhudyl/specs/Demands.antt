@@ -9,17 +9,19 @@ use lib.Dec.{T}
 use lib.ListN.{length, take, drop}
 use Rattle.lists.specs.Lists.{_∈_, Distinct}
 use Rattle.sets.specs.Sets.{Nested, Disjoint}
-use Rattle.clusters.specs.PairList.{Similarity, Symmetric}
+use Rattle.clusters.specs.PairList.{Similarity, Symmetric, score}
 use Rattle.clusters.specs.Indices.{strongIndex, cleanIndex, separationIndex}
 use Rattle.clusters.specs.Linkage.{Tree, blocks}
 use Rattle.clusters.specs.Groups.{Kind, strong, clean, splits, index, speaksOf, groups, writtenSet, Rising, mostGroups, treeLinkage, treeScores}
-use Rattle.clusters.specs.Refusals.{Given}
+use Rattle.clusters.specs.Refusals.{Given, kindOf}
 use Rattle.clusters.specs.Reordering.{Permutation, Reordered, image}
 use Rattle.answers.specs.declared.Answer.{Answer}
-use Rattle.answers.specs.Answers.{numberOf, countOf}
+use Rattle.answers.specs.Answers.{numberOf, countOf, answer, slots}
+use Rattle.sheet.specs.Sheet.{entries, pairs}
 use Rattle.text.specs.Text.{cut}
 use Rattle.listing.specs.Listing.{firstText, lineText}
-use Rattle.farzhudyl.specs.Calls.{sheetCallChecks, sheetListing}
+use Rattle.groups.specs.Calls.{groupsFound, Numbered}
+use Rattle.farzhudyl.specs.Calls.{sheetGroups, sheetListing, sheetCallChecks, sheetRefusal}
 
 -- Demand 1: "any kind number, any sheet, any buffer gets the complete listing or the one refusal that document 01 names; a refusal writes
 -- no byte, a listing only its own bytes". The buffer held `lent` before the sheet call and holds `after` now.
@@ -56,3 +58,18 @@ pub record Demand3 (k : Kind) (n : ℕ) (s : Similarity) (found : List (ℕ × �
 -- the lines of a listing: its bytes, cut at line feeds, are the first line and then a line for each group, with its size and index
 pub record Lines (n : ℕ) (bytes : List ℕ) (found : List (ℕ × ℤ)) : Type 0 where
   pub cut-at-feeds : cut 10 bytes ≡ firstText ∷ (map (lineText n) found ++ ([] ∷ []))
+
+-- what the sheet call answers and writes, as its contract says
+pub record Answered (kind : ℤ) (sheet lent : List ℕ) (r : Answer) (after : List ℕ) : Type 0 where
+  pub answered : r ≡ answer (sheetRefusal kind sheet (length lent)) (length (sheetListing kind sheet))
+  pub written : after ≡ slots (sheetRefusal kind sheet (length lent)) (sheetListing kind sheet) lent
+
+-- Demand 3, of all that is written: by the sheet call, and so by the C call; by the numbers call, in the slots below its count; and of two
+-- sheets of which one reorders the other
+pub record WholeDemand3 (kind : ℤ) : Type 0 where
+  pub of-sheets : (sheet lent : List ℕ) (r : Answer) (after : List ℕ) → Answered kind sheet lent r after → numberOf r ≡ 0
+      → Lines (entries sheet) (take (countOf r) after) (sheetGroups kind sheet) × Demand3 (kindOf kind) (entries sheet) (score (pairs sheet)) (sheetGroups kind sheet)
+  pub of-numbers : (n : ℕ) (l : List ℤ) (sets : List ℕ) (indices : List ℤ) (r : Answer) (sets′ : List ℕ) (indices′ : List ℤ) → Numbered kind n l sets indices r sets′ indices′ → numberOf r ≡ 0
+      → (take (countOf r) sets′ ≡ map (λ g. g .0) (groupsFound kind n l)) × (take (countOf r) indices′ ≡ map (λ g. g .1) (groupsFound kind n l)) × Demand3 (kindOf kind) n (score l) (groupsFound kind n l)
+  pub reordered : (old new : List ℕ) → entries new ≡ entries old → (p : Permutation (entries old)) → Reordered (entries old) p (score (pairs old)) (score (pairs new))
+      → SameGroups (kindOf kind) (entries old) p (sheetGroups kind old) (sheetGroups kind new)
