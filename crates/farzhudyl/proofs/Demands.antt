@@ -1,7 +1,7 @@
 -- The demands, collected from the contracts of the calls and the theorems about groups.
 use mathlib.Core.Path.{_≡_, refl, sym, ap, ap₂, _∙_, subst}
-use mathlib.Core.Bool.{Bool, true, not}
-use mathlib.Core.List.{List, [], _∷_, _++_, map}
+use mathlib.Core.Bool.{Bool, true, false, not}
+use mathlib.Core.List.{List, _++_, map}
 use Prim.Native.Nat.{ℕ, _<_, _≤_}
 use borrow.Author.Tests.{not-false, eq-eqb, lt-leb, le-ltb}
 use lib.IntN.{ℤ, pos}
@@ -89,20 +89,30 @@ groups-demand-3 k n s symm = record {
 pub demand-2 : (kind : ℤ) (n : ℕ) (l : List ℤ) → Demand2 (kindOf kind) n (score l) (groups (kindOf kind) n (score l))
 demand-2 kind n l = groups-demand-2 (kindOf kind) n (score l)
 
--- demand 2: distances to anchored scores and back is the identity, and the way back takes what the anchored call wrote
-pub demand-2-back : (n x : ℕ) (l : List ℤ) (room room′ : ℕ) → anchoredRefusal n x l room ≡ 0 → rowStart n ≤ room′
-    → (backRefusal n x (anchoredScores n x l) room′ ≡ 0) × (distancesBack n (anchoredScores n x l) ≡ l)
-unfolding anchoredRefusal anchoredChecks backRefusal backChecks hasLength anchoredScores firstOf
-demand-2-back n x l room room′ e h =
-    let (n≤, hx, long, range, _) = anchored-passes n x l room e in
+length-anchored : (n x : ℕ) (l : List ℤ) → length (anchoredScores n x l) ≡ rowStart n
+unfolding anchoredScores
+length-anchored n x l = length-pairList n (farris (score l) x)
+
+anchored-distances : (n x : ℕ) (l : List ℤ) (room : ℕ) → anchoredRefusal n x l room ≡ 0 → (wrongCount n ≡ false) × T (areDistances n l)
+unfolding anchoredRefusal anchoredChecks
+anchored-distances n x l room e =
     let (c₆, e₆) = no-first 6 (wrongCount n) _ (lit< tt) e in
     let (c₁₀, e₁₀) = no-first 10 (not (hasLength n l)) _ (lit< tt) e₆ in
     let (c₁₁, e₁₁) = no-first 11 (not (inRange l)) _ (lit< tt) e₁₀ in
     let (c₁₂, _) = no-first 12 (not (areDistances n l)) _ (lit< tt) e₁₁ in
-    let distances : T (areDistances n l) = true-T (not-false (areDistances n l) c₁₂) in
-    let size : length (anchoredScores n x l) ≡ rowStart n = length-pairList n (farris (score l) x) in
-    let test : isAnchored n x (anchoredScores n x l) ≡ true = T-true (anchored-iff n x (anchoredScores n x l) hx size .1 (l, long, range, distances, refl)) in
-    (simp (c₆, eq-eqb (length (anchoredScores n x l)) (rowStart n) size, lt-leb n x hx, le-ltb room′ (rowStart n) h, test), anchored-back n x l hx long distances)
+    (c₆, true-T (not-false (areDistances n l) c₁₂))
+
+-- demand 2: distances to anchored scores and back is the identity, and the way back takes what the anchored call wrote
+pub demand-2-back : (n x : ℕ) (l : List ℤ) (room room′ : ℕ) → anchoredRefusal n x l room ≡ 0 → rowStart n ≤ room′
+    → (backRefusal n x (anchoredScores n x l) room′ ≡ 0) × (distancesBack n (anchoredScores n x l) ≡ l)
+unfolding backRefusal backChecks hasLength firstOf
+demand-2-back n x l room room′ e h =
+    let S = anchoredScores n x l in
+    let (_, hx, long, range, _) = anchored-passes n x l room e in
+    let (count, distances) = anchored-distances n x l room e in
+    let size : length S ≡ rowStart n = length-anchored n x l in
+    let test : isAnchored n x S ≡ true = T-true (anchored-iff n x S hx size .1 (l, long, range, distances, refl)) in
+    (simp (count, eq-eqb (length S) (rowStart n) size, lt-leb n x hx, le-ltb room′ (rowStart n) h, test), anchored-back n x l hx long distances)
 
 -- demand 3
 pub demand-3 : (kind : ℤ) → WholeDemand3 kind

@@ -1,15 +1,14 @@
 -- The groups that the engine found, as the listing's writer takes them.
-use mathlib.Core.Path.{_≡_, refl, sym, ap, ap₂, _∙_, subst}
-use mathlib.Core.List.{List, [], _∷_, _++_, map, List·Memᴰ·head, List·Memᴰ·tail}
+use mathlib.Core.Path.{_≡_, sym, ap, ap₂, _∙_, subst}
+use mathlib.Core.List.{List, [], _∷_, _++_, map}
 use Prim.Native.Nat.{ℕ, _^_, _<_, _≤_}
 use native.Mathlib.Omega.{arith}
 use lib.IntN.{ℤ, pos}
 use lib.Signed.{_≤ℤ_}
 use lib.ListN.{length, drop, length-map, length-take, take-append-drop}
-use Rattle.lists.specs.Lists.{_∈_, each}
-use Rattle.lists.proofs.Lists.{each-cong, of-map}
+use Rattle.lists.specs.Lists.{_∈_}
+use Rattle.lists.proofs.Lists.{each-cong}
 use Rattle.integers.proofs.Linear.{zarith, up, dn}
-use Rattle.sets.specs.Sets.{size}
 use Rattle.sets.proofs.Sizes.{size-wide}
 use Rattle.clusters.specs.PairList.{score}
 use Rattle.clusters.specs.Groups.{Kind, index, groupSets, groups}

@@ -1,15 +1,14 @@
 -- How long a listing can be.
 use mathlib.Core.Path.{_≡_, refl, sym, ap, _∙_, subst}
 use mathlib.Core.List.{List, [], _∷_, List·Memᴰ·head, List·Memᴰ·tail}
-use Prim.Native.Nat.{ℕ, zero, suc, _+_, _*_, _^_, _<_, _≤_}
+use Prim.Native.Nat.{ℕ, _+_, _*_, _^_, _<_, _≤_}
 use native.Mathlib.Omega.{arith}
 use lib.IntN.{ℤ, pos, negsuc}
 use lib.Signed.{_≤ℤ_}
-use lib.Dec.{T}
 use lib.ListN.{length, length-append}
 use Rattle.lists.specs.Lists.{_∈_, each}
 use Rattle.integers.specs.Range.{Within, Bounded}
-use Rattle.integers.proofs.Linear.{up, dn, zarith}
+use Rattle.integers.proofs.Linear.{up, dn}
 use Rattle.integers.proofs.Range.{within-grow, up-le}
 use Rattle.sets.specs.Sets.{size}
 use Rattle.sets.proofs.Sets.{size-le}

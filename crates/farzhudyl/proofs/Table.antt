@@ -1,18 +1,17 @@
 -- Each call's refusal is the table's.
 use mathlib.Core.Path.{_≡_, refl}
 use mathlib.Core.Bool.{or-false}
-use mathlib.Core.List.{List, []}
-use Prim.Native.Nat.{ℕ, _-_}
-use lib.IntN.{ℤ, pos}
+use mathlib.Core.List.{List}
+use Prim.Native.Nat.{ℕ}
+use lib.IntN.{ℤ}
 use Rattle.lists.specs.Lists.{keep}
 use Rattle.integers.specs.Integers.{eqZ}
 use Rattle.clusters.specs.Refusals.{firstOf, wrongDistances}
-use Rattle.sheet.specs.Sheet.{entries, pairs}
 use Rattle.groups.specs.Calls.{numbersChecks, numbersRefusal}
 use Rattle.linkage.specs.Calls.{linkageChecks, linkageRefusal}
 use Rattle.farris.specs.Calls.{anchoredChecks, anchoredRefusal, backChecks, backRefusal}
 use Rattle.farzhudyl.specs.Calls.{sheetGroups, sheetListing, sheetCallChecks, sheetRefusal}
-use Rattle.farzhudyl.specs.Table.{Arguments, table, sheetCall, numbersCall, linkageCall, anchoredCall, backCall, checksOf, makes, refusal, sheetArguments, numbersArguments, linkageArguments, anchoredArguments, backArguments}
+use Rattle.farzhudyl.specs.Table.{table, sheetCall, numbersCall, linkageCall, anchoredCall, backCall, checksOf, makes, refusal, sheetArguments, numbersArguments, linkageArguments, anchoredArguments, backArguments}
 
 pub sheet-refusal : (kind : ℤ) (s : List ℕ) (buffer : ℕ) → refusal sheetCall (sheetArguments kind s buffer) ≡ sheetRefusal kind s buffer
 unfolding refusal keep makes checksOf table sheetArguments sheetRefusal sheetCallChecks sheetListing sheetGroups firstOf
