@@ -1,12 +1,11 @@
 -- What an answer says, read back.
-use mathlib.Core.Path.{_≡_, refl, sym, ap, _∙_}
+use mathlib.Core.Path.{_≡_, refl}
 use mathlib.Core.List.{List, _++_}
 use Prim.Native.Nat.{ℕ, zero, suc, _<_}
 use native.Mathlib.Omega.{arith}
-use borrow.Author.Tests.{eq-eqb, ne-eqb}
+use lib.Dec.{eqb·suc-zero}
 use lib.ListN.{length, drop}
 use Rattle.answers.specs.Answers.{numberOf, countOf, answer, slots}
-use Rattle.answers.specs.declared.Answer.the-variants.{Count, Refused}
 
 pub number-answer : (k c : ℕ) → numberOf (answer k c) ≡ k
 unfolding numberOf answer
@@ -22,16 +21,12 @@ unfolding countOf answer
 count-refused zero c h = absurd (omega arith)
 count-refused (suc k) c h = refl
 
--- the two ways out of a call whose checks give k: r is what the code found them to give
-module _ {ℓ} {A : Type ℓ} {k r : ℕ} (c : ℕ) (result lent : List A) (e : r ≡ k) where
-  pub refused : (r ≡ 0 → ⊥) → (Refused r ≡ answer k c) × (lent ≡ slots k result lent)
-  unfolding answer slots
-  refused f = (go r k e f, rw (sym e, ne-eqb r 0 f))
-    where
-      go : (r k : ℕ) → r ≡ k → (r ≡ 0 → ⊥) → Refused r ≡ answer k c
-      go zero k e f = absurd (f refl)
-      go (suc r) k e f = rw (sym e)
+-- the slots of a refused call, and of one that was not refused
+pub slots-refused {ℓ} : {A : Type ℓ} (k : ℕ) (result lent : List A) → 0 < k → slots k result lent ≡ lent
+unfolding slots
+slots-refused zero result lent h = absurd (omega arith)
+slots-refused (suc k) result lent h = rw (eqb·suc-zero k)
 
-  pub counted : {m : ℕ} {o : List A} → r ≡ 0 → m ≡ c → length result ≡ c → o ≡ result ++ drop c lent → (Count m ≡ answer k c) × (o ≡ slots k result lent)
-  unfolding answer slots
-  counted z p q h = (rw (sym e ∙ z, p), h ∙ rw (eq-eqb k 0 (sym e ∙ z), q))
+pub slots-written {ℓ} : {A : Type ℓ} (result lent : List A) → slots 0 result lent ≡ result ++ drop (length result) lent
+unfolding slots
+slots-written result lent = refl

@@ -13,5 +13,6 @@ pub mod Weights
 pub mod Stable
 pub mod Average
 pub mod Theorems
+pub mod Refusals
 pub mod Reindex
 pub mod Reordering

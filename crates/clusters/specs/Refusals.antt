@@ -1,10 +1,12 @@
 -- Where a call is turned away (document 01): "Checks run down the table. .. Each number is given if and only if its line holds and
 -- none before it does." A call's checks are a list of numbers, each with its line's condition.
-use mathlib.Core.Bool.{Bool, not, cond, _&&_, _||_}
-use mathlib.Core.List.{List, [], _∷_}
+use mathlib.Core.Path.{_≡_}
+use mathlib.Core.Bool.{Bool, true, not, cond, _&&_, _||_}
+use mathlib.Core.List.{List, [], _∷_, _++_}
 use Prim.Native.Nat.{ℕ}
 use lib.IntN.{ℤ, pos}
-use lib.Dec.{eqb, ltb}
+use lib.Dec.{T, eqb, ltb}
+use Rattle.lists.specs.Lists.{all}
 use Rattle.integers.specs.Integers.{eqZ}
 use Rattle.clusters.specs.PairList.{areDistances}
 use Rattle.clusters.specs.Groups.{Kind, strong, clean, splits}
@@ -13,6 +15,17 @@ use Rattle.clusters.specs.Groups.{Kind, strong, clean, splits}
 unfoldable pub firstOf : List (ℕ × Bool) → ℕ
 firstOf [] = 0
 firstOf (c ∷ l) = cond (c .1) (c .0) (firstOf l)
+
+-- none of the conditions holds
+abbrev pub none : List (ℕ × Bool) → Bool
+none checks = all (λ c. not (c .1)) checks
+
+-- the line of k holds and none before it does
+pub record Given (checks : List (ℕ × Bool)) (k : ℕ) : Type 0 where
+  pub before : List (ℕ × Bool)
+  pub after : List (ℕ × Bool)
+  pub parts : checks ≡ before ++ ((k, true) ∷ after)
+  pub passed : T (none before)
 
 -- 1: "not 1, 2 or 3"; and the kind that each number stands for
 unfoldable pub wrongKind : ℤ → Bool

@@ -2,7 +2,7 @@
 use mathlib.Core.Path.{_≡_, refl, sym, ap, _∙_, subst}
 use mathlib.Core.Bool.{Bool, true, false, _&&_}
 use mathlib.Core.List.{List}
-use Prim.Native.Nat.{ℕ, suc, _≤_, _<_}
+use Prim.Native.Nat.{ℕ, suc, _<_}
 use native.Mathlib.Omega.{arith}
 use lib.Dec.{T}
 use lib.IntN.{ℤ, pos, negsuc, negℤ, _+ℤ_, _-ℤ_}
@@ -83,14 +83,16 @@ module _ (n : ℕ) (l : List ℤ) where
   pub back-test : all (λ a. all (λ b. isDistance (unfarris (score l) a b)) (below (suc a))) (below n) ≡ inRange (distancesBack n l) && areDistances n (distancesBack n l)
   back-test = T-same (all row (below n)) (inRange D && areDistances n D) fore rear
 
--- the test of a list: its own parts, and what is found back
-pub anchored-parts : (n x : ℕ) (l : List ℤ)
-    → all (λ a. eqZ (score l a x) (pos 0) && even (score l a a)) (below n) && (inRange (distancesBack n l) && areDistances n (distancesBack n l)) ≡ isAnchored n x l
+-- the test of a list: what its entries have, and what is found back
+abbrev entry : ℕ → List ℤ → ℕ → Bool
+entry x l a = eqZ (score l a x) (pos 0) && even (score l a a)
+
+pub anchored-parts : (n x : ℕ) (l : List ℤ) → all (entry x l) (below n) && (inRange (distancesBack n l) && areDistances n (distancesBack n l)) ≡ isAnchored n x l
 unfolding isAnchored
-anchored-parts n x l = sym (and-assoc (all (λ a. eqZ (score l a x) (pos 0) && even (score l a a)) (below n)) (inRange (distancesBack n l)) (areDistances n (distancesBack n l)))
+anchored-parts n x l = sym (and-assoc (all (entry x l) (below n)) (inRange (distancesBack n l)) (areDistances n (distancesBack n l)))
 
 pub anchored-ranged : (n x : ℕ) (l : List ℤ) → T (isAnchored n x l) → T (inRange (distancesBack n l))
 anchored-ranged n x l t =
-    let u = subst (λ b. T b) (sym (anchored-parts n x l)) t in
-    and-T (inRange (distancesBack n l)) (areDistances n (distancesBack n l))
-    (and-T (all (λ a. eqZ (score l a x) (pos 0) && even (score l a a)) (below n)) (inRange (distancesBack n l) && areDistances n (distancesBack n l)) u .1) .0
+    let D = distancesBack n l in
+    let (_, u) = and-T (all (entry x l) (below n)) (inRange D && areDistances n D) (subst (λ b. T b) (sym (anchored-parts n x l)) t) in
+    and-T (inRange D) (areDistances n D) u .0

@@ -1,6 +1,6 @@
 -- Down a call's table: the first condition that holds gives the number; where none holds, what the call may rely on.
-use mathlib.Core.Path.{_≡_, refl, sym, ap, _∙_}
-use mathlib.Core.Bool.{Bool, true, false, not, cond, _||_}
+use mathlib.Core.Path.{_≡_, refl}
+use mathlib.Core.Bool.{Bool, true, false, not, _||_}
 use mathlib.Core.List.{List, [], _∷_}
 use Prim.Native.Nat.{ℕ, _≤_, _<_}
 use native.Mathlib.Omega.{arith}
@@ -12,8 +12,8 @@ use Rattle.lists.proofs.Tests.{true-T, false-T}
 use Rattle.clusters.specs.PairList.{rowStart, hasLength, inRange, areDistances}
 use Rattle.clusters.specs.Farris.{distancesBack, isAnchored}
 use Rattle.clusters.specs.Refusals.{firstOf, wrongCount}
-use Rattle.farris.proofs.Distances.{anchored-ranged}
 use Rattle.farris.specs.Calls.{anchoredChecks, anchoredRefusal, backChecks, backRefusal}
+use Rattle.farris.proofs.Distances.{anchored-ranged}
 
 -- the table l gives r
 pub record Gives (l : List (ℕ × Bool)) (r : ℕ) : Type 0 where
@@ -30,9 +30,9 @@ pub first-no : {k r : ℕ} {b : Bool} {l : List (ℕ × Bool)} → b ≡ false �
 unfolding firstOf
 first-no e g = record { is = rw e (g .is) }
 
-pub none : Gives [] 0
+pub no-more : Gives [] 0
 unfolding firstOf
-none = record { is = refl }
+no-more = record { is = refl }
 
 -- a table that gives 0, read backwards
 pub no-first : (k : ℕ) (b : Bool) (l : List (ℕ × Bool)) → 0 < k → firstOf ((k, b) ∷ l) ≡ 0 → (b ≡ false) × (firstOf l ≡ 0)

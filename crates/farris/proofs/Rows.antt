@@ -31,8 +31,10 @@ unfolding below
 row-value {f} {lent} {o} {o′} {i} {b} {z} r q p =
     let long : i + b ≡ i + length (map f (below b)) = omega (arith, length-map (below b) f, count-below b) in
     let more : map f (below (b + 1)) ≡ map f (below b) ++ (f b ∷ []) = rw (add-one b) (map-append f (below b) (b ∷ [])) in
-    record { is = q ∙ ap₂ (λ (l : List ℤ) (y : ℤ). set l (i + b) y) (r .is) p ∙ ap (λ (j : ℕ). set (sets lent i (map f (below b))) j (f b)) long
-    ∙ sym (sets-append lent i (map f (below b)) (f b ∷ [])) ∙ ap (sets lent i) (sym more) }
+    record {
+      is = q ∙ ap₂ (λ (l : List ℤ) (y : ℤ). set l (i + b) y) (r .is) p ∙ ap (λ (j : ℕ). set (sets lent i (map f (below b))) j (f b)) long
+          ∙ sym (sets-append lent i (map f (below b)) (f b ∷ [])) ∙ ap (sets lent i) (sym more);
+    }
 
 pub row-all : {f : ℕ → ℤ} {i b : ℕ} {lent o : List ℤ} (j a : ℕ) → Row f i lent o b → i ≡ j → b ≡ suc a → o ≡ sets lent j (map f (below (suc a)))
 row-all {f} {lent} j a r p q = r .is ∙ ap₂ (λ (k c : ℕ). sets lent k (map f (below c))) p q

@@ -108,8 +108,9 @@ pub fn anchored_scores(n: usize, x: usize, pairs: &[i32], out: &mut [i32]) -> An
     if refusal != 0 {
         return Answer::Refused(refusal);
     }
+    let count = matrix::pair_count(n);
     anchor(n, x, pairs, out);
-    Answer::Count(matrix::pair_count(n))
+    Answer::Count(count)
 }
 
 // d(a,b), found back from the anchored scores.
@@ -122,6 +123,7 @@ fn distance_back(n: usize, scores: &[i32], a: usize, b: usize) -> i64
     integers::half(integers::difference(own, integers::sum(between, between)))
 }
 
+// What 11 and 12 ask of one distance.
 fn is_distance(v: i64) -> bool
     ensures { λ r. ⌜ r ≡ isDistance v ⌝ }
 {
@@ -154,20 +156,22 @@ fn are_distances_back(n: usize, scores: &[i32]) -> bool
     true
 }
 
-// S(a,x) is 0 and S(a,a) is even.
-fn is_own(n: usize, x: usize, scores: &[i32], a: usize) -> bool
+// What anchored scores have at entry a: S(a,x) is 0, and S(a,a) is even.
+fn is_anchored_entry(n: usize, x: usize, scores: &[i32], a: usize) -> bool
     requires { ⌜ (n ≤ 32) × (x < n) × (length (now scores) ≡ rowStart n) × (a < n) ⌝ }
     ensures { λ r. ⌜ r ≡ (eqZ (score (now (scores .entry)) a x) (pos 0) && even (score (now (scores .entry)) a a)) ⌝ }
 {
-    integers::is_equal(listed_score(scores, a, x), 0) && integers::is_even(listed_score(scores, a, a))
+    integers::is_equal(listed_score(scores, a, x), 0)
+        && integers::is_even(listed_score(scores, a, a))
 }
 
-fn are_own(n: usize, x: usize, scores: &[i32]) -> bool
+// The same at every entry.
+fn are_anchored_entries(n: usize, x: usize, scores: &[i32]) -> bool
     requires { ⌜ (n ≤ 32) × (x < n) × (length (now scores) ≡ rowStart n) ⌝ }
     ensures { λ r. ⌜ r ≡ all (λ a. eqZ (score (now (scores .entry)) a x) (pos 0) && even (score (now (scores .entry)) a a)) (below n) ⌝ }
 {
     for a in 0..n {
-        if !is_own(n, x, scores, a) {
+        if !is_anchored_entry(n, x, scores, a) {
             return false;
         }
     }
@@ -179,7 +183,7 @@ fn is_anchored(n: usize, x: usize, scores: &[i32]) -> bool
     requires { ⌜ (n ≤ 32) × (x < n) × (length (now scores) ≡ rowStart n) ⌝ }
     ensures { λ r. ⌜ r ≡ isAnchored n x (now (scores .entry)) ⌝ }
 {
-    are_own(n, x, scores) && are_distances_back(n, scores)
+    are_anchored_entries(n, x, scores) && are_distances_back(n, scores)
 }
 
 // Row a of the distances back.
@@ -231,6 +235,7 @@ pub fn distances_back(n: usize, x: usize, scores: &[i32], out: &mut [i32]) -> An
     if refusal != 0 {
         return Answer::Refused(refusal);
     }
+    let count = matrix::pair_count(n);
     back(n, scores, out);
-    Answer::Count(matrix::pair_count(n))
+    Answer::Count(count)
 }

@@ -1,16 +1,13 @@
-use mathlib.Core.Path.{_≡_, refl, ap, _∙_}
-use Prim.Native.Nat.{suc, _+_, _-_, _≤_}
+use mathlib.Core.Path.{_≡_, refl, _∙_}
+use Prim.Native.Nat.{_-_, _≤_}
+use native.Mathlib.Omega.{arith}
+use borrow.Author.Needs.{needs}
 use lib.ListN.{length}
-use Rattle.clusters.specs.PairList.{rowStart, score}
+use Rattle.clusters.specs.PairList.{score}
 use Rattle.clusters.specs.Farris.{farris, anchoredScores}
 use Rattle.farris.proofs.Rows.{Rows, rows-none, rows-row, rows-all}
-use borrow.Author.Needs.{needs}
-use native.Mathlib.Omega.{arith}
 use Rattle.farris.proofs.anchor.Statement.{statement}
 use Rattle.farris.proofs.anchor.Tie as tie
-use Rattle.farris.proofs.anchor.Reads as reads
-use Rattle.farris.proofs.anchor.Lts as lts
-use Rattle.farris.proofs.anchor_row.Reads as anchor-row-reads
 
 abbrev Inv-loop : tie.InvT-loop
 Inv-loop n x pairs out₀ a₀ out a = (a ≤ n) × (length out ≡ length out₀) × Rows (farris (score pairs) x) out₀ out a
@@ -18,33 +15,26 @@ Inv-loop n x pairs out₀ a₀ out a = (a ≤ n) × (length out ≡ length out�
 abbrev μ-loop : tie.MeasureT-loop
 μ-loop n x pairs out₀ a₀ out a = n - a
 
--- src/lib.rt:44:5
 loop-holds : tie.Need-loop-holds Inv-loop μ-loop
 loop-holds c = (omega arith, refl, rows-none)
 
--- src/lib.rt:45:9
 anchor-row-requires : tie.Need-anchor-row-requires Inv-loop μ-loop
 anchor-row-requires c κs = let s = c .before .before .before in
     (s .pre .0, s .pre .1, s .pre .2, s .pre .3, omega arith, omega arith)
 
--- src/lib.rt:44:9
 add-a : tie.Need-add-a Inv-loop μ-loop
 add-a c = search needs
 
--- src/lib.rt:44:5
 loop-less : tie.Need-loop-less Inv-loop μ-loop
 loop-less c = search needs
 
--- src/lib.rt:44:5
 loop-again : tie.Need-loop-again Inv-loop μ-loop
 loop-again c = let v = c .before .before .before .before .loop .inv in let r = c .before .anchor-row in
     (omega arith, r .kept .1 .1 .1 .1 .0 ∙ v .1, rows-row (v .2) (r .ensures))
 
--- src/lib.rt:40:1
 same-length : tie.Need-same-length Inv-loop μ-loop
 same-length c = search needs
 
--- src/lib.rt:40:1
 returns : tie.Need-returns Inv-loop μ-loop
 unfolding anchoredScores
 returns c = let s = c .before in let e : s .loop .a ≡ s .before .args .n = omega arith in

@@ -6,7 +6,7 @@ use borrow.Author.Needs.{needs}
 use Rattle.clusters.specs.PairList.{hasLength, inRange, areDistances}
 use Rattle.clusters.specs.Refusals.{wrongCount}
 use Rattle.farris.specs.Calls.{anchoredChecks, anchoredRefusal}
-use Rattle.farris.proofs.Refusals.{gives, first-yes, first-no, none, right-count, right-length}
+use Rattle.farris.proofs.Refusals.{gives, first-yes, first-no, no-more, right-count, right-length}
 use Rattle.farris.proofs.anchored_refusal.Statement.{statement}
 use Rattle.farris.proofs.anchored_refusal.Tie as tie
 
@@ -71,7 +71,7 @@ returns-6 : tie.Need-returns-6
 unfolding anchoredRefusal anchoredChecks
 returns-6 c = let t = c .before .before in let r = t .before .before in let q = r .before .before in let p = q .before .before in
     gives (table (p .before .before))
-    (first-no (passed-6 p) (first-no (passed-10 q) (first-no (passed-11 r) (first-no (passed-12 t) (first-no (sym (c .before .is-out-of-place .ensures) ∙ c .if5 .left) none)))))
+    (first-no (passed-6 p) (first-no (passed-10 q) (first-no (passed-11 r) (first-no (passed-12 t) (first-no (sym (c .before .is-out-of-place .ensures) ∙ c .if5 .left) no-more)))))
 
 pub anchored-refusal-spec : {M : Type 1} → statement M
 anchored-refusal-spec =

@@ -23,7 +23,8 @@ listed-score-requires-3 c κs = let s = c .before .before .before in score-asks 
 
 difference-requires : tie.Need-difference-requires
 difference-requires c κs = let m = c .before in let u = m .before .before .listed-score in let v = m .before .listed-score2 in let w = c .listed-score3 in
-    (addends (u .ok) (v .ok) (m .sum .ok) (m .sum .ensures) (u .ensures .1) (v .ensures .1), addend (w .ok) (w .ensures .1))
+    let h = addends (u .ok) (v .ok) (m .sum .ok) (m .sum .ensures) (u .ensures .1) (v .ensures .1) in
+    let k = addend (w .ok) (w .ensures .1) in search
 
 returns : tie.Need-returns
 unfolding farris

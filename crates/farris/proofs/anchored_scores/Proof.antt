@@ -6,7 +6,7 @@ use lib.ListN.{length}
 use Rattle.clusters.specs.PairList.{rowStart, score, inRange}
 use Rattle.clusters.specs.Farris.{farris, anchoredScores}
 use Rattle.clusters.proofs.PairList.{length-pairList}
-use Rattle.answers.proofs.Answers.{refused, counted}
+use Rattle.answers.proofs.WaysOut.{refused, counted}
 use Rattle.farris.proofs.Refusals.{anchored-passes}
 use Rattle.farris.proofs.anchored_scores.Statement.{statement}
 use Rattle.farris.proofs.anchored_scores.Tie as tie
@@ -23,20 +23,20 @@ returns : tie.Need-returns
 returns c = let a = c .before .before .args in
     refused (rowStart (a .n)) (anchoredScores (a .n) (a .x) (a .pairs .now)) (a .out .now) (c .before .anchored-refusal .ensures) (c .if1 .taken)
 
-anchor-requires : tie.Need-anchor-requires
-anchor-requires c κs = passes (c .before)
-
 pair-count-requires : tie.Need-pair-count-requires
-pair-count-requires c κs = passes (c .before .before .before) .0
+pair-count-requires c κs = passes c .0
+
+anchor-requires : tie.Need-anchor-requires
+anchor-requires c κs = passes (c .before .before)
 
 same-length : tie.Need-same-length
 same-length c = search needs
 
 returns-2 : tie.Need-returns-2
 unfolding anchoredScores
-returns-2 c = let e = c .before .before .before .before in let a = e .before .before .args in
+returns-2 c = let m = c .before .before .before in let e = m .before in let a = e .before .before .args in
     counted (rowStart (a .n)) (anchoredScores (a .n) (a .x) (a .pairs .now)) (a .out .now) (e .before .anchored-refusal .ensures) (e .if1 .left)
-    (c .pair-count .ensures) (length-pairList (a .n) (farris (score (a .pairs .now)) (a .x))) (c .before .before .anchor .ensures)
+    (m .pair-count .ensures) (length-pairList (a .n) (farris (score (a .pairs .now)) (a .x))) (c .before .anchor .ensures)
 
 pub anchored-scores-spec : {M : Type 1} → statement M
 anchored-scores-spec =
@@ -44,7 +44,7 @@ anchored-scores-spec =
     (tie.spec
     anchored-refusal-requires
     returns
-    anchor-requires
     pair-count-requires
+    anchor-requires
     same-length
     returns-2)

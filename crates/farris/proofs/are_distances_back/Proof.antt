@@ -1,19 +1,16 @@
-use mathlib.Core.Path.{_≡_, sym, _∙_}
+use mathlib.Core.Path.{sym, _∙_}
 use Prim.Native.Nat.{suc, _-_, _≤_}
+use native.Mathlib.Omega.{arith}
 use borrow.Author.Tests.{not-true, not-false}
+use borrow.Author.Needs.{needs}
 use Rattle.lists.specs.Lists.{all, below}
 use Rattle.clusters.specs.PairList.{score}
 use Rattle.clusters.specs.Farris.{unfarris}
 use Rattle.matrix.proofs.Walk.{Passed, started, next-below, failed-below, ended-below}
 use Rattle.farris.specs.Distances.{isDistance}
 use Rattle.farris.proofs.Distances.{back-test}
-use borrow.Author.Needs.{needs}
-use native.Mathlib.Omega.{arith}
 use Rattle.farris.proofs.are_distances_back.Statement.{statement}
 use Rattle.farris.proofs.are_distances_back.Tie as tie
-use Rattle.farris.proofs.are_distances_back.Reads as reads
-use Rattle.farris.proofs.are_distances_back.Lts as lts
-use Rattle.farris.proofs.is_row_back.Reads as is-row-back-reads
 
 abbrev Inv-loop : tie.InvT-loop
 Inv-loop n scores a₀ a = (a ≤ n) × Passed (λ a. all (λ b. isDistance (unfarris (score scores) a b)) (below (suc a))) (below n) a
@@ -21,32 +18,25 @@ Inv-loop n scores a₀ a = (a ≤ n) × Passed (λ a. all (λ b. isDistance (unf
 abbrev μ-loop : tie.MeasureT-loop
 μ-loop n scores a₀ a = n - a
 
--- src/lib.rt:140:5
 loop-holds : tie.Need-loop-holds Inv-loop μ-loop
 loop-holds c = (omega arith, started)
 
--- src/lib.rt:141:13
 is-row-back-requires : tie.Need-is-row-back-requires Inv-loop μ-loop
 is-row-back-requires c κs = search needs
 
--- src/lib.rt:142:13
 returns : tie.Need-returns Inv-loop μ-loop
 returns c = let s = c .before .before .before in let a = s .before .args in
     failed-below (s .loop .inv .1) (omega arith) (sym (c .before .is-row-back .ensures) ∙ not-true _ (c .if1 .taken)) ∙ back-test (a .n) (a .scores .now)
 
--- src/lib.rt:140:9
 add-a : tie.Need-add-a Inv-loop μ-loop
 add-a c = search needs
 
--- src/lib.rt:140:5
 loop-less : tie.Need-loop-less Inv-loop μ-loop
 loop-less c = search needs
 
--- src/lib.rt:140:5
 loop-again : tie.Need-loop-again Inv-loop μ-loop
 loop-again c = (omega arith, next-below (c .before .before .before .loop .inv .1) (omega arith) (sym (c .before .is-row-back .ensures) ∙ not-false _ (c .if1 .left)))
 
--- src/lib.rt:136:1
 returns-2 : tie.Need-returns-2 Inv-loop μ-loop
 returns-2 c = let a = c .before .before .args in ended-below (c .before .loop .inv .1) (omega arith) ∙ back-test (a .n) (a .scores .now)
 

@@ -5,10 +5,9 @@ use Prim.Native.Nat.{ℕ}
 use borrow.Author.Needs.{needs}
 use lib.Dec.{leb, ltb}
 use Rattle.clusters.specs.PairList.{rowStart, hasLength}
-use Rattle.clusters.specs.Farris.{isAnchored}
 use Rattle.clusters.specs.Refusals.{wrongCount}
 use Rattle.farris.specs.Calls.{backChecks, backRefusal}
-use Rattle.farris.proofs.Refusals.{gives, first-yes, first-no, none, or-first, or-second, right-count, right-length, in-place}
+use Rattle.farris.proofs.Refusals.{gives, first-yes, first-no, no-more, or-first, or-second, right-count, right-length, in-place}
 use Rattle.farris.proofs.back_refusal.Statement.{statement}
 use Rattle.farris.proofs.back_refusal.Tie as tie
 
@@ -60,7 +59,7 @@ returns-4 c = let r = c .before .before in let q = r .before .before in let p = 
 returns-5 : tie.Need-returns-5
 unfolding backRefusal backChecks
 returns-5 c = let r = c .before .before in let q = r .before .before in let p = q .before .before in
-    gives (table (p .before .before)) (first-no (passed-6 p) (first-no (passed-10 q) (first-no (or-second (passed-15 r) (ap not (sym (c .before .is-anchored .ensures)) ∙ c .if4 .left)) none)))
+    gives (table (p .before .before)) (first-no (passed-6 p) (first-no (passed-10 q) (first-no (or-second (passed-15 r) (ap not (sym (c .before .is-anchored .ensures)) ∙ c .if4 .left)) no-more)))
 
 pub back-refusal-spec : {M : Type 1} → statement M
 back-refusal-spec =

@@ -1,4 +1,6 @@
-use mathlib.Core.Path.{_≡_, refl, ap, ap₂, _∙_}
+use mathlib.Core.Path.{ap, ap₂, _∙_}
+use native.Mathlib.Omega.{arith}
+use borrow.Author.Needs.{needs}
 use lib.IntN.{_+ℤ_, _-ℤ_}
 use mir.Syntax.{w64}
 use Rattle.integers.specs.Integers.{half}
@@ -6,47 +8,31 @@ use Rattle.integers.proofs.Held.{passed}
 use Rattle.clusters.specs.Farris.{unfarris}
 use Rattle.matrix.proofs.Places.{score-asks}
 use Rattle.farris.proofs.Bounds.{addend, addends}
-use native.Mathlib.Omega.{arith}
-use borrow.Author.Needs.{needs}
 use Rattle.farris.proofs.distance_back.Statement.{statement}
 use Rattle.farris.proofs.distance_back.Tie as tie
-use Rattle.farris.proofs.distance_back.Reads as reads
-use Rattle.farris.proofs.distance_back.Lts as lts
-use Rattle.farris.proofs.listed_score.Reads as listed-score-reads
-use Rattle.integers.proofs.difference.Reads as difference-reads
-use Rattle.integers.proofs.half.Reads as half-reads
-use Rattle.integers.proofs.sum.Reads as sum-reads
 
--- src/lib.rt:120:29
 listed-score-requires : tie.Need-listed-score-requires
 listed-score-requires c κs = score-asks {n = c .args .n} (c .args .scores .now) (c .pre .0) (c .pre .1) (omega arith) (omega arith)
 
--- src/lib.rt:120:57
 listed-score-requires-2 : tie.Need-listed-score-requires-2
 listed-score-requires-2 c κs = let s = c .before in score-asks {n = s .args .n} (s .args .scores .now) (s .pre .0) (s .pre .1) (omega arith) (omega arith)
 
--- src/lib.rt:120:9
 sum-requires : tie.Need-sum-requires
 sum-requires c κs = let u = c .before .listed-score in let v = c .listed-score2 in (addend (u .ok) (u .ensures .1), addend (v .ok) (v .ensures .1))
 
--- src/lib.rt:121:9
 listed-score-requires-3 : tie.Need-listed-score-requires-3
 listed-score-requires-3 c κs = let s = c .before .before .before in score-asks {n = s .args .n} (s .args .scores .now) (s .pre .0) (s .pre .1) (omega arith) (omega arith)
 
--- src/lib.rt:122:46
 sum-requires-2 : tie.Need-sum-requires-2
 sum-requires-2 c κs = let w = c .listed-score3 in (addend (w .ok) (w .ensures .1), addend (w .ok) (w .ensures .1))
 
--- src/lib.rt:122:20
 difference-requires : tie.Need-difference-requires
 difference-requires c κs = let w = c .before .listed-score3 in let m = c .before .before in let v = m .before .listed-score2 in let u = m .before .before .listed-score in
     (addends (u .ok) (v .ok) (m .sum .ok) (m .sum .ensures) (u .ensures .1) (v .ensures .1), addends (w .ok) (w .ok) (c .sum2 .ok) (c .sum2 .ensures) (w .ensures .1) (w .ensures .1))
 
--- src/lib.rt:122:5
 half-requires : tie.Need-half-requires
 half-requires c κs = search needs
 
--- src/lib.rt:116:1
 returns : tie.Need-returns
 unfolding unfarris
 returns c = let d = c .before in let t = d .before in

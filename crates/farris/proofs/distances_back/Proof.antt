@@ -6,7 +6,7 @@ use lib.ListN.{length}
 use Rattle.clusters.specs.PairList.{rowStart, score, inRange}
 use Rattle.clusters.specs.Farris.{unfarris, distancesBack}
 use Rattle.clusters.proofs.PairList.{length-pairList}
-use Rattle.answers.proofs.Answers.{refused, counted}
+use Rattle.answers.proofs.WaysOut.{refused, counted}
 use Rattle.farris.proofs.Refusals.{back-passes}
 use Rattle.farris.proofs.distances_back.Statement.{statement}
 use Rattle.farris.proofs.distances_back.Tie as tie
@@ -23,20 +23,20 @@ returns : tie.Need-returns
 returns c = let a = c .before .before .args in
     refused (rowStart (a .n)) (distancesBack (a .n) (a .scores .now)) (a .out .now) (c .before .back-refusal .ensures) (c .if1 .taken)
 
-back-requires : tie.Need-back-requires
-back-requires c κs = passes (c .before)
-
 pair-count-requires : tie.Need-pair-count-requires
-pair-count-requires c κs = passes (c .before .before .before) .0
+pair-count-requires c κs = passes c .0
+
+back-requires : tie.Need-back-requires
+back-requires c κs = passes (c .before .before)
 
 same-length : tie.Need-same-length
 same-length c = search needs
 
 returns-2 : tie.Need-returns-2
 unfolding distancesBack
-returns-2 c = let e = c .before .before .before .before in let a = e .before .before .args in
+returns-2 c = let m = c .before .before .before in let e = m .before in let a = e .before .before .args in
     counted (rowStart (a .n)) (distancesBack (a .n) (a .scores .now)) (a .out .now) (e .before .back-refusal .ensures) (e .if1 .left)
-    (c .pair-count .ensures) (length-pairList (a .n) (unfarris (score (a .scores .now)))) (c .before .before .back .ensures)
+    (m .pair-count .ensures) (length-pairList (a .n) (unfarris (score (a .scores .now)))) (c .before .back .ensures)
 
 pub distances-back-spec : {M : Type 1} → statement M
 distances-back-spec =
@@ -44,7 +44,7 @@ distances-back-spec =
     (tie.spec
     back-refusal-requires
     returns
-    back-requires
     pair-count-requires
+    back-requires
     same-length
     returns-2)

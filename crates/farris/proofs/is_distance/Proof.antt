@@ -1,29 +1,21 @@
+use borrow.Author.Needs.{needs}
 use mir.Facts.{toZ-ofZ}
 use Rattle.integers.proofs.Tests.{and-second, and-first}
 use Rattle.farris.specs.Distances.{isDistance}
-use native.Mathlib.Omega.{arith}
-use borrow.Author.Needs.{needs}
 use Rattle.farris.proofs.is_distance.Statement.{statement}
 use Rattle.farris.proofs.is_distance.Tie as tie
-use Rattle.farris.proofs.is_distance.Reads as reads
-use Rattle.farris.proofs.is_distance.Lts as lts
-use Rattle.integers.proofs.at_most.Reads as at-most-reads
 
--- src/lib.rt:119:5
 at-most-requires : tie.Need-at-most-requires
 at-most-requires c κs = search needs
 
--- src/lib.rt:119:32
 at-most-requires-2 : tie.Need-at-most-requires-2
 at-most-requires-2 c κs = search needs
 
--- src/lib.rt:116:1
 returns : tie.Need-returns
 unfolding isDistance
 returns c = let f = toZ-ofZ (c .before .before .before .fits .v) in
     and-second (rw f at (c .before .before .at-most .ensures)) (c .before .if1 .taken) (rw f at (c .at-most2 .ensures))
 
--- src/lib.rt:116:1
 returns-2 : tie.Need-returns-2
 unfolding isDistance
 returns-2 c = let f = toZ-ofZ (c .before .before .fits .v) in and-first _ (rw f at (c .before .at-most .ensures)) (c .if1 .left)

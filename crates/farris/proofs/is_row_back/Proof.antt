@@ -1,6 +1,8 @@
 use mathlib.Core.Path.{_≡_, refl, sym, _∙_}
 use Prim.Native.Nat.{suc, _+_, _-_, _≤_}
+use native.Mathlib.Omega.{arith}
 use borrow.Author.Tests.{not-true, not-false}
+use borrow.Author.Needs.{needs}
 use mir.Syntax.{w64}
 use Rattle.lists.specs.Lists.{below}
 use Rattle.integers.proofs.Held.{passed}
@@ -8,14 +10,8 @@ use Rattle.clusters.specs.PairList.{score}
 use Rattle.clusters.specs.Farris.{unfarris}
 use Rattle.matrix.proofs.Walk.{Passed, started, next-below, failed-below, ended-below}
 use Rattle.farris.specs.Distances.{isDistance}
-use borrow.Author.Needs.{needs}
-use native.Mathlib.Omega.{arith}
 use Rattle.farris.proofs.is_row_back.Statement.{statement}
 use Rattle.farris.proofs.is_row_back.Tie as tie
-use Rattle.farris.proofs.is_row_back.Reads as reads
-use Rattle.farris.proofs.is_row_back.Lts as lts
-use Rattle.farris.proofs.distance_back.Reads as distance-back-reads
-use Rattle.farris.proofs.is_distance.Reads as is-distance-reads
 
 abbrev Inv-loop : tie.InvT-loop
 Inv-loop n scores a b₀ b-end b = (b ≤ b-end) × (b-end ≡ a + 1) × Passed (λ b. isDistance (unfarris (score scores) a b)) (below (suc a)) b
@@ -23,43 +19,34 @@ Inv-loop n scores a b₀ b-end b = (b ≤ b-end) × (b-end ≡ a + 1) × Passed 
 abbrev μ-loop : tie.MeasureT-loop
 μ-loop n scores a b₀ b-end b = b-end - b
 
--- src/lib.rt:127:17
 add-b-end : tie.Need-add-b-end Inv-loop μ-loop
 add-b-end c = search needs
 
--- src/lib.rt:127:5
 loop-holds : tie.Need-loop-holds Inv-loop μ-loop
 loop-holds c = (omega arith, refl, started)
 
--- src/lib.rt:128:25
 distance-back-requires : tie.Need-distance-back-requires Inv-loop μ-loop
 distance-back-requires c κs = search needs
 
--- src/lib.rt:128:13
 is-distance-requires : tie.Need-is-distance-requires Inv-loop μ-loop
 is-distance-requires c κs = search needs
 
--- src/lib.rt:129:13
 returns : tie.Need-returns Inv-loop μ-loop
 returns c = let v = c .before .before .distance-back in
     let s = c .before .before .before .before .loop .inv .2 in
     failed-below s (omega arith) (sym (rw (passed w64 (v .ok) (v .ensures)) at (c .before .is-distance .ensures)) ∙ not-true _ (c .if1 .taken))
 
--- src/lib.rt:127:9
 add-b : tie.Need-add-b Inv-loop μ-loop
 add-b c = search needs
 
--- src/lib.rt:127:5
 loop-less : tie.Need-loop-less Inv-loop μ-loop
 loop-less c = search needs
 
--- src/lib.rt:127:5
 loop-again : tie.Need-loop-again Inv-loop μ-loop
 loop-again c = let v = c .before .before .distance-back in
     let s = c .before .before .before .before .loop .inv .2 in
     (omega arith, refl, next-below s (omega arith) (sym (rw (passed w64 (v .ok) (v .ensures)) at (c .before .is-distance .ensures)) ∙ not-false _ (c .if1 .left)))
 
--- src/lib.rt:123:1
 returns-2 : tie.Need-returns-2 Inv-loop μ-loop
 returns-2 c = ended-below (c .before .loop .inv .2) (omega arith)
 

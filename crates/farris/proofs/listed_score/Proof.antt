@@ -1,4 +1,4 @@
-use mathlib.Core.Path.{_≡_, ap, sym, subst, _∙_}
+use mathlib.Core.Path.{ap, _∙_}
 use Prim.Native.Nat.{ℕ}
 use borrow.Author.Needs.{sfits-of, needs}
 use lib.IntN.{pos}
@@ -8,32 +8,21 @@ use mir.Facts.{toZ-ofZ}
 use Rattle.integers.proofs.Held.{passed}
 use Rattle.integers.proofs.Range.{fits-within}
 use Rattle.clusters.specs.PairList.{score}
-use native.Mathlib.Omega.{arith}
-use borrow.Author.Needs.{needs}
 use Rattle.farris.proofs.listed_score.Statement.{statement}
 use Rattle.farris.proofs.listed_score.Tie as tie
-use Rattle.farris.proofs.listed_score.Reads as reads
-use Rattle.farris.proofs.listed_score.Lts as lts
-use Rattle.integers.proofs.wide.Reads as wide-reads
-use Rattle.matrix.proofs.place_of.Reads as place-of-reads
 
--- src/lib.rt:112:27
 place-of-requires : tie.Need-place-of-requires
 place-of-requires c κs = search needs
 
--- src/lib.rt:112:20
 mul-wide : tie.Need-mul-wide
 mul-wide c = search needs
 
--- src/lib.rt:112:20
 shared-slice-copy-out-wide : tie.Need-shared-slice-copy-out-wide
 shared-slice-copy-out-wide c = search needs
 
--- src/lib.rt:112:5
 wide-requires : tie.Need-wide-requires
 wide-requires c κs = search needs
 
--- src/lib.rt:108:1
 returns : tie.Need-returns
 unfolding score
 returns c = let a = c .before .before .before .args in let f = sfits-of (c .before .wide-arg .given) in

@@ -1,0 +1,22 @@
+/* Isolated groups and splits of a score sheet, in plain C. */
+#ifndef PLAIN_H
+#define PLAIN_H
+
+#include <stddef.h>
+#include <stdint.h>
+
+/* Kinds of question: 1 strong groups, 2 clean groups, 3 Buneman splits. */
+
+/* Writes the listing of a sheet and answers its length in bytes.  A refusal
+   answers minus its number and writes nothing. */
+int64_t plain_listing(int32_t kind, const uint8_t *sheet, size_t sheet_len,
+                      uint8_t *out, size_t out_len);
+
+/* The listed sets and their indices, by size, then by set; answers their
+   count.  pairs is the lower triangle with own pairs, row by row.  Both
+   results have 2n slots; those beyond the count are set to 0.  Nothing is
+   checked: kind is 1 to 3, n is 1 to 32, and the values pass 11 and 12. */
+int64_t plain_numbers(int32_t kind, int32_t n, const int32_t *pairs,
+                      uint32_t *sets, int64_t *indices);
+
+#endif

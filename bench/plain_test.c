@@ -1,0 +1,581 @@
+/* Tests of the plain engine: the bench cases, the refusals, a check of random
+   sheets against the definitions over all sets, and reordering.
+
+   cc -std=c11 -O2 -Wall -Wextra -Werror -pedantic plain.c plain_test.c */
+
+#include "plain.h"
+
+#include <inttypes.h>
+#include <stdbool.h>
+#include <stdio.h>
+#include <stdlib.h>
+#include <string.h>
+
+enum { MAX_N = 32, MAX_PAIRS = MAX_N * (MAX_N + 1) / 2, ROOM = 4096 };
+
+static int failures;
+
+static void fail(const char *what)
+{
+    printf("differs: %s\n", what);
+    failures++;
+}
+
+/* ---- sheets and expected answers ---- */
+
+/* Runs a call on copies of exact length, so that a checker of memory sees any
+   access beyond them, and checks that nothing but the listing is written. */
+static int64_t call(int32_t kind, const char *sheet, size_t len, uint8_t *text,
+                    size_t room)
+{
+    uint8_t *lent = malloc(len + 1), *out = malloc(room + 1);
+    if (lent == NULL || out == NULL)
+        abort();
+    memcpy(lent, sheet, len);
+    lent = realloc(lent, len > 0 ? len : 1);
+    memset(out, 0xA5, room + 1);
+    int64_t answer = plain_listing(kind, lent, len, out, room);
+    for (size_t i = answer > 0 ? (size_t)answer : 0; i <= room; i++) {
+        if (out[i] != 0xA5) {
+            fail("a byte beyond the listing was written");
+            break;
+        }
+    }
+    if (answer > 0)
+        memcpy(text, out, (size_t)answer);
+    free(lent);
+    free(out);
+    return answer;
+}
+
+/* The listing is the header and then lines; one byte less of room gives 14. */
+static void expect_listing(const char *what, int32_t kind, const char *sheet,
+                           const char *lines)
+{
+    char whole[ROOM];
+    uint8_t text[ROOM];
+    int length = snprintf(whole, sizeof whole, "set size index\n%s", lines);
+    int64_t answer = call(kind, sheet, strlen(sheet), text, ROOM);
+    if (answer != length || memcmp(text, whole, (size_t)length) != 0) {
+        fail(what);
+        return;
+    }
+    if (call(kind, sheet, strlen(sheet), text, (size_t)length) != length)
+        fail("a buffer of the listing's length");
+    if (call(kind, sheet, strlen(sheet), text, (size_t)length - 1) != -14)
+        fail("a buffer one byte short");
+}
+
+static void expect_refusal(const char *what, int32_t kind, const char *sheet,
+                           size_t len, int number)
+{
+    uint8_t text[ROOM];
+    int64_t answer = call(kind, sheet, len, text, ROOM);
+    if (answer != -number) {
+        printf("%s: answer %" PRId64 ", expected %d\n", what, answer, -number);
+        fail("refusal");
+    }
+}
+
+static void refuses(int32_t kind, const char *sheet, int number)
+{
+    expect_refusal(sheet, kind, sheet, strlen(sheet), number);
+}
+
+/* Writes the sheet of a pair list; entry i has the name Ei. */
+static size_t write_sheet(int n, const int32_t *pairs, char *sheet)
+{
+    char *to = sheet;
+    for (int i = 0; i < n; i++)
+        to += sprintf(to, "E%d%c", i, i < n - 1 ? ' ' : '\n');
+    for (int i = 0; i < n; i++) {
+        for (int j = 0; j < n; j++) {
+            int high = i > j ? i : j, low = i > j ? j : i;
+            to += sprintf(to, "%" PRId32 "%c", pairs[high * (high + 1) / 2 + low],
+                          j < n - 1 ? ' ' : '\n');
+        }
+    }
+    return (size_t)(to - sheet);
+}
+
+/* ---- bench cases ---- */
+
+static void test_bench_cases(void)
+{
+    const char *four = "A B C D\n9 8 6 2\n8 9 5 3\n6 5 9 1\n2 3 1 9\n";
+    const char *lower = "A B C D\n9 8 6 2\n8 9 2 3\n6 2 9 1\n2 3 1 9\n";
+    const char *level = "A B C\n5 5 5\n5 5 5\n5 5 5\n";
+    const char *own = "A B C\n6 5 5\n5 6 5\n5 5 6\n";
+
+    expect_listing("four, strong", 1, four,
+                   "00000001 1 1\n00000002 1 1\n00000004 1 3\n00000008 1 6\n"
+                   "00000003 2 2\n00000007 3 2\n");
+    expect_listing("four, clean", 2, four, "00000003 2 2\n00000007 3 6\n");
+    expect_listing("s(B,C) = 2, clean", 2, lower, "00000003 2 2\n00000007 3 3\n");
+    expect_listing("s(B,C) = 2, strong", 1, lower,
+                   "00000001 1 1\n00000002 1 1\n00000004 1 3\n00000008 1 6\n"
+                   "00000003 2 2\n");
+    expect_listing("all 5, strong", 1, level, "");
+    expect_listing("all 5, clean", 2, level, "");
+    expect_listing("own 6, strong", 1, own,
+                   "00000001 1 1\n00000002 1 1\n00000004 1 1\n");
+    expect_listing("four copies", 3,
+                   "A B C D\n0 2 4 4\n2 0 4 4\n4 4 0 2\n4 4 2 0\n",
+                   "00000002 1 2\n00000004 1 2\n00000008 1 2\n0000000c 2 4\n"
+                   "0000000e 3 2\n");
+    expect_listing("two copies at 5", 3, "A B\n0 5\n5 0\n", "00000002 1 10\n");
+    expect_listing("two copies at 0", 3, "A B\n0 0\n0 0\n", "");
+    for (int32_t kind = 1; kind <= 3; kind++)
+        expect_listing("one entry", kind, "A\n0\n", "");
+    expect_listing("1000000 passes", 1, "A\n1000000\n", "");
+    expect_listing("-1000000 passes", 1, "A\n-1000000\n", "");
+    expect_listing("greatest strong index", 1,
+                   "A B\n1000000 -1000000\n-1000000 1000000\n",
+                   "00000001 1 2000000\n00000002 1 2000000\n");
+}
+
+/* ---- refusals ---- */
+
+static void test_counts_and_lengths(void)
+{
+    char sheet[16384];
+    int32_t pairs[34 * 35 / 2] = {0};
+    size_t len = write_sheet(32, pairs, sheet);
+    uint8_t text[ROOM];
+    for (int32_t kind = 1; kind <= 3; kind++)
+        if (call(kind, sheet, len, text, ROOM) != 15)
+            fail("32 names");
+    len = write_sheet(33, pairs, sheet);
+    expect_refusal("33 names", 1, sheet, len, 6);
+
+    memset(sheet, '\n', sizeof sheet);
+    expect_refusal("12289 line feeds", 1, sheet, 12289, 2);
+    expect_refusal("12288 line feeds", 1, sheet, 12288, 4);
+    expect_refusal("no bytes", 1, sheet, 0, 2);
+
+    /* 6144 names of one byte fill the sheet; there are but 26. */
+    for (int i = 0; i < 12288; i += 2) {
+        sheet[i] = (char)('A' + i / 2 % 26);
+        sheet[i + 1] = ' ';
+    }
+    expect_refusal("no line feed", 1, sheet, 12288, 4);
+    sheet[12287] = '\n';
+    expect_refusal("6144 names", 1, sheet, 12288, 5);
+
+    /* 2457 different names of four bytes. */
+    char *to = sheet;
+    for (int i = 0; i < 2457; i++)
+        to += sprintf(to, "%c%03d ", 'A' + i / 1000, i % 1000);
+    to[-1] = '\n';
+    expect_refusal("2457 names", 1, sheet, (size_t)(to - sheet), 6);
+    memcpy(to - 5, "A000", 4);
+    expect_refusal("first and last equal", 1, sheet, (size_t)(to - sheet), 5);
+}
+
+static void test_refusals(void)
+{
+    const int32_t kinds[] = {0, 4, -1, INT32_MIN, INT32_MAX};
+    for (size_t i = 0; i < sizeof kinds / sizeof kinds[0]; i++) {
+        refuses(kinds[i], "A\n0\n", 1);
+        refuses(kinds[i], "", 1);
+    }
+
+    refuses(1, "a\n0\n", 3);
+    refuses(1, "A\n0\t\n", 3);
+    refuses(1, "A\r\n0\n", 3);
+    refuses(1, "A\n+1\n", 3);
+    expect_refusal("zero byte", 1, "A\n0\0\n", 5, 3);
+    expect_refusal("byte 255", 1, "A\n0\xff\n", 5, 3);
+
+    refuses(1, "A", 4);
+    refuses(1, "A B", 4);
+    refuses(1, "\n0\n", 4);
+    refuses(1, " A\n0\n", 4);
+    refuses(1, "A \n0\n", 4);
+    refuses(1, "A  B\n0 0\n0 0\n", 4);
+    refuses(1, "0A\n0\n", 4);
+    refuses(1, "A-B\n0\n", 4);
+    refuses(1, "ABCDEFGHI\n0\n", 4);
+    refuses(1, "A A  \n0\n", 4);
+    expect_listing("name of 8 bytes", 1, "ABCDEFG9\n0\n", "");
+
+    refuses(1, "A A\n", 5);
+    refuses(1, "A B A\n0\n", 5);
+    refuses(1, "ABCDEFGH ABCDEFGH\n", 5);
+    expect_listing("a name that starts another", 1, "A AA\n0 0\n0 0\n", "");
+
+    refuses(1, "A\n", 7);
+    refuses(1, "A\n0", 7);
+    refuses(1, "A\n0\n0", 7);
+    refuses(1, "A\n0\n0\n", 7);
+    refuses(1, "A\n0\n\n", 7);
+    refuses(1, "A B\n0 0\n0 0", 7);
+
+    refuses(1, "A\n-0\n", 8);
+    refuses(1, "A\n007\n", 8);
+    refuses(1, "A\n00\n", 8);
+    refuses(1, "A\n-07\n", 8);
+    refuses(1, "A\n-\n", 8);
+    refuses(1, "A\n--1\n", 8);
+    refuses(1, "A\n1-\n", 8);
+    refuses(1, "A\n\n", 8);
+    refuses(1, "A\nA\n", 8);
+    refuses(1, "A\n0 \n", 8);
+    refuses(1, "A\n 0\n", 8);
+    refuses(1, "A\n0 0\n", 8);
+    refuses(1, "A\n12345678\n", 8);
+    refuses(1, "A\n-12345678\n", 8);
+    refuses(1, "A B\n0 0\n0\n", 8);
+    refuses(1, "A B\n0  0\n0 0\n", 8);
+    refuses(1, "A B\n0 1\n2 x\n", 3);
+    refuses(1, "A B\n0 1\n2 -\n", 8);
+
+    refuses(1, "A B\n0 1\n2 0\n", 9);
+    refuses(3, "A B\n9 9999999\n-1 0\n", 9);
+
+    refuses(1, "A\n1000001\n", 11);
+    refuses(1, "A\n-1000001\n", 11);
+    refuses(3, "A B\n5 1000001\n1000001 0\n", 11);
+    refuses(2, "A B\n0 -9999999\n-9999999 0\n", 11);
+
+    refuses(3, "A\n1\n", 12);
+    refuses(3, "A\n-1\n", 12);
+    refuses(3, "A B\n0 -1\n-1 0\n", 12);
+    refuses(3, "A B\n0 1\n1 2\n", 12);
+
+    uint8_t none;
+    if (plain_listing(1, (const uint8_t *)"A\n0\n", 4, &none, 0) != -14)
+        fail("no buffer");
+    test_counts_and_lengths();
+}
+
+/* ---- the definitions, over all sets ---- */
+
+static int64_t score(const int32_t *pairs, int a, int b)
+{
+    return a > b ? pairs[a * (a + 1) / 2 + b] : pairs[b * (b + 1) / 2 + a];
+}
+
+static bool holds(uint32_t set, int entry) { return set >> entry & 1; }
+
+static int size_of(uint32_t set)
+{
+    int size = 0;
+    for (; set != 0; set >>= 1)
+        size += set & 1;
+    return size;
+}
+
+static int64_t defined_strong(int n, const int32_t *s, uint32_t set)
+{
+    int64_t least = INT64_MAX;
+    for (int a = 0; a < n; a++)
+        for (int b = 0; b < n; b++)
+            for (int x = 0; x < n; x++) {
+                int64_t value = score(s, a, b) - score(s, a, x);
+                if (holds(set, a) && holds(set, b) && !holds(set, x) &&
+                    value < least)
+                    least = value;
+            }
+    return least;
+}
+
+static int compare_weights(const void *u, const void *v)
+{
+    int64_t a = *(const int64_t *)u, b = *(const int64_t *)v;
+    return (a > b) - (a < b);
+}
+
+static int64_t defined_clean(int n, const int32_t *s, uint32_t set)
+{
+    int64_t weight[MAX_N * MAX_N * MAX_N / 2], sum = 0;
+    size_t count = 0;
+    for (int a = 0; a < n; a++)
+        for (int b = 0; b < a; b++)
+            for (int c = 0; c < n; c++) {
+                int64_t ac = score(s, a, c), bc = score(s, b, c);
+                if (holds(set, a) && holds(set, b) && !holds(set, c))
+                    weight[count++] = score(s, a, b) - (ac > bc ? ac : bc);
+            }
+    qsort(weight, count, sizeof weight[0], compare_weights);
+    for (int i = 0; i < size_of(set) - 1; i++)
+        sum += weight[i];
+    return sum;
+}
+
+static int64_t defined_separation(int n, const int32_t *d, uint32_t set)
+{
+    int64_t least = INT64_MAX;
+    for (int a = 0; a < n; a++)
+        for (int a2 = 0; a2 < n; a2++) {
+            if (!holds(set, a) || !holds(set, a2))
+                continue;
+            for (int b = 0; b < n; b++)
+                for (int b2 = 0; b2 < n; b2++) {
+                    if (holds(set, b) || holds(set, b2))
+                        continue;
+                    int64_t value = score(d, a, b) + score(d, a2, b2) -
+                                    score(d, a, a2) - score(d, b, b2);
+                    if (value < least)
+                        least = value;
+                }
+        }
+    return least;
+}
+
+static int64_t defined_index(int32_t kind, int n, const int32_t *s, uint32_t set)
+{
+    return kind == 1   ? defined_strong(n, s, set)
+           : kind == 2 ? defined_clean(n, s, set)
+                       : defined_separation(n, s, set);
+}
+
+/* Lists by the definitions; answers the count. */
+static int list_by_definition(int32_t kind, int n, const int32_t *s,
+                              uint32_t *sets, int64_t *indices)
+{
+    int count = 0;
+    uint32_t whole = (UINT32_C(1) << n) - 1;
+    for (int size = kind == 2 ? 2 : 1; size < n; size++)
+        for (uint32_t set = 1; set < whole; set++) {
+            if (size_of(set) != size || (kind == 3 && holds(set, 0)))
+                continue;
+            int64_t index = defined_index(kind, n, s, set);
+            if (index >= 1) {
+                if (count == 2 * MAX_N)
+                    abort();
+                sets[count] = set;
+                indices[count++] = index;
+            }
+        }
+    return count;
+}
+
+/* ---- random sheets ---- */
+
+static uint64_t seed = 1;
+
+static int32_t random_below(int32_t bound)
+{
+    seed ^= seed << 13;
+    seed ^= seed >> 7;
+    seed ^= seed << 17;
+    return (int32_t)((seed >> 16) % (uint64_t)bound);
+}
+
+/* Values of a tree: scores are a level for the smallest block around both
+   entries, distances the length of the path.  Each value is then shifted by
+   less than noise. */
+static void tree_pairs(bool distances, int n, int32_t step, int32_t noise,
+                       int32_t *pairs)
+{
+    int block[MAX_N], left = n;
+    int32_t value[MAX_N][MAX_N] = {{0}}, depth[MAX_N] = {0};
+    for (int i = 0; i < n; i++)
+        block[i] = i;
+    for (int32_t level = n; left > 1; level--) {
+        int i = random_below(left), j = random_below(left - 1);
+        j += j >= i;
+        int32_t up_i = random_below(step + 1), up_j = random_below(step + 1);
+        for (int a = 0; a < n; a++)
+            depth[a] += block[a] == i ? up_i : block[a] == j ? up_j : 0;
+        for (int a = 0; a < n; a++)
+            for (int b = 0; b < n; b++)
+                if (block[a] == i && block[b] == j)
+                    value[a][b] = value[b][a] =
+                        distances ? depth[a] + depth[b] : level * step;
+        left--;
+        for (int a = 0; a < n; a++) {
+            if (block[a] == j)
+                block[a] = i;
+            if (block[a] == left)
+                block[a] = j;
+        }
+    }
+    for (int a = 0; a < n; a++) {
+        for (int b = 0; b < a; b++)
+            *pairs++ = value[a][b] + (noise > 0 ? random_below(noise) : 0);
+        *pairs++ = distances ? 0 : (n + 1) * step - random_below(2 * step + 1);
+    }
+}
+
+/* Independent values: few, so that ties abound, or the widest range. */
+static void loose_pairs(bool distances, int n, int32_t *pairs)
+{
+    int32_t values = random_below(4) == 0 ? 1000001 : 1 + random_below(6);
+    int32_t lowest = distances ? 0 : -random_below(values);
+    int32_t own_values = values < 10 ? values + 2 : values;
+    for (int a = 0; a < n; a++) {
+        for (int b = 0; b < a; b++)
+            *pairs++ = lowest + random_below(values);
+        *pairs++ = distances ? 0 : lowest + random_below(own_values);
+    }
+}
+
+static void random_pairs(int32_t kind, int n, int32_t *pairs)
+{
+    int32_t step = 1 + random_below(8), noise = random_below(5);
+    if (random_below(3) == 0)
+        loose_pairs(kind == 3, n, pairs);
+    else
+        tree_pairs(kind == 3, n, step, noise, pairs);
+}
+
+static void show_sheet(int32_t kind, int n, const int32_t *pairs)
+{
+    char sheet[16384];
+    sheet[write_sheet(n, pairs, sheet)] = '\0';
+    printf("kind %" PRId32 "\n%s", kind, sheet);
+}
+
+/* ---- engine against the definitions ---- */
+
+/* The numbers call, with the slots beyond the count at 0 and no others
+   written, and the sheet's listing of the same lines. */
+static int run_engine(int32_t kind, int n, const int32_t *pairs, uint32_t *sets,
+                      int64_t *indices)
+{
+    char sheet[16384], whole[ROOM], *to = whole;
+    uint8_t text[ROOM];
+    memset(sets, 0xA5, (2 * MAX_N + 1) * sizeof *sets);
+    memset(indices, 0xA5, (2 * MAX_N + 1) * sizeof *indices);
+    int count = (int)plain_numbers(kind, n, pairs, sets, indices);
+    for (int t = count; t < 2 * n; t++)
+        if (sets[t] != 0 || indices[t] != 0)
+            fail("a slot beyond the count is not 0");
+    if (sets[2 * n] != 0xA5A5A5A5)
+        fail("a slot beyond 2n was written");
+
+    to += sprintf(to, "set size index\n");
+    for (int t = 0; t < count; t++)
+        to += sprintf(to, "%08" PRIx32 " %d %" PRId64 "\n", sets[t],
+                      size_of(sets[t]), indices[t]);
+    size_t len = write_sheet(n, pairs, sheet);
+    int64_t answer = call(kind, sheet, len, text, ROOM);
+    if (answer != to - whole || memcmp(text, whole, (size_t)answer) != 0) {
+        show_sheet(kind, n, pairs);
+        fail("listing and numbers");
+    }
+    return count;
+}
+
+static long lines_seen[4];
+
+static void test_against_definitions(int sheets)
+{
+    for (int round = 0; round < sheets && failures == 0; round++) {
+        int32_t kind = 1 + round % 3, pairs[MAX_PAIRS];
+        int n = 1 + random_below(10);
+        uint32_t sets[2 * MAX_N + 1], expected[2 * MAX_N];
+        int64_t indices[2 * MAX_N + 1], expected_indices[2 * MAX_N];
+        random_pairs(kind, n, pairs);
+        int count = run_engine(kind, n, pairs, sets, indices);
+        int wanted =
+            list_by_definition(kind, n, pairs, expected, expected_indices);
+        lines_seen[kind] += wanted;
+        if (count != wanted ||
+            memcmp(sets, expected, (size_t)count * sizeof *sets) != 0 ||
+            memcmp(indices, expected_indices,
+                   (size_t)count * sizeof *indices) != 0) {
+            show_sheet(kind, n, pairs);
+            fail("engine and definitions");
+        }
+    }
+}
+
+/* ---- reordering, up to 32 entries ---- */
+
+static void reorder_pairs(int n, const int *p, const int32_t *old, int32_t *new)
+{
+    for (int i = 0; i < n; i++)
+        for (int j = 0; j <= i; j++) {
+            int high = p[i] > p[j] ? p[i] : p[j], low = p[i] + p[j] - high;
+            new[high * (high + 1) / 2 + low] = old[i * (i + 1) / 2 + j];
+        }
+}
+
+static uint32_t reorder_set(int32_t kind, int n, const int *p, uint32_t set)
+{
+    uint32_t moved = 0, whole = UINT32_MAX >> (32 - n);
+    for (int i = 0; i < n; i++)
+        if (holds(set, i))
+            moved |= UINT32_C(1) << p[i];
+    return kind == 3 && holds(moved, 0) ? whole & ~moved : moved;
+}
+
+static bool has_line(const uint32_t *sets, const int64_t *indices, int count,
+                     uint32_t set, int64_t index)
+{
+    for (int t = 0; t < count; t++)
+        if (sets[t] == set)
+            return indices[t] == index;
+    return false;
+}
+
+static void test_reordering(int sheets)
+{
+    for (int round = 0; round < sheets && failures == 0; round++) {
+        int32_t kind = 1 + round % 3, pairs[MAX_PAIRS], moved[MAX_PAIRS];
+        int n = round % 2 == 0 ? 32 : 1 + random_below(32), p[MAX_N];
+        uint32_t sets[2 * MAX_N + 1], moved_sets[2 * MAX_N + 1];
+        int64_t indices[2 * MAX_N + 1], moved_indices[2 * MAX_N + 1];
+        random_pairs(kind, n, pairs);
+        for (int i = 0; i < n; i++) {
+            int j = random_below(i + 1);
+            p[i] = p[j];
+            p[j] = i;
+        }
+        reorder_pairs(n, p, pairs, moved);
+        int count = run_engine(kind, n, pairs, sets, indices);
+        int moved_count = run_engine(kind, n, moved, moved_sets, moved_indices);
+        bool same = count == moved_count;
+        for (int t = 0; t < count && same; t++)
+            same = indices[t] == defined_index(kind, n, pairs, sets[t]) &&
+                   has_line(moved_sets, moved_indices, moved_count,
+                            reorder_set(kind, n, p, sets[t]), indices[t]);
+        if (!same) {
+            show_sheet(kind, n, pairs);
+            fail("reordering");
+        }
+    }
+}
+
+/* Sheets with a few bytes altered: every answer is a listing or a refusal of
+   the table, and nothing lent is overrun. */
+static void test_altered_sheets(int sheets)
+{
+    const char bytes[] = "AZ019- \n\nx";
+    for (int round = 0; round < sheets && failures == 0; round++) {
+        int32_t kind = 1 + round % 3, pairs[MAX_PAIRS];
+        int n = 1 + random_below(round % 50 == 0 ? 32 : 4);
+        char sheet[16384];
+        uint8_t text[ROOM];
+        random_pairs(kind, n, pairs);
+        size_t len = write_sheet(n, pairs, sheet);
+        for (int change = random_below(3); change >= 0; change--)
+            sheet[random_below((int32_t)len)] =
+                bytes[random_below((int32_t)sizeof bytes - 1)];
+        if (random_below(4) == 0)
+            len = (size_t)random_below((int32_t)len);
+        int64_t answer = call(kind, sheet, len, text, ROOM);
+        if (answer < -14 || answer == -13 || answer == -10 || answer == 0)
+            fail("altered sheet");
+    }
+}
+
+int main(int argc, char **argv)
+{
+    int sheets = argc > 1 ? atoi(argv[1]) : 6000;
+    test_bench_cases();
+    test_refusals();
+    test_against_definitions(sheets);
+    test_reordering(sheets / 10);
+    test_altered_sheets(sheets * 10);
+    if (failures > 0) {
+        printf("%d differences\n", failures);
+        return 1;
+    }
+    printf("no difference; lines checked: strong %ld, clean %ld, splits %ld\n",
+           lines_seen[1], lines_seen[2], lines_seen[3]);
+    return 0;
+}

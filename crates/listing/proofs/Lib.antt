@@ -1,0 +1,4 @@
+pub mod Puts
+pub mod Numbers
+pub mod Slots
+pub mod Lines

@@ -1,0 +1,129 @@
+// The listing writer.
+ghost use mathlib.Core.Path.{_≡_};
+ghost use mathlib.Core.List.{_++_, _∷_, []};
+ghost use Prim.Native.Nat.{_+_, _≤_, _<_};
+ghost use lib.IntN.{pos};
+ghost use lib.ListN.{length, drop, getD};
+ghost use lib.Seq.{sets};
+ghost use lib.Signed.{_≤ℤ_};
+ghost use Rattle.lists.specs.Lists.{each};
+ghost use Rattle.listing.specs.Listing.{digit, digits, hexadecimal, decimal, line, listing};
+ghost use Rattle.listing.specs.Put.{Put};
+ghost use Rattle.listing.specs.Slots.{groupsOf, Slots};
+
+fn digit(k: usize) -> u8
+    requires { ⌜ k < 16 ⌝ }
+    ensures { λ r. ⌜ r ≡ digit k ⌝ }
+{
+    if k < 10 { 48 + k as u8 } else { 87 + k as u8 }
+}
+
+// Puts the last k digits of n into out, the last one first.
+fn put_digits(out: &mut [u8], at: usize, base: usize, k: usize, n: usize) -> usize
+    requires { ⌜ (0 < base) × (base ≤ 16) × (at + k ≤ length (now out)) ⌝ }
+    ensures { λ r. ⌜ (r ≡ at + k) × (now (out .exit) ≡ sets (now (out .entry)) at (digits base k n)) ⌝ }
+{
+    let mut i = k;
+    let mut rest = n;
+    while i > 0 {
+        i -= 1;
+        out[at + i] = digit(rest % base);
+        rest /= base;
+    }
+    at + k
+}
+
+// The number of decimal digits.
+fn decimal_length(n: usize) -> usize
+    ensures { λ r. ⌜ r ≡ length (decimal n) ⌝ }
+{
+    let mut k: usize = 1;
+    let mut rest = n;
+    while rest >= 10 {
+        rest /= 10;
+        k += 1;
+    }
+    k
+}
+
+// Puts a set and a space.
+fn put_set(out: &mut [u8], at: usize, set: u32) -> usize
+    requires { ⌜ at + 9 ≤ length (now out) ⌝ }
+    ensures { λ r. ⌜ Put (now (out .entry)) at (hexadecimal set ++ (32 ∷ [])) (now (out .exit)) r ⌝ }
+{
+    let end = put_digits(out, at, 16, 8, set as usize);
+    out[end] = b' ';
+    end + 1
+}
+
+// Puts a number and the byte after it.
+fn put_number(out: &mut [u8], at: usize, n: usize, after: u8) -> usize
+    requires { ⌜ at + length (decimal n) < length (now out) ⌝ }
+    ensures { λ r. ⌜ Put (now (out .entry)) at (decimal n ++ (after ∷ [])) (now (out .exit)) r ⌝ }
+{
+    let end = put_digits(out, at, 10, decimal_length(n), n);
+    out[end] = after;
+    end + 1
+}
+
+fn line_length(set: u32, index: usize) -> usize
+    ensures { λ r. ⌜ r ≡ length (line 32 (set, pos index)) ⌝ }
+{
+    decimal_length(sets::size(set)) + decimal_length(index) + 11
+}
+
+fn put_line(out: &mut [u8], at: usize, set: u32, index: usize) -> usize
+    requires { ⌜ at + length (line 32 (set, pos index)) ≤ length (now out) ⌝ }
+    ensures { λ r. ⌜ Put (now (out .entry)) at (line 32 (set, pos index)) (now (out .exit)) r ⌝ }
+{
+    let a = put_set(out, at, set);
+    let b = put_number(out, a, sets::size(set), b' ');
+    put_number(out, b, index, b'\n')
+}
+
+fn index_at(indices: &[i64], i: usize) -> usize
+    requires { ⌜ (i < length (now indices)) × (pos 0 ≤ℤ getD (now indices) i (pos 0)) ⌝ }
+    ensures { λ r. ⌜ pos r ≡ getD (now (indices .entry)) i (pos 0) ⌝ }
+{
+    indices[i] as usize
+}
+
+// The length of the listing of the first count groups.
+pub fn length(sets: &[u32], indices: &[i64], count: usize) -> usize
+    requires { ⌜ Slots count (now sets) (now indices) ⌝ }
+    ensures { λ r. ⌜ r ≡ length (listing 32 (groupsOf count (now (sets .entry)) (now (indices .entry)))) ⌝ }
+{
+    let mut total: usize = 15;
+    let mut i: usize = 0;
+    while i < count {
+        total += line_length(sets[i], index_at(indices, i));
+        i += 1;
+    }
+    total
+}
+
+// Puts the lines of the first count groups.
+fn put_lines(out: &mut [u8], at: usize, sets: &[u32], indices: &[i64], count: usize) -> usize
+    requires { ⌜ Slots count (now sets) (now indices) ⌝ }
+    requires { ⌜ at + length (each (groupsOf count (now sets) (now indices)) (line 32)) ≤ length (now out) ⌝ }
+    ensures { λ r. ⌜ Put (now (out .entry)) at (each (groupsOf count (now (sets .entry)) (now (indices .entry))) (line 32)) (now (out .exit)) r ⌝ }
+{
+    let mut end = at;
+    let mut i: usize = 0;
+    while i < count {
+        end = put_line(out, end, sets[i], index_at(indices, i));
+        i += 1;
+    }
+    end
+}
+
+// Writes the listing of the first count groups to the start of out, and answers its length.
+pub fn write(out: &mut [u8], sets: &[u32], indices: &[i64], count: usize) -> usize
+    requires { ⌜ Slots count (now sets) (now indices) ⌝ }
+    requires { ⌜ length (listing 32 (groupsOf count (now sets) (now indices))) ≤ length (now out) ⌝ }
+    ensures { λ r. ⌜ r ≡ length (listing 32 (groupsOf count (now (sets .entry)) (now (indices .entry)))) ⌝ }
+    ensures { λ r. ⌜ now (out .exit) ≡ listing 32 (groupsOf count (now (sets .entry)) (now (indices .entry))) ++ drop r (now (out .entry)) ⌝ }
+{
+    let at = bytes::copy(b"set size index\n", out);
+    put_lines(out, at, sets, indices, count)
+}

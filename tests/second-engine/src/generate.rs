@@ -1,0 +1,547 @@
+//! Sheets from a seed: good ones of many shapes, damaged ones, and calls made
+//! of them.
+
+use crate::compare::Case;
+use crate::engine;
+
+/// splitmix64.
+#[derive(Clone, Debug)]
+pub struct Random(u64);
+
+impl Random {
+    pub fn new(seed: u64) -> Self {
+        Random(seed)
+    }
+
+    fn draw(&mut self) -> u64 {
+        self.0 = self.0.wrapping_add(0x9e37_79b9_7f4a_7c15);
+        let mut z = self.0;
+        z = (z ^ (z >> 30)).wrapping_mul(0xbf58_476d_1ce4_e5b9);
+        z = (z ^ (z >> 27)).wrapping_mul(0x94d0_49bb_1331_11eb);
+        z ^ (z >> 31)
+    }
+
+    /// 0 to `count` - 1.
+    pub fn below(&mut self, count: usize) -> usize {
+        (self.draw() % count as u64) as usize
+    }
+
+    pub fn between(&mut self, least: i64, most: i64) -> i64 {
+        least + (self.draw() % (most - least + 1) as u64) as i64
+    }
+
+    pub fn one_in(&mut self, count: usize) -> bool {
+        self.below(count) == 0
+    }
+
+    pub fn of<T: Clone>(&mut self, choices: &[T]) -> T {
+        choices[self.below(choices.len())].clone()
+    }
+}
+
+/// A sheet before it is written: names, and values that mirror each other.
+#[derive(Clone, Debug)]
+pub struct Table {
+    pub names: Vec<String>,
+    pub values: Vec<Vec<i64>>,
+}
+
+impl Table {
+    pub fn entries(&self) -> usize {
+        self.names.len()
+    }
+
+    /// Sets the pair a, b on both sides.
+    pub fn set(&mut self, a: usize, b: usize, value: i64) {
+        self.values[a][b] = value;
+        self.values[b][a] = value;
+    }
+
+    pub fn sheet(&self) -> Vec<u8> {
+        written(&self.names, &self.cells())
+    }
+
+    fn cells(&self) -> Vec<Vec<String>> {
+        let line = |values: &Vec<i64>| values.iter().map(i64::to_string).collect();
+        self.values.iter().map(line).collect()
+    }
+
+    pub fn pairs(&self) -> Vec<i32> {
+        let rows = self.values.iter().enumerate();
+        rows.flat_map(|(a, row)| row[..=a].iter().map(|&value| value as i32))
+            .collect()
+    }
+
+    /// Entry i becomes p(i).
+    pub fn reordered(&self, p: &[usize]) -> Table {
+        let mut new = self.clone();
+        for i in 0..self.entries() {
+            new.names[p[i]] = self.names[i].clone();
+            for j in 0..self.entries() {
+                new.values[p[i]][p[j]] = self.values[i][j];
+            }
+        }
+        new
+    }
+}
+
+/// Lines with single spaces between and a line feed after each.
+fn written(names: &[String], cells: &[Vec<String>]) -> Vec<u8> {
+    let mut text = names.join(" ") + "\n";
+    for line in cells {
+        text += &(line.join(" ") + "\n");
+    }
+    text.into_bytes()
+}
+
+/// The numbers 0 to n - 1 anew, each once.
+pub fn order(random: &mut Random, n: usize) -> Vec<usize> {
+    let mut order: Vec<usize> = (0..n).collect();
+    for i in (1..n).rev() {
+        order.swap(i, random.below(i + 1));
+    }
+    order
+}
+
+fn names(random: &mut Random, n: usize) -> Vec<String> {
+    let letters: Vec<char> = ('A'..='Z').collect();
+    let signs: Vec<char> = ('A'..='Z').chain('0'..='9').collect();
+    let longest = random.of(&[2, 3, 8, 8]);
+    let mut names: Vec<String> = Vec::new();
+    while names.len() < n {
+        let mut name = String::from(random.of(&letters));
+        for _ in 0..random.below(longest) {
+            name.push(random.of(&signs));
+        }
+        if !names.contains(&name) {
+            names.push(name);
+        }
+    }
+    names
+}
+
+fn table(random: &mut Random, n: usize, mut value: impl FnMut(usize, usize) -> i64) -> Table {
+    let mut table = Table {
+        names: names(random, n),
+        values: vec![vec![0; n]; n],
+    };
+    for a in 0..n {
+        for b in 0..=a {
+            table.set(a, b, value(a, b));
+        }
+    }
+    table
+}
+
+/// The blocks of a random tree on n entries, single ones included, each with a
+/// length of 0 or more.
+fn blocks(random: &mut Random, n: usize) -> Vec<(u32, i64)> {
+    let longest = random.of(&[1, 2, 5, 40, 1_000, 15_000]);
+    let shortest = random.between(0, 1);
+    let chain = random.one_in(3);
+    let mut left: Vec<u32> = order(random, n).iter().map(|&a| 1 << a).collect();
+    let mut blocks = Vec::new();
+    for &block in &left {
+        blocks.push((block, random.between(shortest, longest)));
+    }
+    while left.len() > 1 {
+        // A chain lets the newest block grow by one entry.
+        let newest = left.len() - 1;
+        let first = left.swap_remove(if chain {
+            newest
+        } else {
+            random.below(newest + 1)
+        });
+        let second = left.swap_remove(random.below(newest));
+        left.push(first | second);
+        blocks.push((first | second, random.between(shortest, longest)));
+    }
+    blocks
+}
+
+/// Similarities: the lengths of the blocks that hold both entries.
+fn tree_scores(random: &mut Random, n: usize) -> Table {
+    let blocks = blocks(random, n);
+    let base = random.of(&[0, 0, 3, -7, -500_000]);
+    table(random, n, |a, b| {
+        let both = |set: u32| set >> a & 1 == 1 && set >> b & 1 == 1;
+        base + blocks
+            .iter()
+            .filter(|x| both(x.0))
+            .map(|x| x.1)
+            .sum::<i64>()
+    })
+}
+
+/// Distances: the lengths of the blocks that hold just one of the entries.
+fn tree_distances(random: &mut Random, n: usize) -> Table {
+    let blocks = blocks(random, n);
+    table(random, n, |a, b| {
+        let one = |set: u32| set >> a & 1 != set >> b & 1;
+        blocks.iter().filter(|x| one(x.0)).map(|x| x.1).sum()
+    })
+}
+
+/// Changes every value a little, or a few of them.
+fn add_noise(random: &mut Random, table: &mut Table, least: i64, own: bool) {
+    let n = table.entries();
+    let most = random.of(&[1, 1, 2, 5, 300, 20_000]);
+    let everywhere = random.one_in(2);
+    for a in 0..n {
+        for b in 0..=a {
+            if (own || a != b) && (everywhere || random.one_in(n * n)) {
+                let value = table.values[a][b] + random.between(-most, most);
+                table.set(a, b, value.clamp(least, 1_000_000));
+            }
+        }
+    }
+}
+
+/// Values of few kinds, so that many tie; negative ones; the whole range; the
+/// ends of the range.
+fn scattered(random: &mut Random, n: usize, distances: bool) -> Table {
+    let ranges = [(0, 1), (0, 3), (0, 9), (5, 5), (0, 1_000_000)];
+    let signed = [(-3, 3), (-9, -1), (-1_000_000, 1_000_000), (-40, 0)];
+    let (least, most) = if distances || random.one_in(2) {
+        random.of(&ranges)
+    } else {
+        random.of(&signed)
+    };
+    let ends = random.one_in(5);
+    let mut source = Random::new(random.draw());
+    let value = |_, _| match ends {
+        true => source.of(&[
+            least,
+            most,
+            if distances { 0 } else { -1_000_000 },
+            1_000_000,
+        ]),
+        false => source.between(least, most),
+    };
+    table(random, n, value)
+}
+
+/// A sheet that every kind but perhaps 3 accepts.
+pub fn scores(random: &mut Random, n: usize) -> Table {
+    let mut table = match random.below(8) {
+        0 | 1 => scattered(random, n, false),
+        2 => return distances(random, n),
+        _ => tree_scores(random, n),
+    };
+    if random.one_in(2) {
+        add_noise(random, &mut table, -1_000_000, true);
+    }
+    match random.below(6) {
+        // Own scores above all, all alike, or low.
+        0 => (0..n).for_each(|a| table.set(a, a, 1_000_000)),
+        1 => (0..n).for_each(|a| table.set(a, a, 0)),
+        2 => {
+            let a = random.below(n);
+            let low = random.between(-10, 10);
+            table.set(a, a, low);
+        }
+        _ => {}
+    }
+    table
+}
+
+/// A sheet that kind 3 accepts: no negative value, own values 0.
+pub fn distances(random: &mut Random, n: usize) -> Table {
+    let mut table = match random.below(6) {
+        0 | 1 => scattered(random, n, true),
+        _ => tree_distances(random, n),
+    };
+    (0..n).for_each(|a| table.set(a, a, 0));
+    if random.one_in(2) {
+        add_noise(random, &mut table, 0, false);
+    }
+    table
+}
+
+/// A number of entries, small ones more often.
+pub fn entries(random: &mut Random) -> usize {
+    match random.below(8) {
+        0 => random.of(&[1, 2]),
+        1 => random.of(&[12, 13, 31, 32, 32]),
+        2 | 3 => 1 + random.below(32),
+        _ => 1 + random.below(9),
+    }
+}
+
+/// A sheet and a kind that accepts it.
+fn good(random: &mut Random, n: usize) -> (i32, Table) {
+    let kind = random.of(&[1, 2, 3]);
+    match kind {
+        3 => (kind, distances(random, n)),
+        _ => (kind, scores(random, n)),
+    }
+}
+
+/// Buffer lengths around the length of the listing.
+fn room(random: &mut Random, length: usize) -> usize {
+    let near = [
+        0,
+        1,
+        14,
+        15,
+        16,
+        length.saturating_sub(1),
+        length,
+        length + 1,
+        length + 7,
+    ];
+    match random.below(4) {
+        0 => random.of(&near),
+        1 => random.below(2 * length + 40),
+        _ => length + random.below(100),
+    }
+}
+
+/// The length of the listing, or a usual one where there is none.
+fn length(kind: i32, sheet: &[u8]) -> usize {
+    let answer = engine::listing(kind, sheet, &mut [0; 4096]);
+    usize::try_from(answer).unwrap_or(100)
+}
+
+fn call(random: &mut Random, kind: i32, sheet: Vec<u8>) -> Case {
+    let room = room(random, length(kind, &sheet));
+    Case { kind, sheet, room }
+}
+
+/// Any call, good or bad.
+pub fn case(random: &mut Random) -> Case {
+    let n = entries(random);
+    match random.below(10) {
+        0 => {
+            let (_, table) = good(random, n);
+            let kind = random.of(&[0, 4, -1, i32::MIN, i32::MAX]);
+            call(random, kind, table.sheet())
+        }
+        1 => flawed(random).0,
+        2 => {
+            // Scores under any kind, out of range now and then.
+            let mut table = scores(random, n);
+            let far = random.of(&[1_000_001, -1_000_001, 9_999_999, -9_999_999, -1_000_000]);
+            table.set(random.below(n), random.below(n), far);
+            let kind = random.of(&[1, 2, 3]);
+            call(random, kind, table.sheet())
+        }
+        3..=5 => {
+            let (kind, table) = good(random, n);
+            let sheet = damaged(random, &table);
+            call(random, kind, sheet)
+        }
+        _ => {
+            let (kind, mut table) = good(random, n);
+            if random.one_in(4) {
+                table = table.reordered(&order(random, n));
+            }
+            call(random, kind, table.sheet())
+        }
+    }
+}
+
+/// The calls of a seed, without end.
+pub fn cases(seed: u64) -> impl Iterator<Item = Case> {
+    let mut random = Random::new(seed);
+    std::iter::repeat_with(move || case(&mut random))
+}
+
+/// A sheet damaged in one place or a few, by its bytes or by its parts.
+pub fn damaged(random: &mut Random, table: &Table) -> Vec<u8> {
+    if random.one_in(2) {
+        let mut sheet = damaged_part(random, table);
+        if random.one_in(4) {
+            damage_bytes(random, &mut sheet);
+        }
+        return sheet;
+    }
+    let mut sheet = table.sheet();
+    for _ in 0..random.of(&[1, 1, 1, 2, 5]) {
+        damage_bytes(random, &mut sheet);
+    }
+    sheet
+}
+
+/// Bytes changed, put in, dropped, doubled, swapped, cut.
+fn damage_bytes(random: &mut Random, sheet: &mut Vec<u8>) {
+    if sheet.is_empty() {
+        return sheet.push(b'\n');
+    }
+    let at = random.below(sheet.len());
+    let byte = match random.below(4) {
+        0 => random.draw() as u8,
+        _ => random.of(b"A09- \n\n1Z"),
+    };
+    match random.below(8) {
+        0 | 1 => sheet[at] = byte,
+        2 => sheet.insert(at, byte),
+        3 => drop(sheet.remove(at)),
+        4 => sheet.insert(at, sheet[at]),
+        5 => sheet.swap(at, random.below(at + 1)),
+        6 => sheet.truncate(at),
+        _ => {
+            let end = at + random.below(sheet.len() - at);
+            let part = sheet[at..end].to_vec();
+            match random.one_in(2) {
+                true => drop(sheet.drain(at..end)),
+                false => drop(sheet.splice(at..at, part)),
+            }
+        }
+    }
+}
+
+/// One part of the sheet made wrong: a name, a value, a line, its length.
+fn damaged_part(random: &mut Random, table: &Table) -> Vec<u8> {
+    let n = table.entries();
+    let (mut names, mut cells) = (table.names.clone(), table.cells());
+    let (a, b) = (random.below(n), random.below(n));
+    let bad_names = [
+        "ABCDEFGHI",
+        "A12345678",
+        "",
+        "1A",
+        "A-",
+        "-",
+        "0",
+        "ab",
+        "Ab",
+        "A\u{e4}",
+        "A\tB",
+        "A B",
+        " A",
+        "A ",
+    ];
+    let bad_values = [
+        "-0",
+        "007",
+        "00",
+        "-01",
+        "12345678",
+        "-12345678",
+        "00000001",
+        "-",
+        "",
+        "1-",
+        "--1",
+        "1 ",
+        " 1",
+        "1  2",
+        "A",
+        "1A",
+        "+1",
+        "1.5",
+        "1 2",
+        "1\n2",
+    ];
+    let far_values = ["9999999", "-9999999", "1000001", "-1000001", "1000000"];
+    match random.below(16) {
+        0 | 1 => names[a] = random.of(&bad_names).into(),
+        2 => names[a] = names[b].clone(),
+        3 | 4 => cells[a][b] = random.of(&bad_values).into(),
+        5 => {
+            cells[a][b] = random.of(&far_values).into();
+            cells[b][a] = cells[a][b].clone();
+        }
+        6 => cells[a][b] = random.between(-9, 9).to_string(),
+        7 => cells[a].insert(b, "5".into()),
+        8 => drop(cells[a].remove(b)),
+        9 => drop(cells.remove(a)),
+        10 => cells.insert(a, cells[b].clone()),
+        11 => names.push(format!("Q{}", random.below(1000))),
+        12 => {
+            let mut sheet = table.sheet();
+            sheet.pop();
+            return sheet;
+        }
+        13 => return random.of(&[vec![], vec![b'\n'], b"A".to_vec(), b"A\n".to_vec()]),
+        14 => {
+            // The greatest length and one more.
+            let mut sheet = random.of(&[table.sheet(), vec![]]);
+            let fill = random.of(b"\n A0-x");
+            sheet.resize(random.of(&[12_288, 12_289]), fill);
+            return sheet;
+        }
+        _ => return crowd(random).sheet(),
+    }
+    written(&names, &cells)
+}
+
+/// 32 entries or 33.
+fn crowd(random: &mut Random) -> Table {
+    let n = random.of(&[32, 33]);
+    scattered(random, n, true)
+}
+
+/// A good call made to meet chosen lines of the table, each at a place of its
+/// own, and the answer it must get: minus the least number chosen.
+pub fn flawed(random: &mut Random) -> (Case, i64) {
+    let mut chosen = [false; 16];
+    for _ in 0..random.of(&[1, 1, 2, 3, 6]) {
+        chosen[random.of(&[1, 2, 3, 4, 5, 6, 7, 8, 9, 11, 12, 14])] = true;
+    }
+    let n = if chosen[6] { 33 } else { 4 + random.below(29) };
+    let mut table = scattered(random, n, true);
+    (0..n).for_each(|a| table.set(a, a, 0));
+
+    if chosen[11] {
+        table.set(1, 1, random.of(&[1_000_001, 9_999_999, -1_000_001]));
+    }
+    if chosen[12] {
+        match random.one_in(2) {
+            true => table.set(2, 2, random.of(&[1, -1, 1_000_000])),
+            false => table.set(3, 2, random.of(&[-1, -1_000_000])),
+        }
+    }
+    let (mut names, mut cells) = (table.names.clone(), table.cells());
+    if chosen[4] {
+        names[0] = random
+            .of(&["ABCDEFGHI", "1", "-", "", "A-B", "0A", "A "])
+            .into();
+    }
+    if chosen[5] {
+        names[2] = names[1].clone();
+    }
+    if chosen[8] {
+        cells[0][0] = random
+            .of(&["-0", "007", "00000000", "", "-", "0 0", "A", "0 "])
+            .into();
+    }
+    if chosen[9] {
+        cells[1][0] = (table.values[0][1] + random.of(&[1, -1])).to_string();
+    }
+    let mut sheet = written(&names, &cells);
+    if chosen[7] {
+        match random.below(4) {
+            0 => drop(sheet.pop()),
+            1 => sheet.push(b'\n'),
+            2 => *sheet.last_mut().expect("a written sheet has bytes") = b' ',
+            _ => sheet.extend_from_slice(b"0\n"),
+        }
+    }
+    if chosen[3] {
+        let at = random.below(sheet.len() + 1);
+        sheet.insert(
+            at,
+            random.of(&[
+                b'a', b'z', 0, b'\r', b'\t', 255, b'+', b'@', b'[', b'/', b':',
+            ]),
+        );
+    }
+    if chosen[2] {
+        let bytes = random.of(&[0, 12_289, 20_000]);
+        sheet.resize(bytes, b'0');
+    }
+    let kind = match chosen[1] {
+        true => random.of(&[0, 4, -1, i32::MIN, i32::MAX]),
+        false => 3,
+    };
+    let room = match chosen[14] {
+        true => random.below(15),
+        false => 4096,
+    };
+    let least = (1..16)
+        .find(|&number| chosen[number])
+        .expect("one is chosen");
+    (Case { kind, sheet, room }, -(least as i64))
+}

@@ -1,0 +1,14 @@
+//! A second engine for the isolated groups and splits of a score sheet
+//! (document 01), and what is needed to hold another engine against it.
+//!
+//! * `engine`: the calls, each by the definitions.
+//! * `generate`: sheets, good and damaged, from a seed.
+//! * `compare`: another engine's answers and bytes against these.
+//! * `selfcheck`: this engine against itself, by other routes.
+
+#![forbid(unsafe_code)]
+
+pub mod compare;
+pub mod engine;
+pub mod generate;
+pub mod selfcheck;

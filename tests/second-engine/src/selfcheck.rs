@@ -1,0 +1,359 @@
+//! This engine against itself: the two ways of finding sets, reorderings, the
+//! theorems of 003 that lead to the same listing by another route, and refusals
+//! against sheets made to meet them.
+
+use crate::compare::{Tally, SHEET_REFUSALS};
+use crate::engine::{self, Method, Scores, Way};
+use crate::generate::{self, Random, Table};
+use std::fmt;
+
+/// What a run went through.
+#[derive(Clone, Debug, Default)]
+pub struct Report {
+    /// Listings found both ways, and their lines, by kind.
+    pub both_ways: [u64; 4],
+    pub both_ways_lines: [u64; 4],
+    /// Listings of 13 to 32 entries checked by another route, and their lines.
+    pub large: [u64; 4],
+    pub large_lines: [u64; 4],
+    /// Clean groups met that no strong listing has.
+    pub clean_not_strong: u64,
+    pub reorderings: u64,
+    pub tally: Tally,
+}
+
+impl fmt::Display for Report {
+    fn fmt(&self, f: &mut fmt::Formatter) -> fmt::Result {
+        for kind in 1..4 {
+            writeln!(
+                f,
+                "kind {kind}: {} listings both ways, {} lines; {} of 13 to 32 entries by another route, {} lines",
+                self.both_ways[kind],
+                self.both_ways_lines[kind],
+                self.large[kind],
+                self.large_lines[kind],
+            )?;
+        }
+        writeln!(f, "clean groups not strong: {}", self.clean_not_strong)?;
+        writeln!(f, "reorderings: {}", self.reorderings)?;
+        writeln!(
+            f,
+            "calls: {}, listings: {}",
+            self.tally.calls(),
+            self.tally.listings
+        )?;
+        for number in SHEET_REFUSALS {
+            writeln!(f, "refused {number}: {}", self.tally.refusals[number])?;
+        }
+        Ok(())
+    }
+}
+
+/// So many rounds; the first disagreement ends the run.
+pub fn run(rounds: u64, seed: u64) -> Result<Report, String> {
+    let mut random = Random::new(seed);
+    let mut report = Report::default();
+    for _ in 0..rounds {
+        round(&mut random, &mut report)?;
+    }
+    match report.tally.missed() {
+        missed if missed.is_empty() => Ok(report),
+        missed => Err(format!("{report}refusals never met: {missed:?}")),
+    }
+}
+
+/// Calls, good and bad, and a few sheets of each sort.
+pub fn round(random: &mut Random, report: &mut Report) -> Result<(), String> {
+    for _ in 0..40 {
+        let case = generate::case(random);
+        let mut room = vec![0; case.room];
+        let answer = engine::listing(case.kind, &case.sheet, &mut room);
+        report.tally.count(answer);
+        let (case, wanted) = generate::flawed(random);
+        let mut room = vec![0; case.room];
+        let answer = engine::listing(case.kind, &case.sheet, &mut room);
+        report.tally.count(answer);
+        demand(answer == wanted, || {
+            format!("answer {answer}, wanted {wanted}: {case:?}")
+        })?;
+    }
+    for _ in 0..8 {
+        let most = if random.one_in(200) { 14 } else { 12 };
+        let n = 1 + random.below(most);
+        for (kind, table) in tables(random, n) {
+            both_ways(kind, &table, report)?;
+        }
+    }
+    let n = 1 + random.below(32);
+    for (kind, table) in tables(random, n) {
+        another_route(random, kind, &table, report)?;
+        reordering(random, kind, &table)?;
+        report.reorderings += 1;
+    }
+    Ok(())
+}
+
+fn tables(random: &mut Random, n: usize) -> [(i32, Table); 3] {
+    let scores = generate::scores(random, n);
+    let distances = generate::distances(random, n);
+    [(1, scores.clone()), (2, scores), (3, distances)]
+}
+
+fn demand(holds: bool, message: impl FnOnce() -> String) -> Result<(), String> {
+    if holds {
+        Ok(())
+    } else {
+        Err(message())
+    }
+}
+
+fn show(kind: i32, table: &Table) -> String {
+    format!(
+        "kind {kind}, sheet:\n{}",
+        String::from_utf8_lossy(&table.sheet())
+    )
+}
+
+/// Every set against the candidates.
+fn both_ways(kind: i32, table: &Table, report: &mut Report) -> Result<(), String> {
+    let (n, pairs) = (table.entries(), table.pairs());
+    let s = Scores::new(n, &pairs);
+    let every = engine::listed(kind, s, Way::EverySet);
+    let candidates = engine::listed(kind, s, Way::Candidates);
+    demand(every == candidates, || {
+        format!(
+            "every set: {every:x?}, candidates: {candidates:x?}; {}",
+            show(kind, table)
+        )
+    })?;
+    demand(every.len() <= most_lines(kind, n), || {
+        format!("{} lines; {}", every.len(), show(kind, table))
+    })?;
+    if kind == 2 {
+        let strong = engine::listed(1, s, Way::EverySet);
+        let is_strong = |set| strong.iter().any(|line| line.0 == set);
+        report.clean_not_strong += every.iter().filter(|line| !is_strong(line.0)).count() as u64;
+    }
+    report.both_ways[kind as usize] += 1;
+    report.both_ways_lines[kind as usize] += every.len() as u64;
+    Ok(())
+}
+
+fn most_lines(kind: i32, n: usize) -> usize {
+    match kind {
+        1 => 2 * n - 2,
+        2 => n.saturating_sub(2),
+        _ => (2 * n).saturating_sub(3),
+    }
+}
+
+/// The listing against one that is found through a linkage tree.
+fn another_route(
+    random: &mut Random,
+    kind: i32,
+    table: &Table,
+    report: &mut Report,
+) -> Result<(), String> {
+    let wanted = match kind {
+        1 => through_linkage(random, kind, Method::Single, table)?,
+        2 => through_linkage(random, kind, Method::Average, table)?,
+        _ => through_anchors(random, table)?,
+    };
+    let found = read_listing(kind, table)?;
+    demand(found == wanted, || {
+        format!("{found:x?}, wanted {wanted:x?}; {}", show(kind, table))
+    })?;
+    if table.entries() > 12 {
+        report.large[kind as usize] += 1;
+        report.large_lines[kind as usize] += found.len() as u64;
+    }
+    Ok(())
+}
+
+/// Every strong group is a block of every single linkage tree, every clean
+/// group one of every average linkage tree (003, theorems 2.3 and 2.4).
+fn through_linkage(
+    random: &mut Random,
+    kind: i32,
+    method: Method,
+    table: &Table,
+) -> Result<Vec<(u32, i64)>, String> {
+    let (n, pairs) = (table.entries(), table.pairs());
+    let s = Scores::new(n, &pairs);
+    let blocks = blocks(random, method, n, &pairs)?;
+    let indices = blocks
+        .into_iter()
+        .filter_map(|block| Some((block, engine::index(kind, s, whole(n), block)?)));
+    Ok(indices.filter(|&(_, index)| index >= 1).collect())
+}
+
+/// A side without the first entry is a strong group under the scores anchored
+/// there, and the index of the split is the least strong index over all anchors
+/// on the other side (003, theorem 3.3).
+fn through_anchors(random: &mut Random, table: &Table) -> Result<Vec<(u32, i64)>, String> {
+    let (n, distances) = (table.entries(), table.pairs());
+    let anchored: Vec<Vec<i32>> = (0..n)
+        .map(|anchor| anchored(&distances, n, anchor))
+        .collect::<Result<_, _>>()?;
+    let least = |side: u32| {
+        let beyond = (0..n).filter(|anchor| side >> anchor & 1 == 0);
+        beyond
+            .map(|x| engine::strong_index(Scores::new(n, &anchored[x]), whole(n), side))
+            .min()
+    };
+    let mut sides = blocks(random, Method::Single, n, &anchored[0])?;
+    sides.retain(|side| side & 1 == 0);
+    let indices = sides
+        .into_iter()
+        .filter_map(|side| Some((side, least(side)?)));
+    Ok(indices.filter(|&(_, index)| index >= 1).collect())
+}
+
+/// The blocks of a tree, ties broken at random, by size, then by set.
+fn blocks(
+    random: &mut Random,
+    method: Method,
+    n: usize,
+    pairs: &[i32],
+) -> Result<Vec<u32>, String> {
+    let merged = engine::tree(method, Scores::new(n, pairs), |ties| random.below(ties));
+    demand(engine::is_tree(method, n, pairs, &merged), || {
+        format!("{method:?}, not a tree: {merged:x?} of {pairs:?}")
+    })?;
+    let mut blocks: Vec<u32> = (0..n).map(|a| 1 << a).chain(merged).collect();
+    blocks.sort_unstable_by_key(|block| (block.count_ones(), *block));
+    Ok(blocks)
+}
+
+/// The anchored scores, once the way back has led to the distances again.
+fn anchored(distances: &[i32], n: usize, anchor: usize) -> Result<Vec<i32>, String> {
+    let mut scores = vec![0; distances.len()];
+    let mut back = vec![0; distances.len()];
+    engine::anchored(n, distances, anchor, &mut scores)
+        .and_then(|_| engine::way_back(n, &scores, anchor, &mut back))
+        .map_err(|number| format!("anchored scores or way back refused {number}"))?;
+    demand(back == distances, || {
+        format!("way back from {anchor}: {back:?}, wanted {distances:?}")
+    })?;
+    Ok(scores)
+}
+
+fn whole(n: usize) -> u32 {
+    ((1u64 << n) - 1) as u32
+}
+
+/// A set A has a line exactly when the set of all p(a) has one in the reordered
+/// sheet, with an equal index; in kind 3 a side may stand for the other.
+fn reordering(random: &mut Random, kind: i32, table: &Table) -> Result<(), String> {
+    let n = table.entries();
+    let p = generate::order(random, n);
+    let image = |set: u32| {
+        let moved = (0..n).filter(|a| set >> a & 1 == 1);
+        let set = moved.fold(0, |set, a| set | 1 << p[a]);
+        if kind == 3 && set & 1 == 1 {
+            whole(n) & !set
+        } else {
+            set
+        }
+    };
+    let old = read_listing(kind, table)?;
+    let mut wanted: Vec<(u32, i64)> = old
+        .iter()
+        .map(|&(set, index)| (image(set), index))
+        .collect();
+    wanted.sort_unstable_by_key(|&(set, _)| (set.count_ones(), set));
+    let new = read_listing(kind, &table.reordered(&p))?;
+    demand(new == wanted, || {
+        format!("reordered by {p:?}: {new:x?}; {}", show(kind, table))
+    })
+}
+
+/// The sets and indices of a listing, read back from its bytes.
+fn read_listing(kind: i32, table: &Table) -> Result<Vec<(u32, i64)>, String> {
+    let mut bytes = vec![0; 4096];
+    let answer = engine::listing(kind, &table.sheet(), &mut bytes);
+    let length =
+        usize::try_from(answer).map_err(|_| format!("answer {answer}; {}", show(kind, table)))?;
+    let text = String::from_utf8_lossy(&bytes[..length]).into_owned();
+    parse_listing(&text).ok_or_else(|| format!("listing {text:?}; {}", show(kind, table)))
+}
+
+fn parse_listing(text: &str) -> Option<Vec<(u32, i64)>> {
+    let lines = text
+        .strip_prefix("set size index\n")?
+        .split_terminator('\n');
+    lines
+        .map(|line| {
+            let [set, size, index] = line.split(' ').collect::<Vec<_>>().try_into().ok()?;
+            let digits = u32::from_str_radix(set, 16).ok()?;
+            let sized = size.parse() == Ok(digits.count_ones());
+            (set.len() == 8 && sized).then_some((digits, index.parse().ok()?))
+        })
+        .collect()
+}
+
+#[cfg(test)]
+mod tests {
+    use super::*;
+
+    fn many_both_ways(seed: u64, sheets: usize, sizes: std::ops::RangeInclusive<usize>) -> Report {
+        let mut random = Random::new(seed);
+        let mut report = Report::default();
+        for _ in 0..sheets {
+            let n = random.between(*sizes.start() as i64, *sizes.end() as i64) as usize;
+            for (kind, table) in tables(&mut random, n) {
+                both_ways(kind, &table, &mut report).unwrap();
+            }
+        }
+        report
+    }
+
+    #[test]
+    fn both_ways_agree() {
+        let report = many_both_ways(1, 6_000, 1..=9);
+        for kind in 1..4 {
+            assert!(report.both_ways_lines[kind] > 5_000, "{report}");
+        }
+        assert!(report.clean_not_strong > 1_000, "{report}");
+    }
+
+    #[test]
+    fn both_ways_agree_at_12_and_beyond() {
+        let report = many_both_ways(2, 250, 10..=12);
+        assert!(report.clean_not_strong > 50, "{report}");
+        many_both_ways(3, 12, 13..=14);
+    }
+
+    #[test]
+    fn rounds_hold() {
+        let mut random = Random::new(4);
+        let mut report = Report::default();
+        for _ in 0..60 {
+            round(&mut random, &mut report).unwrap();
+        }
+        assert_eq!(report.tally.missed(), [], "{report}");
+        for kind in 1..4 {
+            assert!(report.large_lines[kind] > 300, "{report}");
+        }
+        for number in SHEET_REFUSALS {
+            assert!(report.tally.refusals[number] > 100, "{report}");
+        }
+    }
+
+    #[test]
+    fn a_listing_is_read_back() {
+        assert_eq!(
+            parse_listing("set size index\n00000003 2 5\n"),
+            Some(vec![(3, 5)])
+        );
+        for wrong in [
+            "set size index",
+            "set size index\n3 2 5\n",
+            "set size index\n00000003 1 5\n",
+            "set size index\n00000003 2  5\n",
+            "set size index\n00000003 2 5 \n",
+        ] {
+            assert_eq!(parse_listing(wrong), None);
+        }
+    }
+}

@@ -1,0 +1,231 @@
+//! The calls without a C face: names, numbers, linkage, anchored scores.
+
+use second_engine::engine::{
+    anchored, is_tree, linkage, linkage_refusal, name, numbers, way_back, Method,
+};
+
+#[test]
+fn names_are_parts_of_the_sheet() {
+    let sheet = b"AB C3 D\n0 1 2\n1 0 3\n2 3 0\n";
+    for (entry, (start, end)) in [(0, 2), (3, 5), (6, 7)].into_iter().enumerate() {
+        assert!(std::ptr::eq(name(sheet, entry), &sheet[start..end]));
+    }
+    assert_eq!(name(sheet, 3), b"");
+    assert_eq!(name(sheet, usize::MAX), b"");
+    assert_eq!(name(b"", 0), b"");
+    assert_eq!(name(b"A B\n0 1\n2 0\n", 0), b"");
+    // Checks 11 and 12 are none of its business.
+    assert_eq!(name(b"A\n9999999\n", 0), b"A");
+    assert_eq!(name(b"A\n-1\n", 0), b"A");
+}
+
+#[test]
+fn numbers_refuse_in_order() {
+    let call = |kind, n, pairs: &[i32], slots: (usize, usize)| {
+        let (mut sets, mut indices) = (vec![99; slots.0], vec![99; slots.1]);
+        let answer = numbers(kind, n, pairs, &mut sets, &mut indices);
+        if answer.is_err() {
+            assert!(sets.iter().all(|&set| set == 99));
+            assert!(indices.iter().all(|&index| index == 99));
+        }
+        answer
+    };
+    let far = [0, 1_000_001, 0];
+    assert_eq!(call(0, 0, &[], (0, 0)), Err(1));
+    assert_eq!(call(1, 0, &[], (0, 0)), Err(6));
+    assert_eq!(call(1, 33, &[0; 561], (66, 66)), Err(6));
+    assert_eq!(call(1, usize::MAX, &[], (0, 0)), Err(6));
+    assert_eq!(call(1, 2, &[1_000_001; 4], (0, 0)), Err(10));
+    assert_eq!(call(1, 2, &[0; 2], (4, 4)), Err(10));
+    assert_eq!(call(3, 2, &far, (0, 0)), Err(11));
+    assert_eq!(call(3, 2, &[0, -1, 0], (0, 0)), Err(12));
+    assert_eq!(call(3, 2, &[0, 1, 1], (0, 0)), Err(12));
+    assert_eq!(call(1, 2, &[0, -1, 0], (3, 4)), Err(13));
+    assert_eq!(call(1, 2, &[0, -1, 0], (4, 3)), Err(13));
+    assert_eq!(call(1, 2, &[0, -1, 0], (4, 4)), Ok(2));
+    assert_eq!(call(3, 2, &[0, 1, 0], (4, 4)), Ok(1));
+    assert_eq!(call(2, 32, &[0; 528], (64, 64)), Ok(0));
+}
+
+/// Four entries in a row: s(0,1) = 9, s(1,2) = 8, s(2,3) = 9, others 0.
+const ROW: [i32; 10] = [0, 9, 0, 0, 8, 0, 0, 0, 9, 0];
+
+#[test]
+fn single_linkage_trees() {
+    let is = |merged: &[u32]| is_tree(Method::Single, 4, &ROW, merged);
+    assert!(is(&[0b0011, 0b1100, 0b1111]));
+    assert!(is(&[0b1100, 0b0011, 0b1111]));
+    assert!(!is(&[0b0110, 0b0111, 0b1111]), "8 before 9");
+    assert!(!is(&[0b0011, 0b0111, 0b1111]), "8 before 9");
+    assert!(!is(&[0b0011, 0b1100]), "two blocks are left");
+    assert!(!is(&[0b0011, 0b1100, 0b1111, 0b1111]), "one merge too many");
+    assert!(!is(&[0b0011, 0b0011, 0b1111]), "not a merge");
+    assert!(!is(&[0b0011, 0b1111, 0b1111]), "three blocks at once");
+    assert!(!is(&[0b0011, 0b11100, 0b11111]), "no entry 4");
+    assert!(is_tree(Method::Single, 1, &[-7], &[]));
+    assert!(!is_tree(Method::Single, 1, &[-7], &[1]));
+}
+
+#[test]
+fn average_linkage_trees() {
+    // Links of {0,1}: with 2, 7/2; of {2,3}: 3/1. Whole numbers would tie.
+    let pairs = [0, 9, 0, 4, 3, 0, 0, 0, 3, 0];
+    let is = |merged: &[u32]| is_tree(Method::Average, 4, &pairs, merged);
+    assert!(is(&[0b0011, 0b0111, 0b1111]));
+    assert!(!is(&[0b0011, 1 << 2 | 1 << 3, 0b1111]));
+    // 6/2 and 3/1 tie: both go.
+    let pairs = [0, 9, 0, 4, 2, 0, 0, 0, 3, 0];
+    let is = |merged: &[u32]| is_tree(Method::Average, 4, &pairs, merged);
+    assert!(is(&[0b0011, 0b0111, 0b1111]));
+    assert!(is(&[0b0011, 0b1100, 0b1111]));
+    // -3/2 is below -1, and above -2.
+    let pairs = [0, 9, 0, -1, -2, 0, -9, -9, -1, 0];
+    let is = |merged: &[u32]| is_tree(Method::Average, 4, &pairs, merged);
+    assert!(!is(&[0b0011, 0b0111, 0b1111]));
+    assert!(is(&[0b0011, 0b1100, 0b1111]));
+    let pairs = [0, 9, 0, -1, -2, 0, -9, -9, -2, 0];
+    let is = |merged: &[u32]| is_tree(Method::Average, 4, &pairs, merged);
+    assert!(is(&[0b0011, 0b0111, 0b1111]));
+    assert!(!is(&[0b0011, 0b1100, 0b1111]));
+}
+
+#[test]
+fn averages_closer_than_a_float() {
+    // 32 entries: 0 to 15 merge first, then 16 to 30. Their links with 31 are
+    // 15,999,999/16 and 14,999,999/15, and the first is greater by 1/240.
+    let n = 32;
+    let mut pairs = vec![0; n * (n + 1) / 2];
+    let mut set = |a: usize, b: usize, value| pairs[a * (a + 1) / 2 + b] = value;
+    for a in 1..16 {
+        (0..a).for_each(|b| set(a, b, 1_000_000));
+    }
+    for a in 17..31 {
+        (16..a).for_each(|b| set(a, b, 1_000_000));
+    }
+    (0..31).for_each(|b| set(31, b, 1_000_000));
+    set(31, 0, 999_999);
+    set(31, 16, 999_999);
+    let start: Vec<u32> = (2..=16)
+        .map(|k| (1 << k) - 1)
+        .chain((2..=15).map(|k| ((1 << k) - 1) << 16))
+        .collect();
+    let after = |block: u32| {
+        let mut merged = start.clone();
+        merged.extend([block, u32::MAX]);
+        // 31 joins before the last two blocks, whose link is 0.
+        is_tree(Method::Average, n, &pairs, &merged)
+    };
+    // 999,999 + 15/16 and 999,999 + 14/15.
+    assert!(after(1 << 31 | 0xffff));
+    assert!(!after(1 << 31 | 0x7fff_0000));
+}
+
+#[test]
+fn own_scores_play_no_part_in_linkage() {
+    let mut pairs = ROW;
+    for own in [0, 2, 5, 9] {
+        pairs[own] = 1_000_000;
+    }
+    for method in [Method::Single, Method::Average] {
+        assert!(is_tree(method, 4, &pairs, &[0b0011, 0b1100, 0b1111]));
+    }
+}
+
+#[test]
+fn linkage_writes_a_tree() {
+    for method in [Method::Single, Method::Average] {
+        for first in [0, 1] {
+            let mut merged = [77; 5];
+            let answer = linkage(method, 4, &ROW, &mut merged, |ties| first % ties);
+            assert_eq!(answer, Ok(3));
+            assert!(is_tree(method, 4, &ROW, &merged[..3]));
+            assert_eq!(merged[3..], [77, 77]);
+        }
+    }
+}
+
+#[test]
+fn linkage_refuses_in_order() {
+    assert_eq!(linkage_refusal(0, &[], 0), Err(6));
+    assert_eq!(linkage_refusal(33, &[0; 561], 32), Err(6));
+    assert_eq!(linkage_refusal(2, &[1_000_001; 2], 0), Err(10));
+    assert_eq!(linkage_refusal(2, &[1_000_001, 0, 0], 0), Err(11));
+    assert_eq!(linkage_refusal(2, &[0; 3], 0), Err(15));
+    assert_eq!(linkage_refusal(2, &[0; 3], 1), Ok(()));
+    assert_eq!(linkage_refusal(1, &[0], 0), Ok(()));
+    let mut merged = [77; 2];
+    assert_eq!(
+        linkage(Method::Single, 4, &ROW, &mut merged, |_| 0),
+        Err(15)
+    );
+    assert_eq!(merged, [77; 2]);
+}
+
+/// d(0,1) = 5, d(0,2) = 3, d(1,2) = 4.
+const THREE: [i32; 6] = [0, 5, 0, 3, 4, 0];
+
+#[test]
+fn anchored_scores() {
+    let mut scores = [77; 7];
+    assert_eq!(anchored(3, &THREE, 0, &mut scores), Ok(6));
+    assert_eq!(scores, [0, 0, 10, 0, 4, 6, 77]);
+    assert_eq!(anchored(3, &THREE, 2, &mut scores), Ok(6));
+    assert_eq!(scores, [6, 2, 8, 0, 0, 0, 77]);
+}
+
+#[test]
+fn anchored_scores_refuse_in_order() {
+    let call = |n, pairs: &[i32], anchor, slots| {
+        let mut scores = vec![77; slots];
+        let answer = anchored(n, pairs, anchor, &mut scores);
+        assert!(answer.is_ok() || scores.iter().all(|&score| score == 77));
+        answer
+    };
+    assert_eq!(call(0, &[], 0, 0), Err(6));
+    assert_eq!(call(33, &[0; 561], 0, 561), Err(6));
+    assert_eq!(call(3, &THREE[..5], 3, 0), Err(10));
+    assert_eq!(call(2, &[1, -1_000_001, 0], 2, 0), Err(11));
+    assert_eq!(call(2, &[0, -1, 0], 2, 0), Err(12));
+    assert_eq!(call(2, &[0, 1, -1], 2, 0), Err(12));
+    assert_eq!(call(2, &[1, 1, 0], 2, 0), Err(12));
+    assert_eq!(call(3, &THREE, 3, 6), Err(15));
+    assert_eq!(call(3, &THREE, 0, 5), Err(15));
+    assert_eq!(call(3, &THREE, 0, 6), Ok(6));
+}
+
+#[test]
+fn the_way_back() {
+    let call = |n, scores: &[i32], anchor, slots| {
+        let mut distances = vec![77; slots];
+        let answer = way_back(n, scores, anchor, &mut distances);
+        assert!(answer.is_ok() || distances.iter().all(|&d| d == 77));
+        (answer, distances)
+    };
+    let refusal = |scores: &[i32]| call(3, scores, 0, 6).0;
+    let (answer, distances) = call(3, &[0, 0, 10, 0, 4, 6], 0, 7);
+    assert_eq!(answer, Ok(6));
+    assert_eq!(distances, [0, 5, 0, 3, 4, 0, 77]);
+
+    assert_eq!(call(0, &[], 0, 0).0, Err(6));
+    assert_eq!(call(33, &[0; 561], 0, 561).0, Err(6));
+    assert_eq!(call(3, &[0; 5], 3, 0).0, Err(10));
+    assert_eq!(call(3, &[0; 6], 3, 6).0, Err(15));
+    assert_eq!(call(3, &[0; 6], 0, 5).0, Err(15));
+
+    assert_eq!(refusal(&[0, 0, 11, 0, 4, 6]), Err(15), "odd own score");
+    assert_eq!(refusal(&[2, 0, 10, 0, 4, 6]), Err(15), "own score of 0");
+    assert_eq!(refusal(&[0, 2, 10, 0, 4, 6]), Err(15), "score with 0");
+    assert_eq!(refusal(&[0, 0, -2, 0, -1, 0]), Err(15), "d(0,1) = -1");
+    assert_eq!(refusal(&[0, 0, 10, 0, 9, 6]), Err(15), "d(1,2) = -1");
+    assert_eq!(refusal(&[0, 0, 10, 0, 8, 6]), Ok(6), "d(1,2) = 0");
+    let most = 2_000_000;
+    assert_eq!(refusal(&[0, 0, most, 0, 1_000_000, most]), Ok(6));
+    assert_eq!(refusal(&[0, 0, most, 0, 999_999, most]), Err(15));
+    assert_eq!(refusal(&[0, 0, most + 2, 0, most, most]), Err(15));
+    assert_eq!(refusal(&[0, 0, 0, 0, -1_000_000, 0]), Ok(6));
+    assert_eq!(refusal(&[0, 0, 0, 0, -1_000_001, 0]), Err(15));
+    let (far, low) = (i32::MAX - 1, i32::MIN);
+    assert_eq!(refusal(&[0, 0, far, 0, far, far]), Err(15));
+    assert_eq!(refusal(&[0, 0, far, 0, low, far]), Err(15));
+    assert_eq!(refusal(&[low, low, low, low, low, low]), Err(15));
+}
