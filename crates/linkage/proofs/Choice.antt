@@ -4,22 +4,20 @@ use mathlib.Core.Bool.{Bool, true, false}
 use mathlib.Core.Logic.{_≢_}
 use mathlib.Core.List.{List}
 use Prim.Native.Nat.{ℕ, _+_, _*_, _^_, _≤_, _<_}
-use native.Mathlib.Nat.{lt-of-lt-of-le}
 use native.Mathlib.Decide.{ℕ-discrete, decLt}
 use native.Mathlib.Omega.{arith}
 use lib.IntN.{ℤ}
 use lib.ListN.{length, getD, set}
 use lib.Seq.{getD-set-same, getD-set-other}
-use Rattle.lists.specs.Lists.{_∈_}
 use Rattle.lists.proofs.Lists.{getD-in}
-use Rattle.sets.specs.Sets.{_∋_, size}
+use Rattle.sets.specs.Sets.{_∋_}
 use Rattle.sets.proofs.Sets.{member-size, size-le}
 use Rattle.sets.proofs.Sizes.{size-wide}
 use Rattle.clusters.specs.PairList.{Similarity, Symmetric}
 use Rattle.clusters.specs.Linkage.{Quotient, _≼_, link, Greatest}
 use Rattle.clusters.proofs.Blocks.{Partition}
 use Rattle.clusters.proofs.Links.{link-symm}
-use Rattle.links.specs.Table.{entry, Holds, quotientAt, Weights, GreatestAt}
+use Rattle.links.specs.Table.{Holds, quotientAt, Weights, GreatestAt}
 use Rattle.linkage.specs.Blocks.{linkageOf}
 use Rattle.linkage.specs.Steps.{weight, Weighed}
 use Rattle.linkage.proofs.Places.{place-of, differ, some-at}

@@ -4,3 +4,4 @@ pub mod Places
 pub mod Updates
 pub mod Choice
 pub mod Runs
+pub mod Answered

@@ -1,18 +1,18 @@
 -- The blocks as the code holds them: what the stores of a merge leave, and that it is the merge of the two blocks, in another order.
-use mathlib.Core.Path.{_≡_, refl, sym, ap, _∙_}
+use mathlib.Core.Path.{_≡_, sym, ap, _∙_}
 use mathlib.Core.Logic.{_≢_}
-use mathlib.Core.List.{List, [], _∷_, _++_, map-append}
+use mathlib.Core.List.{List, [], _∷_, map-append}
 use Prim.Native.Nat.{ℕ, zero, suc, _+_, _-_, _^_, _<_, _≤_}
 use native.Mathlib.Decide.{ℕ-discrete}
 use native.Mathlib.Numerals.{add-one}
 use native.Mathlib.Omega.{arith}
-use lib.IntN.{ℤ, pos, _+ℤ_}
-use lib.ListN.{length, getD, take, drop, set, length-take, length-set}
+use lib.IntN.{ℤ, _+ℤ_}
+use lib.ListN.{length, getD, take, set, length-set}
 use lib.Seq.{getD-take, take-set-lt, take-take, take-all, take-suc, take-suc-set, getD-set-same, getD-set-other, length-take-le}
-use Rattle.lists.specs.Lists.{_∈_, below}
+use Rattle.lists.specs.Lists.{below}
 use Rattle.lists.proofs.Lists.{getD-in}
 use Rattle.integers.specs.Integers.{sumOf}
-use Rattle.integers.proofs.Linear.{up, dn, zarith, +at}
+use Rattle.integers.proofs.Linear.{zarith, +at}
 use Rattle.integers.proofs.Sums.{sum-snoc}
 use Rattle.sets.specs.Sets.{_∪_}
 use Rattle.clusters.specs.Linkage.{merged, singles}

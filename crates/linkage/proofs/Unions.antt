@@ -6,7 +6,7 @@ use mathlib.Core.List.{List, [], _∷_, List·Memᴰ·head, List·Memᴰ·tail}
 use Prim.Native.Nat.{ℕ, _+_, _*_, _^_, _≤_, _<_}
 use native.Mathlib.Nat.{mul-le-mul}
 use native.Mathlib.Omega.{arith}
-use lib.Dec.{T, eqb, eqb→eq, lit≤}
+use lib.Dec.{eqb, eqb→eq, lit≤}
 use lib.IntN.{ℤ, pos, _+ℤ_, +ℤ-idl, +ℤ-idr}
 use lib.Signed.{_≤ℤ_}
 use lib.ListN.{length}
@@ -22,7 +22,7 @@ use Rattle.integers.proofs.Sums.{sum-cong, sum-add, sum-keep, sum-one}
 use Rattle.sets.specs.Sets.{has, _∋_, _∌_, members, size, _∪_}
 use Rattle.sets.proofs.Sets.{has-yes, yes-has, no-has, in-or-out, clash, ∪-left, ∪-right, ∪-cases, one-in, one-only, of-members, size-le}
 use Rattle.clusters.specs.PairList.{Similarity}
-use Rattle.clusters.specs.Linkage.{between, Linkage, single, average, link}
+use Rattle.clusters.specs.Linkage.{between, single, link}
 use Rattle.clusters.proofs.Links.{in-between, of-between, sum-between}
 use Rattle.links.specs.Table.{joined}
 use Rattle.linkage.specs.Blocks.{linkageOf}

@@ -1,17 +1,15 @@
 -- The table of the links of the blocks left: from the single entries, and through a merge.
-use mathlib.Core.Path.{_≡_, refl, sym, ap, ap₂, _∙_}
+use mathlib.Core.Path.{_≡_, sym, ap, ap₂, _∙_}
 use mathlib.Core.Bool.{Bool}
 use mathlib.Core.Logic.{_≢_}
 use mathlib.Core.List.{List}
-use Prim.Native.Nat.{ℕ, _+_, _-_, _*_, _^_, _≤_, _<_}
+use Prim.Native.Nat.{ℕ, _-_, _^_, _≤_, _<_}
 use native.Mathlib.Decide.{ℕ-discrete}
 use native.Mathlib.Omega.{arith}
-use lib.IntN.{ℤ, pos}
+use lib.IntN.{ℤ}
 use lib.ListN.{length, getD}
-use Rattle.lists.specs.Lists.{below}
 use Rattle.lists.proofs.Lists.{getD-below}
 use Rattle.integers.specs.Range.{Within}
-use Rattle.sets.specs.Sets.{_∪_}
 use Rattle.clusters.specs.PairList.{Similarity, Symmetric}
 use Rattle.clusters.specs.Linkage.{Quotient, link, singles}
 use Rattle.clusters.proofs.Blocks.{Partition}

@@ -4,7 +4,7 @@ use mathlib.Core.Bool.{Bool, cond}
 use mathlib.Core.List.{List, _++_}
 use Prim.Native.Nat.{ℕ, _-_, _<_}
 use lib.IntN.{ℤ}
-use lib.ListN.{length, getD, drop}
+use lib.ListN.{getD, drop}
 use Rattle.sets.specs.Sets.{size}
 use Rattle.clusters.specs.PairList.{score}
 use Rattle.clusters.specs.Linkage.{Linkage, Tree, mergedBlocks}

@@ -1,12 +1,14 @@
 // The blocks of a linkage, and the linkage calls.
+use answers::Answer;
 ghost use mathlib.Core.Path.{_≡_};
 ghost use Prim.Native.Nat.{_-_, _^_, _<_, _≤_};
 ghost use lib.ListN.{length};
 ghost use Rattle.integers.specs.Range.{Bounded};
 ghost use Rattle.clusters.specs.PairList.{rowStart};
-ghost use Rattle.clusters.specs.Linkage.{singles};
+ghost use Rattle.clusters.specs.Linkage.{single, average, singles};
 ghost use Rattle.linkage.specs.Blocks.{blocksOf, mergedAt, linkageOf};
 ghost use Rattle.linkage.specs.Steps.{weight, Weighed, Merged};
+ghost use Rattle.linkage.specs.Calls.{Linked};
 
 // "The blocks of a linkage number at most 32": the first `count` of the sets.
 pub struct Blocks {
@@ -79,4 +81,39 @@ pub fn merge_all(average: bool, n: usize, pairs: &[i32], out: &mut [u32])
         out[k] = blocks.sets[i];
         k += 1;
     }
+}
+
+// The checks of a linkage call, in the table's order, and the merges.
+fn linkage(average: bool, n: usize, pairs: &[i32], blocks: &mut [u32]) -> Answer
+    ensures { λ r. ⌜ Linked (linkageOf average) n (now (pairs .entry)) (now (blocks .entry)) r (now (blocks .exit)) ⌝ }
+{
+    if n == 0 {
+        return Answer::Refused(6);
+    }
+    if 32 < n {
+        return Answer::Refused(6);
+    }
+    if !matrix::has_length(n, pairs) {
+        return Answer::Refused(10);
+    }
+    if !matrix::in_range(pairs) {
+        return Answer::Refused(11);
+    }
+    if blocks.len() < n - 1 {
+        return Answer::Refused(15);
+    }
+    merge_all(average, n, pairs, blocks);
+    Answer::Count(n - 1)
+}
+
+pub fn single_linkage(n: usize, pairs: &[i32], blocks: &mut [u32]) -> Answer
+    ensures { λ r. ⌜ Linked single n (now (pairs .entry)) (now (blocks .entry)) r (now (blocks .exit)) ⌝ }
+{
+    linkage(false, n, pairs, blocks)
+}
+
+pub fn average_linkage(n: usize, pairs: &[i32], blocks: &mut [u32]) -> Answer
+    ensures { λ r. ⌜ Linked average n (now (pairs .entry)) (now (blocks .entry)) r (now (blocks .exit)) ⌝ }
+{
+    linkage(true, n, pairs, blocks)
 }

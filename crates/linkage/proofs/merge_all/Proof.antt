@@ -1,33 +1,20 @@
-use mathlib.Core.Path.{subst}
+use mathlib.Core.Path.{_≡_, refl, sym, ap, _∙_}
 use mathlib.Core.List.{List}
-use Prim.Native.Nat.{ℕ, _-_, _^_}
-use lib.ListN.{set, getD, length-set}
+use Prim.Native.Nat.{ℕ, _-_, _+_, _≤_, _<_}
+use native.Mathlib.Omega.{arith}
+use borrow.Author.Needs.{needs}
+use lib.ListN.{length, set, getD, length-set}
 use lib.Seq.{getD-take}
-use Rattle.integers.specs.Range.{Within}
+use Rattle.clusters.specs.PairList.{score}
 use Rattle.clusters.proofs.PairList.{score-symm, score-element}
 use Rattle.clusters.proofs.Exists.{count-singles}
 use Rattle.links.specs.Table.{Small, Weights}
-use Rattle.linkage.proofs.Places.{length-mergedAt}
-use mathlib.Core.Path.{_≡_, refl, sym, ap, _∙_}
-use Prim.Native.Nat.{_+_, _≤_, _<_}
-use lib.ListN.{length}
-use Rattle.clusters.specs.PairList.{score}
-use Rattle.linkage.specs.Blocks.{blocksOf, mergedAt}
+use Rattle.linkage.specs.Blocks.{blocksOf}
 use Rattle.linkage.specs.Steps.{Weighed}
+use Rattle.linkage.proofs.Places.{length-mergedAt}
 use Rattle.linkage.proofs.Runs.{Run, run-start, run-small, run-weights, run-next, run-end}
-use borrow.Author.Needs.{needs}
-use native.Mathlib.Omega.{arith}
 use Rattle.linkage.proofs.merge_all.Statement.{statement}
 use Rattle.linkage.proofs.merge_all.Tie as tie
-use Rattle.linkage.proofs.merge_all.Reads as reads
-use Rattle.linkage.proofs.merge_all.Lts as lts
-use Rattle.linkage.proofs.Blocks.merge.Reads as merge-reads
-use Rattle.linkage.proofs.Blocks.singles.Reads as singles-reads
-use Rattle.linkage.proofs.weights.Reads as weights-reads
-use Rattle.links.proofs.fill.Reads as fill-reads
-use Rattle.links.proofs.greatest.Reads as greatest-reads
-use Rattle.links.proofs.join_rows.Reads as join-rows-reads
-use Rattle.links.proofs.move_row.Reads as move-row-reads
 
 abbrev Inv-loop : tie.InvT-loop
 Inv-loop average n pairs out₀ blocks₀ table₀ k₀ out blocks table k = (k + blocks .count ≡ n) × (1 ≤ blocks .count) × (length (blocksOf blocks) ≡ blocks .count) × (length out ≡ length out₀) × Run average n (score pairs) out₀ k (blocksOf blocks) table out
@@ -38,9 +25,12 @@ abbrev μ-loop : tie.MeasureT-loop
 start : tie.At-loop Inv-loop μ-loop → tie.Start Inv-loop μ-loop
 start s = s .before .before .before .before .before
 
--- the loop's turn that led to the store
+-- of the loop's turn that led to the store: its search, and its begin
+search-of : tie.After-out Inv-loop μ-loop → tie.After-greatest Inv-loop μ-loop
+search-of c = c .before .before .before .before .before .before
+
 turn : tie.After-out Inv-loop μ-loop → tie.In-loop Inv-loop μ-loop
-turn c = c .before .before .before .before .before .before .before .before .before .before
+turn c = search-of c .before .before .before .before
 
 short : (s : tie.At-loop Inv-loop μ-loop) → s .loop .blocks .count ≤ 32
 short s = omega (arith, s .loop .inv .0, s .before .before .before .before .before .pre .1)
@@ -60,105 +50,103 @@ weights s = let a = start s .args in run-weights (a .average) (a .n) (score (a .
 room : (c : tie.In-loop Inv-loop μ-loop) → c .before .loop .k < length (c .before .loop .out)
 room c = let l = c .before .loop in omega (arith, l .inv .0, l .inv .3, c .loop-test .taken, c .before .before .before .before .before .before .pre .4)
 
--- src/lib.rt:68:22
 singles-requires : tie.Need-singles-requires Inv-loop μ-loop
 singles-requires c κs = search needs
 
--- src/lib.rt:70:5
 fill-requires : tie.Need-fill-requires Inv-loop μ-loop
 fill-requires c κs = let s = c .before .before .before in (s .pre .1, s .pre .2, refl)
 
--- src/lib.rt:72:5
 loop-holds : tie.Need-loop-holds Inv-loop μ-loop
 loop-holds c = let s = c .before .before .before .before in
     let b = c .before .before .singles in
     (omega (arith, b .ensures .0), omega (arith, b .ensures .0), ap length (b .ensures .1) ∙ count-singles (s .args .n) ∙ sym (b .ensures .0), refl, rw (b .ensures .1) (run-start (s .args .average) (s .args .n) (score (s .args .pairs .now)) (s .args .out .now) (c .fill .ensures)))
 
--- src/lib.rt:73:17
 weights-requires : tie.Need-weights-requires Inv-loop μ-loop
 weights-requires c κs = search needs
 
--- src/lib.rt:74:13
 greatest-requires : tie.Need-greatest-requires Inv-loop μ-loop
-unfolding start turn
+unfolding start
 greatest-requires c κs = let s = c .before .before .before .before in
     (omega arith, short s, small s, weights s (c .before .before .weights .result) (c .before .before .weights .ensures))
 
--- src/lib.rt:76:9
 join-rows-requires : tie.Need-join-rows-requires Inv-loop μ-loop
-unfolding start turn
+unfolding start
 join-rows-requires c κs = let s = c .before .before .before .before .before .before in
     let g = c .before .greatest .ensures in
     (g .rising, g .inside, short s, small s)
 
--- src/lib.rt:77:25
 sub-move-row : tie.Need-sub-move-row Inv-loop μ-loop
 sub-move-row c = search needs
 
--- src/lib.rt:77:9
 move-row-requires : tie.Need-move-row-requires Inv-loop μ-loop
 move-row-requires c κs = let s = c .before .before .before .before .before .before .before .before in
     (omega (arith, c .before .before .before .greatest .ensures .inside), omega (arith, short s, c .before .before .before .greatest .ensures .inside), c .before .join-rows .ensures .size)
 
--- src/lib.rt:78:18
 merge-requires : tie.Need-merge-requires Inv-loop μ-loop
 merge-requires c κs = let s = c .before .before .before .before .before .before .before .before .before in
     let g = c .before .before .before .before .greatest .ensures in
     (g .rising, g .inside, short s)
 
--- src/lib.rt:79:18
 mul-out : tie.Need-mul-out Inv-loop μ-loop
 mul-out c = search needs
 
--- src/lib.rt:79:18
 element-copy-out-out : tie.Need-element-copy-out-out Inv-loop μ-loop
 element-copy-out-out c = let s = c .before .before .before .before .before .before .before .before .before .before in
     let g = c .before .before .before .before .before .greatest .ensures in
     omega (arith, short s, g .rising, g .inside)
 
--- src/lib.rt:79:9
 mul-out-2 : tie.Need-mul-out-2 Inv-loop μ-loop
 mul-out-2 c = search needs
 
--- src/lib.rt:79:9
 slice-write-out : tie.Need-slice-write-out Inv-loop μ-loop
-unfolding start turn
+unfolding turn search-of
 slice-write-out c = room (turn c)
 
--- src/lib.rt:80:9
 add-k : tie.Need-add-k Inv-loop μ-loop
 add-k c = search needs
 
--- src/lib.rt:72:5
 loop-less : tie.Need-loop-less Inv-loop μ-loop
-unfolding start turn
+unfolding turn search-of
 loop-less c = let t = turn c in omega (arith, t .loop-test .taken, c .before .merge .ensures .0)
 
--- src/lib.rt:72:5
-loop-again : tie.Need-loop-again Inv-loop μ-loop
-unfolding start turn
-loop-again c = let s = turn c .before in
+-- the run after the turn
+next : (c : tie.After-out Inv-loop μ-loop) → let s = turn c .before in let a = start s .args in let i = search-of c .greatest .result .i in let m = c .before .merge .result in
+    Run (a .average) (a .n) (score (a .pairs .now)) (a .out .now) (s .loop .k + 1) (blocksOf m) (c .before .before .move-row .last .1 .1 .0) (set (s .loop .out) (s .loop .k) (getD (m .sets) i 0))
+unfolding start turn search-of
+next c =
+    let s = turn c .before in
     let l = s .loop in
     let a = start s .args in
+    let g = search-of c .greatest in
+    let w = search-of c .before .before .before .weights in
     let m = c .before .merge in
-    let g = c .before .before .before .before .before .before .greatest in
-    let many = turn c .loop-test .taken in
-    let i-inside : g .result .i < m .result .count = omega (arith, m .ensures .0, g .ensures .rising, g .ensures .inside) in
-    let j-inside : g .result .j < length (blocksOf (l .blocks)) = omega (arith, g .ensures .inside, l .inv .2) in
-    let long : length (mergedAt (g .result .i) (g .result .j) (blocksOf (l .blocks))) ≡ m .result .count = length-mergedAt (g .result .i) (g .result .j) (blocksOf (l .blocks)) (g .ensures .rising) j-inside ∙ omega (arith, l .inv .2, m .ensures .0) in
-    (omega (arith, l .inv .0, m .ensures .0, many), omega (arith, m .ensures .0, many), ap length (m .ensures .1) ∙ long, length-set (l .out) (l .k) (getD (m .result .sets) (g .result .i) 0) ∙ l .inv .3,
+    let inside : g .result .i < m .result .count = omega (arith, m .ensures .0, g .ensures .rising, g .ensures .inside) in
     run-next (a .average) (a .n) (score (a .pairs .now)) (score-symm (a .pairs .now)) (l .inv .4) (start s .pre .1) (l .blocks .count) (l .inv .2)
-    (c .before .before .before .before .before .before .before .before .before .weights .result) (c .before .before .before .before .before .before .before .before .before .weights .ensures)
-    (g .ensures) (short s) (rw (← l .inv .3) (room (turn c))) (c .before .before .before .before .join-rows .ensures) (c .before .before .move-row .ensures)
-    (m .ensures .1) (sym (getD-take (m .result .count) (m .result .sets) (g .result .i) 0 i-inside)))
+    (w .result) (w .ensures) (g .ensures) (short s) (rw (← l .inv .3) (room (turn c))) (c .before .before .before .before .join-rows .ensures) (c .before .before .move-row .ensures)
+    (m .ensures .1) (sym (getD-take (m .result .count) (m .result .sets) (g .result .i) 0 inside))
 
--- src/lib.rt:64:1
+counted : (c : tie.After-out Inv-loop μ-loop) → length (blocksOf (c .before .merge .result)) ≡ c .before .merge .result .count
+unfolding start turn search-of
+counted c =
+    let bs = blocksOf (turn c .before .loop .blocks) in
+    let g = search-of c .greatest in
+    let m = c .before .merge in
+    let inside : g .result .j < length bs = omega (arith, g .ensures .inside, turn c .before .loop .inv .2) in
+    ap length (m .ensures .1) ∙ length-mergedAt (g .result .i) (g .result .j) bs (g .ensures .rising) inside ∙ omega (arith, turn c .before .loop .inv .2, m .ensures .0)
+
+loop-again : tie.Need-loop-again Inv-loop μ-loop
+unfolding start turn search-of
+loop-again c =
+    let l = turn c .before .loop in
+    let m = c .before .merge in
+    let many = turn c .loop-test .taken in
+    (omega (arith, l .inv .0, m .ensures .0, many), omega (arith, m .ensures .0, many), counted c, simp length-set (l .inv .3), next c)
+
 same-length : tie.Need-same-length Inv-loop μ-loop
 same-length c = search needs
 
--- src/lib.rt:64:1
 returns : tie.Need-returns Inv-loop μ-loop
-unfolding start turn
+unfolding start
 returns c = let s = c .before in
     let l = s .loop in
     let a = start s .args in

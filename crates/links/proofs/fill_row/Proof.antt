@@ -1,53 +1,42 @@
 use mathlib.Core.Path.{_≡_}
+use Prim.Native.Nat.{_≤_, _-_}
+use native.Mathlib.Omega.{arith}
+use borrow.Author.Needs.{needs}
 use mir.Syntax.{w64}
 use Rattle.integers.proofs.Held.{passed}
-use Rattle.matrix.proofs.Places.{score-asks}
-use Rattle.links.proofs.Rows.{written-start, written-next, written-all}
-use Prim.Native.Nat.{_≤_, _-_}
 use Rattle.clusters.specs.PairList.{score}
-use Rattle.links.specs.Table.{entry, Written}
-use borrow.Author.Needs.{needs}
-use native.Mathlib.Omega.{arith}
+use Rattle.links.specs.Table.{Written}
+use Rattle.links.proofs.Rows.{written-start, written-next, written-all, place-rises}
 use Rattle.links.proofs.fill_row.Statement.{statement}
 use Rattle.links.proofs.fill_row.Tie as tie
-use Rattle.links.proofs.fill_row.Reads as reads
-use Rattle.links.proofs.fill_row.Lts as lts
-use Rattle.links.proofs.put.Reads as put-reads
-use Rattle.matrix.proofs.score.Reads as score-reads
 
 abbrev Inv-loop : tie.InvT-loop
-Inv-loop pairs n a t₀ b₀ t b = (b ≤ a) × Written a a (score pairs a) b t₀ t
+Inv-loop pairs a t₀ b₀ t b = (b ≤ a) × Written a a (score pairs a) b t₀ t
 
 abbrev μ-loop : tie.MeasureT-loop
-μ-loop pairs n a t₀ b₀ t b = a - b
+μ-loop pairs a t₀ b₀ t b = a - b
 
--- src/lib.rt:44:5
 loop-holds : tie.Need-loop-holds Inv-loop μ-loop
-loop-holds c = (omega arith, written-start _ _ _ _ (c .pre .3))
+loop-holds c = (omega arith, written-start _ _ _ _ (c .pre .2))
 
--- src/lib.rt:45:22
 score-requires : tie.Need-score-requires Inv-loop μ-loop
 score-requires c κs = let s = c .before .before .before in
-    score-asks (s .args .pairs .now) (search needs) (s .pre .2) (search needs) (omega arith)
+    let b = c .before .before .loop .b in
+    (omega arith, omega arith, omega (arith, place-rises (s .args .a) b (omega arith)))
 
--- src/lib.rt:45:9
 put-requires : tie.Need-put-requires Inv-loop μ-loop
 put-requires c κs = search needs
 
--- src/lib.rt:44:9
 add-b : tie.Need-add-b Inv-loop μ-loop
 add-b c = search needs
 
--- src/lib.rt:44:5
 loop-less : tie.Need-loop-less Inv-loop μ-loop
 loop-less c = search needs
 
--- src/lib.rt:44:5
 loop-again : tie.Need-loop-again Inv-loop μ-loop
 loop-again c = let l = c .before .before .before .before .loop in
     (omega arith, rw (c .put .ensures) (written-next (l .inv .1) (passed w64 (c .before .score .ok) (c .before .score .ensures)) (omega arith) (omega arith)))
 
--- src/lib.rt:40:1
 returns : tie.Need-returns Inv-loop μ-loop
 returns c = let l = c .before .loop in
     let e : l .b ≡ c .before .before .args .a = omega arith in

@@ -1,13 +1,10 @@
 use Prim.Native.Nat.{_≤_, _*_, _-_}
+use native.Mathlib.Omega.{arith}
+use borrow.Author.Needs.{needs}
 use Rattle.links.specs.Table.{quotientAt, GreatestBefore}
 use Rattle.links.proofs.Search.{before-none, before-all}
-use borrow.Author.Needs.{needs}
-use native.Mathlib.Omega.{arith}
 use Rattle.links.proofs.greatest.Statement.{statement}
 use Rattle.links.proofs.greatest.Tie as tie
-use Rattle.links.proofs.greatest.Reads as reads
-use Rattle.links.proofs.greatest.Lts as lts
-use Rattle.links.proofs.greatest_in_row.Reads as greatest-in-row-reads
 
 abbrev Inv-loop : tie.InvT-loop
 Inv-loop count weights t best₀ i₀ best i = (i ≤ count) × GreatestBefore count (quotientAt weights t) (i * 32) (best .i) (best .j)
@@ -15,28 +12,22 @@ Inv-loop count weights t best₀ i₀ best i = (i ≤ count) × GreatestBefore c
 abbrev μ-loop : tie.MeasureT-loop
 μ-loop count weights t best₀ i₀ best i = count - i
 
--- src/lib.rt:148:5
 loop-holds : tie.Need-loop-holds Inv-loop μ-loop
 loop-holds c = (omega arith, before-none (omega arith) (omega arith))
 
--- src/lib.rt:149:9
 greatest-in-row-requires : tie.Need-greatest-in-row-requires Inv-loop μ-loop
 greatest-in-row-requires c κs = let s = c .before .before in
     (search needs, s .pre .1, s .pre .2, s .pre .3, c .before .loop .inv .1)
 
--- src/lib.rt:148:9
 add-i : tie.Need-add-i Inv-loop μ-loop
 add-i c = search needs
 
--- src/lib.rt:148:5
 loop-less : tie.Need-loop-less Inv-loop μ-loop
 loop-less c = search needs
 
--- src/lib.rt:148:5
 loop-again : tie.Need-loop-again Inv-loop μ-loop
 loop-again c = (omega arith, c .greatest-in-row .ensures)
 
--- src/lib.rt:143:1
 returns : tie.Need-returns Inv-loop μ-loop
 returns c = before-all (c .before .before .pre .1) (omega arith) (c .before .loop .inv .1)
 

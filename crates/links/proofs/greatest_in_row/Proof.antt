@@ -1,15 +1,11 @@
-use mathlib.Core.Path.{_≡_, sym, _∙_}
+use mathlib.Core.Path.{sym, _∙_}
 use Prim.Native.Nat.{_≤_, _<_, _*_, _+_, _-_}
-use Rattle.links.proofs.Search.{quotient-den, before-same, before-keep, before-new}
-use Prim.Native.Nat.{_≤_, _*_, _+_, _-_}
-use Rattle.links.specs.Table.{quotientAt, GreatestBefore}
-use borrow.Author.Needs.{needs}
 use native.Mathlib.Omega.{arith}
+use borrow.Author.Needs.{needs}
+use Rattle.links.specs.Table.{quotientAt, GreatestBefore}
+use Rattle.links.proofs.Search.{quotient-den, readable, before-same, before-keep, before-new}
 use Rattle.links.proofs.greatest_in_row.Statement.{statement}
 use Rattle.links.proofs.greatest_in_row.Tie as tie
-use Rattle.links.proofs.greatest_in_row.Reads as reads
-use Rattle.links.proofs.greatest_in_row.Lts as lts
-use Rattle.links.proofs.is_at_most.Reads as is-at-most-reads
 
 abbrev Inv-loop : tie.InvT-loop
 Inv-loop count weights t i best₀ j₀ best j = (i < j) × (j ≤ count) × GreatestBefore count (quotientAt weights t) (i * 32 + j) (best .i) (best .j)
@@ -17,50 +13,40 @@ Inv-loop count weights t i best₀ j₀ best j = (i < j) × (j ≤ count) × Gre
 abbrev μ-loop : tie.MeasureT-loop
 μ-loop count weights t i best₀ j₀ best j = count - j
 
--- src/lib.rt:133:14
 add-j : tie.Need-add-j Inv-loop μ-loop
 add-j c = search needs
 
--- src/lib.rt:133:5
 loop-holds : tie.Need-loop-holds Inv-loop μ-loop
 loop-holds c = (omega arith, omega arith, before-same (c .pre .4) (λ p q h l m. omega arith))
 
--- src/lib.rt:134:12
 is-at-most-requires : tie.Need-is-at-most-requires Inv-loop μ-loop
 is-at-most-requires c κs = let s = c .before .before in
-    let g = c .before .loop .inv .2 in
-    (search needs, search needs, g .rising, g .inside, s .pre .1, s .pre .2, s .pre .3)
+    let l = c .before .loop in
+    (readable (s .args .i) (l .j) (s .pre .1) (s .pre .2) (s .pre .3) (omega arith) (omega arith), readable (l .best .i) (l .best .j) (s .pre .1) (s .pre .2) (s .pre .3) (l .inv .2 .rising) (l .inv .2 .inside))
 
--- src/lib.rt:135:13
 add-j-2 : tie.Need-add-j-2 Inv-loop μ-loop
 add-j-2 c = search needs
 
--- src/lib.rt:133:5
 loop-less : tie.Need-loop-less Inv-loop μ-loop
 loop-less c = search needs
 
--- src/lib.rt:133:5
 loop-again : tie.Need-loop-again Inv-loop μ-loop
 loop-again c = let l = c .before .before .before in
     let a = l .before .args in
     (omega arith, omega arith, before-keep (a .i) (l .loop .j) (search needs) (search needs) (search needs) (l .loop .inv .2) (sym (c .before .is-at-most .ensures) ∙ c .if1 .taken))
 
--- src/lib.rt:133:9
 add-j-3 : tie.Need-add-j-3 Inv-loop μ-loop
 add-j-3 c = search needs
 
--- src/lib.rt:133:5
 loop-less-2 : tie.Need-loop-less-2 Inv-loop μ-loop
 loop-less-2 c = search needs
 
--- src/lib.rt:133:5
 loop-again-2 : tie.Need-loop-again-2 Inv-loop μ-loop
 loop-again-2 c = let l = c .before .before .before in
     let a = l .before .args in
     let g = l .loop .inv .2 in
     (omega arith, omega arith, before-new (a .i) (l .loop .j) (search needs) (search needs) (search needs) g (quotient-den (a .weights .now) (a .t .now) (l .loop .best .i) (l .loop .best .j) (l .before .pre .3) (omega (arith, g .rising, g .inside)) (g .inside)) (sym (c .before .is-at-most .ensures) ∙ c .if1 .left))
 
--- src/lib.rt:128:1
 returns : tie.Need-returns Inv-loop μ-loop
 returns c = before-same (c .before .loop .inv .2) (λ p q h l m. omega arith)
 

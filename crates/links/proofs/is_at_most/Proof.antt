@@ -1,46 +1,32 @@
 use mathlib.Core.Path.{_∙_, ap₂}
 use Prim.Native.Nat.{ℕ}
+use borrow.Author.Needs.{needs}
 use lib.IntN.{ℤ, pos, _*ℤ_}
 use lib.Signed.{leZ}
 use mir.Syntax.{w64}
 use Rattle.integers.proofs.Held.{passed}
 use Rattle.links.specs.Table.{quotientAt, atMost}
-use native.Mathlib.Omega.{arith}
-use borrow.Author.Needs.{needs}
 use Rattle.links.proofs.is_at_most.Statement.{statement}
 use Rattle.links.proofs.is_at_most.Tie as tie
-use Rattle.links.proofs.is_at_most.Reads as reads
-use Rattle.links.proofs.is_at_most.Lts as lts
-use Rattle.links.proofs.denominator.Reads as denominator-reads
-use Rattle.links.proofs.get.Reads as get-reads
-use Rattle.links.proofs.is_quotient_at_most.Reads as is-quotient-at-most-reads
 
--- src/lib.rt:118:25
 get-requires : tie.Need-get-requires
 get-requires c κs = search needs
 
--- src/lib.rt:118:39
 denominator-requires : tie.Need-denominator-requires
-denominator-requires c κs = let s = c .before in
-    (omega arith, omega arith, s .pre .6 (s .args .a) (omega arith) .1, s .pre .6 (s .args .b) (omega arith) .1)
+denominator-requires c κs = search needs
 
--- src/lib.rt:118:67
 get-requires-2 : tie.Need-get-requires-2
 get-requires-2 c κs = search needs
 
--- src/lib.rt:118:81
 denominator-requires-2 : tie.Need-denominator-requires-2
-denominator-requires-2 c κs = let s = c .before .before .before in
-    (omega arith, omega arith, s .pre .6 (s .args .i) (omega arith) .1, s .pre .6 (s .args .j) (omega arith) .1)
+denominator-requires-2 c κs = search needs
 
--- src/lib.rt:118:5
 is-quotient-at-most-requires : tie.Need-is-quotient-at-most-requires
 is-quotient-at-most-requires c κs = let s = c .before .before .before .before in
     let x = c .before .before .before .get in
     let y = c .before .get2 in
-    (c .before .before .denominator .ensures .1, c .denominator2 .ensures .1, rw (passed w64 (x .ok) (x .ensures)) (s .pre .5 .within (s .args .a) (s .args .b) (omega arith) (omega arith) (λ e. omega arith)), rw (passed w64 (y .ok) (y .ensures)) (s .pre .5 .within (s .args .i) (s .args .j) (omega arith) (omega arith) (λ e. omega arith)))
+    (c .before .before .denominator .ensures .1, c .denominator2 .ensures .1, rw (passed w64 (x .ok) (x .ensures)) (s .pre .0 .within), rw (passed w64 (y .ok) (y .ensures)) (s .pre .1 .within))
 
--- src/lib.rt:114:1
 times : ℕ → ℤ → ℤ
 times k z = pos k *ℤ z
 

@@ -1,31 +1,22 @@
 use mathlib.Core.Path.{_∙_, ap, ap₂}
+use borrow.Author.Needs.{needs}
 use lib.IntN.{pos, _*ℤ_}
 use lib.Signed.{leZ}
-use mir.Syntax.{w64}
 use mir.Facts.{toZ-ofZ}
+use mir.Syntax.{w64}
 use Rattle.integers.proofs.Held.{passed}
-use native.Mathlib.Omega.{arith}
-use borrow.Author.Needs.{needs}
 use Rattle.links.proofs.is_quotient_at_most.Statement.{statement}
 use Rattle.links.proofs.is_quotient_at_most.Tie as tie
-use Rattle.links.proofs.is_quotient_at_most.Reads as reads
-use Rattle.links.proofs.is_quotient_at_most.Lts as lts
-use Rattle.integers.proofs.at_most.Reads as at-most-reads
-use Rattle.integers.proofs.times.Reads as times-reads
 
--- src/lib.rt:103:23
 times-requires : tie.Need-times-requires
 times-requires c κs = search needs
 
--- src/lib.rt:103:46
 times-requires-2 : tie.Need-times-requires-2
 times-requires-2 c κs = search needs
 
--- src/lib.rt:103:5
 at-most-requires : tie.Need-at-most-requires
 at-most-requires c κs = search needs
 
--- src/lib.rt:99:1
 returns : tie.Need-returns
 returns c = let s = c .before .before .before in
     let f = c .before .before .times in

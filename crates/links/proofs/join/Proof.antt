@@ -1,37 +1,28 @@
 use mathlib.Core.Path.{_∙_, ap₂}
-use lib.IntN.{_+ℤ_}
+use borrow.Author.Needs.{needs}
 use lib.Dec.{lit≤}
-use mir.Syntax.{w64}
+use lib.IntN.{_+ℤ_}
 use mir.Facts.{toZ-ofZ}
+use mir.Syntax.{w64}
 use Rattle.integers.specs.Integers.{maxZ}
 use Rattle.integers.proofs.Held.{passed}
 use Rattle.integers.proofs.Range.{within-grow}
 use Rattle.links.specs.Table.{joined}
-use native.Mathlib.Omega.{arith}
-use borrow.Author.Needs.{needs}
 use Rattle.links.proofs.join.Statement.{statement}
 use Rattle.links.proofs.join.Tie as tie
-use Rattle.links.proofs.join.Reads as reads
-use Rattle.links.proofs.join.Lts as lts
-use Rattle.integers.proofs.larger.Reads as larger-reads
-use Rattle.integers.proofs.sum.Reads as sum-reads
 
--- src/lib.rt:64:9
 sum-requires : tie.Need-sum-requires
 sum-requires c κs = let f = c .before .fits in
     simp (toZ-ofZ (f .x), toZ-ofZ (f .y)) (within-grow (lit≤ tt) (c .before .pre .0), within-grow (lit≤ tt) (c .before .pre .1))
 
--- src/lib.rt:66:9
 larger-requires : tie.Need-larger-requires
 larger-requires c κs = search needs
 
--- src/lib.rt:59:1
 returns : tie.Need-returns
 unfolding joined
 returns c = let f = c .before .before .fits in
     rw (c .before .if1 .taken) (passed w64 (c .sum .ok) (c .sum .ensures ∙ ap₂ _+ℤ_ (toZ-ofZ (f .x)) (toZ-ofZ (f .y))))
 
--- src/lib.rt:59:1
 returns-2 : tie.Need-returns-2
 unfolding joined
 returns-2 c = let f = c .before .before .fits in

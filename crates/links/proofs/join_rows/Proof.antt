@@ -1,22 +1,15 @@
 use mathlib.Core.Path.{_≡_, sym, _∙_, ap₂}
 use mathlib.Core.Logic.{inl, inr}
-use Prim.Native.Nat.{_<_}
-use lib.IntN.{ℤ}
+use Prim.Native.Nat.{ℕ, _<_, _≤_, _-_}
+use native.Mathlib.Omega.{arith}
+use borrow.Author.Needs.{needs}
 use mir.Syntax.{w64}
 use mir.Val.{ofZ, toZ}
 use Rattle.integers.proofs.Held.{passed}
-use Rattle.links.proofs.Rows.{written-start, written-left, written-skip, written-next, written-all}
-use Prim.Native.Nat.{_≤_, _-_}
 use Rattle.links.specs.Table.{entry, joined, joinedRow, Written}
-use borrow.Author.Needs.{needs}
-use native.Mathlib.Omega.{arith}
+use Rattle.links.proofs.Rows.{written-start, written-left, written-skip, written-next, written-all}
 use Rattle.links.proofs.join_rows.Statement.{statement}
 use Rattle.links.proofs.join_rows.Tie as tie
-use Rattle.links.proofs.join_rows.Reads as reads
-use Rattle.links.proofs.join_rows.Lts as lts
-use Rattle.links.proofs.get.Reads as get-reads
-use Rattle.links.proofs.join.Reads as join-reads
-use Rattle.links.proofs.put.Reads as put-reads
 
 abbrev Inv-loop : tie.InvT-loop
 Inv-loop average count i j t₀ q₀ t q = (q ≤ count) × Written i j (joinedRow average i j t₀) q t₀ t
@@ -31,51 +24,46 @@ at-loop c = c .before .before .before .before .before .before .before .before
 start : tie.After-get2 Inv-loop μ-loop → tie.Start Inv-loop μ-loop
 start c = at-loop c .before
 
+-- row p has not been written yet at the place that is next
+unwritten : (c : tie.After-get2 Inv-loop μ-loop) (p : ℕ) → p < 32 → entry (at-loop c .loop .t) p (at-loop c .loop .q) ≡ entry (start c .args .t .now) p (at-loop c .loop .q)
+unfolding at-loop start
+unwritten c p h = written-left (at-loop c .loop .inv .1) p h (omega arith) (λ e. absurd (c .before .before .before .before .before .before .if1 .left e))
+
 first : (c : tie.After-get2 Inv-loop μ-loop) → toZ w64 (ofZ w64 (c .before .before .get .result)) ≡ entry (start c .args .t .now) (start c .args .i) (at-loop c .loop .q)
 unfolding at-loop start
-first c = passed w64 (c .before .before .get .ok) (c .before .before .get .ensures ∙ written-left (at-loop c .loop .inv .1) (start c .args .i) (omega arith) (omega arith) (λ e. absurd (c .before .before .before .before .before .before .if1 .left e)))
+first c = passed w64 (c .before .before .get .ok) (c .before .before .get .ensures ∙ unwritten c (start c .args .i) (omega arith))
 
 second : (c : tie.After-get2 Inv-loop μ-loop) → toZ w64 (ofZ w64 (c .get2 .result)) ≡ entry (start c .args .t .now) (start c .args .j) (at-loop c .loop .q)
 unfolding at-loop start
-second c = passed w64 (c .get2 .ok) (c .get2 .ensures ∙ written-left (at-loop c .loop .inv .1) (start c .args .j) (omega arith) (omega arith) (λ e. absurd (c .before .before .before .before .before .before .if1 .left e)))
+second c = passed w64 (c .get2 .ok) (c .get2 .ensures ∙ unwritten c (start c .args .j) (omega arith))
 
--- src/lib.rt:75:5
 loop-holds : tie.Need-loop-holds Inv-loop μ-loop
 loop-holds c = (omega arith, written-start _ _ _ _ (c .pre .3 .size))
 
--- src/lib.rt:77:13
 add-q : tie.Need-add-q Inv-loop μ-loop
 add-q c = search needs
 
--- src/lib.rt:75:5
 loop-less : tie.Need-loop-less Inv-loop μ-loop
 loop-less c = search needs
 
--- src/lib.rt:75:5
 loop-again : tie.Need-loop-again Inv-loop μ-loop
 loop-again c = (omega arith, written-skip (c .before .before .loop .inv .1) (inl (c .if1 .taken)))
 
--- src/lib.rt:80:13
 add-q-2 : tie.Need-add-q-2 Inv-loop μ-loop
 add-q-2 c = search needs
 
--- src/lib.rt:75:5
 loop-less-2 : tie.Need-loop-less-2 Inv-loop μ-loop
 loop-less-2 c = search needs
 
--- src/lib.rt:75:5
 loop-again-2 : tie.Need-loop-again-2 Inv-loop μ-loop
 loop-again-2 c = (omega arith, written-skip (c .before .before .before .loop .inv .1) (inr (c .if2 .taken)))
 
--- src/lib.rt:82:36
 get-requires : tie.Need-get-requires Inv-loop μ-loop
 get-requires c κs = search needs
 
--- src/lib.rt:82:50
 get-requires-2 : tie.Need-get-requires-2 Inv-loop μ-loop
 get-requires-2 c κs = search needs
 
--- src/lib.rt:82:22
 join-requires : tie.Need-join-requires Inv-loop μ-loop
 unfolding at-loop start
 join-requires c κs = let s = start c in
@@ -83,25 +71,20 @@ join-requires c κs = let s = start c in
     let h : p < s .args .count = omega arith in
     rw (first c, second c) (s .pre .3 .within (s .args .i) p (search needs) h (λ e. c .before .before .before .before .before .before .if1 .left (sym e)), s .pre .3 .within (s .args .j) p (search needs) h (λ e. c .before .before .before .before .before .if2 .left (sym e)))
 
--- src/lib.rt:82:9
 put-requires : tie.Need-put-requires Inv-loop μ-loop
 put-requires c κs = search needs
 
--- src/lib.rt:75:9
 add-q-3 : tie.Need-add-q-3 Inv-loop μ-loop
 add-q-3 c = search needs
 
--- src/lib.rt:75:5
 loop-less-3 : tie.Need-loop-less-3 Inv-loop μ-loop
 loop-less-3 c = search needs
 
--- src/lib.rt:75:5
 loop-again-3 : tie.Need-loop-again-3 Inv-loop μ-loop
 unfolding at-loop start joinedRow
 loop-again-3 c = let d = c .before .before in
     (omega arith, rw (c .put .ensures) (written-next (at-loop d .loop .inv .1) (passed w64 (c .before .join .ok) (c .before .join .ensures ∙ ap₂ (joined (start d .args .average)) (first d) (second d))) (omega arith) (omega arith)))
 
--- src/lib.rt:71:1
 returns : tie.Need-returns Inv-loop μ-loop
 returns c = let l = c .before .loop in
     let e : l .q ≡ c .before .before .args .count = omega arith in

@@ -1,63 +1,47 @@
 use mathlib.Core.Path.{_≡_, refl, sym, _∙_}
-use lib.ListN.{length, length-map}
-use Rattle.linkage.proofs.Merging.{stores}
 use native.Mathlib.Omega.{arith}
 use borrow.Author.Needs.{needs}
+use lib.ListN.{length, length-map}
+use Rattle.linkage.proofs.Merging.{stores}
 use Rattle.linkage.proofs.Blocks.merge.Statement.{statement}
 use Rattle.linkage.proofs.Blocks.merge.Tie as tie
-use Rattle.linkage.proofs.Blocks.merge.Reads as reads
-use Rattle.linkage.proofs.Blocks.merge.Lts as lts
-use Rattle.sets.proofs.union.Reads as union-reads
 
--- src/lib.rt:34:20
 sub-last : tie.Need-sub-last
 sub-last c = search needs
 
--- src/lib.rt:35:36
 mul-union : tie.Need-mul-union
 mul-union c = search needs
 
--- src/lib.rt:35:36
 element-copy-out-union : tie.Need-element-copy-out-union
 element-copy-out-union c = search needs
 
--- src/lib.rt:35:50
 mul-union-2 : tie.Need-mul-union-2
 mul-union-2 c = search needs
 
--- src/lib.rt:35:50
 element-copy-out-union-2 : tie.Need-element-copy-out-union-2
 element-copy-out-union-2 c = search needs
 
--- src/lib.rt:35:24
 union-requires : tie.Need-union-requires
 union-requires c κs = search needs
 
--- src/lib.rt:35:9
 mul-self : tie.Need-mul-self
 mul-self c = search needs
 
--- src/lib.rt:35:9
 element-write-self : tie.Need-element-write-self
 element-write-self c = search needs
 
--- src/lib.rt:36:24
 mul-self-2 : tie.Need-mul-self-2
 mul-self-2 c = search needs
 
--- src/lib.rt:36:24
 element-copy-out-self : tie.Need-element-copy-out-self
 element-copy-out-self c = search needs
 
--- src/lib.rt:36:9
 mul-self-3 : tie.Need-mul-self-3
 mul-self-3 c = search needs
 
--- src/lib.rt:36:9
 element-write-self-2 : tie.Need-element-write-self-2
 element-write-self-2 c = search needs
 
--- src/lib.rt:30:5
 returns : tie.Need-returns
 returns c = let s = c .before .before .before .before in
     let a = s .args in

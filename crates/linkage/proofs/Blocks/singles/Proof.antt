@@ -1,17 +1,13 @@
-use lib.ListN.{length-set}
-use Rattle.lists.specs.Lists.{below}
-use mathlib.Core.Path.{_≡_, refl, sym, ap, _∙_}
+use mathlib.Core.Path.{_≡_, refl, _∙_}
 use Prim.Native.Nat.{_≤_, _<_, _-_}
-use lib.ListN.{length, take}
+use native.Mathlib.Omega.{arith}
+use borrow.Author.Needs.{needs}
+use lib.ListN.{length-set, length, take}
+use Rattle.lists.specs.Lists.{below}
 use Rattle.clusters.specs.Linkage.{singles}
 use Rattle.linkage.proofs.Merging.{singles-next}
-use borrow.Author.Needs.{needs}
-use native.Mathlib.Omega.{arith}
 use Rattle.linkage.proofs.Blocks.singles.Statement.{statement}
 use Rattle.linkage.proofs.Blocks.singles.Tie as tie
-use Rattle.linkage.proofs.Blocks.singles.Reads as reads
-use Rattle.linkage.proofs.Blocks.singles.Lts as lts
-use Rattle.sets.proofs.single.Reads as single-reads
 
 abbrev Inv-loop : tie.InvT-loop
 Inv-loop n filled₀ i₀ filled i = (i ≤ n) × (length filled ≡ 32) × (take i filled ≡ singles i)
@@ -19,38 +15,30 @@ Inv-loop n filled₀ i₀ filled i = (i ≤ n) × (length filled ≡ 32) × (tak
 abbrev μ-loop : tie.MeasureT-loop
 μ-loop n filled₀ i₀ filled i = n - i
 
--- src/lib.rt:20:9
 loop-holds : tie.Need-loop-holds Inv-loop μ-loop
 unfolding singles below
 loop-holds c = (omega arith, refl, refl)
 
--- src/lib.rt:21:25
 single-requires : tie.Need-single-requires Inv-loop μ-loop
 single-requires c κs = search needs
 
--- src/lib.rt:21:13
 mul-filled : tie.Need-mul-filled Inv-loop μ-loop
 mul-filled c = search needs
 
--- src/lib.rt:21:13
 array-write-filled : tie.Need-array-write-filled Inv-loop μ-loop
 array-write-filled c = search needs
 
--- src/lib.rt:20:13
 add-i : tie.Need-add-i Inv-loop μ-loop
 add-i c = search needs
 
--- src/lib.rt:20:9
 loop-less : tie.Need-loop-less Inv-loop μ-loop
 loop-less c = search needs
 
--- src/lib.rt:20:9
 loop-again : tie.Need-loop-again Inv-loop μ-loop
 loop-again c = let l = c .before .before .loop in
     let h : l .i < length (l .filled) = omega arith in
     (omega arith, length-set (l .filled) (l .i) (c .single .result) ∙ l .inv .1, rw (c .single .ensures) (singles-next (l .filled) (l .i) h (l .inv .2)))
 
--- src/lib.rt:15:5
 returns : tie.Need-returns Inv-loop μ-loop
 returns c = let l = c .before .loop in
     let e : l .i ≡ c .before .before .args .n = omega arith in
