@@ -1,65 +1,73 @@
--- The indices of a pair list whose numbers are between −k and k.
-use mathlib.Core.Path.{_≡_, refl, sym, ap, subst}
-use mathlib.Core.List.{List, [], _∷_, map, List·Memᴰ·head}
-use Prim.Native.Nat.{ℕ, _+_, _-_, _*_, _≤_, _<_}
-use native.Mathlib.Nat.{mul-le-mul}
+-- Bounds of the indices: of a pair list whose numbers are between −k and k, the strong index is within 2k, the separation index
+-- within 4k, the clean index of up to 32 entries within 62k.
+use mathlib.Core.Path.{_≡_, refl}
+use mathlib.Core.List.{List, [], _∷_, map, List·Memᴰ·head, List·Memᴰ·tail}
+use Prim.Native.Nat.{ℕ, zero, suc, _-_, _*_, _≤_}
 use native.Mathlib.Omega.{arith}
-use lib.IntN.{ℤ, pos, _+ℤ_, _-ℤ_}
-use lib.ListN.{length, take, length-take}
-use Rattle.lists.specs.Lists.{_∈_, each}
+use lib.IntN.{ℤ, pos}
+use lib.ListN.{take, getD, length-take}
+use Rattle.lists.specs.Lists.{_∈_}
 use Rattle.lists.proofs.Lists.{of-each, of-map}
-use Rattle.integers.specs.Integers.{least, sum, sort, sumOfSmallest}
+use Rattle.integers.specs.Integers.{least, sort, sumOfSmallest}
 use Rattle.integers.specs.Range.{Within, Bounded}
 use Rattle.integers.proofs.Linear.{up, dn}
 use Rattle.integers.proofs.Least.{least-of}
-use Rattle.integers.proofs.Range.{within, within-grow, within-sum, within-difference, within-max}
+use Rattle.integers.proofs.Range.{within, within-grow, within-equal, within-sum, within-difference, within-max}
 use Rattle.integers.proofs.Smallest.{of-sort}
-use Rattle.sets.specs.Sets.{_∋_, _∌_, members, others, size}
-use Rattle.sets.proofs.Sets.{of-members, of-others, size-le}
-use Rattle.clusters.specs.PairList.{Similarity, rowStart, score}
+use Rattle.sets.specs.Sets.{others, size}
+use Rattle.sets.proofs.Sets.{size-le}
+use Rattle.clusters.specs.PairList.{Similarity, place, score}
 use Rattle.clusters.specs.Indices.{strongValues, strongIndex, weight, pairsOf, weights, cleanIndex, separationValues, separationIndex}
-use Rattle.clusters.proofs.PairList.{score-element}
 use Rattle.clusters.proofs.Strong.{of-strongValues, of-separationValues}
 use Rattle.indices.proofs.Smallest.{of-take}
 use Rattle.indices.proofs.Totals.{sum-within}
 
--- a weight is that of two members and an entry outside
-pub of-weights : (n : ℕ) (s : Similarity) (A : ℕ) {z : ℤ} → z ∈ weights n s A → (a b c : ℕ) × (a < n) × (b < n) × (c < n) × (z ≡ weight s a b c)
-unfolding weights pairsOf
-of-weights n s A m =
-    let (ab, mp, mz) = of-each (pairsOf n A) (λ ab. map (weight s (ab .0) (ab .1)) (others n A)) m in
-    let (c, mc, e) = of-map (weight s (ab .0) (ab .1)) (others n A) mz in
-    let (a, ma, mb) = of-each (members n A) (λ a. map (λ b. (a, b)) (members a A)) mp in
-    let (b, mb′, q) = of-map (λ b. (a, b)) (members a A) mb in
-    let ha = of-members n A ma .0 in
-    let hb = of-members a A mb′ .0 in
-    (ab .0, ab .1, c, subst (λ (p : ℕ × ℕ). p .0 < n) (sym q) ha, subst (λ (p : ℕ × ℕ). p .1 < n) (sym q) (omega arith), of-others n A mc .0, e)
+zero-within : {k : ℕ} → Within k (pos 0)
+unfolding up dn
+zero-within = within (omega arith) (omega arith)
+
+value-within : {k : ℕ} (l : List ℤ) (i : ℕ) → Bounded k l → Within k (getD l i (pos 0))
+value-within [] i b = zero-within
+value-within (z ∷ l) zero b = b z (List·Memᴰ·head refl)
+value-within (z ∷ l) (suc i) b = value-within l i (λ y m. b y (List·Memᴰ·tail m))
 
 least-within : {k : ℕ} (l : List ℤ) → Bounded k l → Within k (least l)
-unfolding least up dn
-least-within [] b = within (omega arith) (omega arith)
+unfolding least
+least-within [] b = zero-within
 least-within (z ∷ l) b = b (least (z ∷ l)) (least-of (z ∷ l) (List·Memᴰ·head refl))
 
-module _ (n : ℕ) (l : List ℤ) (long : length l ≡ rowStart n) {k : ℕ} (b : Bounded k l) where
-  pub score-within : {x y : ℕ} → x < n → y < n → Within k (score l x y)
-  score-within {x} {y} h m = b (score l x y) (score-element n l long h m)
+of-weights : (n : ℕ) (s : Similarity) (A : ℕ) {z : ℤ} → z ∈ weights n s A → (a b c : ℕ) × (z ≡ weight s a b c)
+unfolding weights
+of-weights n s A m =
+    let (ab, _, mz) = of-each (pairsOf n A) (λ ab. map (weight s (ab .0) (ab .1)) (others n A)) m in
+    let (c, _, e) = of-map (weight s (ab .0) (ab .1)) (others n A) mz in
+    (ab .0, ab .1, c, e)
 
-  pub weights-within : (A : ℕ) → Bounded (2 * k) (weights n (score l) A)
+module _ {l : List ℤ} {k : ℕ} (b : Bounded k l) where
+  pub score-within : (x y : ℕ) → Within k (score l x y)
+  unfolding score
+  score-within x y = value-within l (place x y) b
+
+  pub weights-within : (n A : ℕ) → Bounded (2 * k) (weights n (score l) A)
   unfolding weight
-  weights-within A z m = let (x, y, w, hx, hy, hw, e) = of-weights n (score l) A m in
-      within-grow (omega arith) (subst (Within (k + k)) (sym e) (within-difference (score-within hx hy) (within-max (score-within hx hw) (score-within hy hw))))
+  weights-within n A z m = let (x, y, w, e) = of-weights n (score l) A m in
+      within-grow (omega arith) (within-equal e (within-difference (score-within x y) (within-max (score-within x w) (score-within y w))))
 
-  pub strong-within : (A : ℕ) → Within (2 * k) (strongIndex n (score l) A)
+  pub strong-within : (n A : ℕ) → Within (2 * k) (strongIndex n (score l) A)
   unfolding strongIndex
-  strong-within A = least-within (strongValues n (score l) A) (λ z m. let (x, y, w, hx, hy, hw, _, _, _, e) = of-strongValues n (score l) A m in
-      within-grow (omega arith) (subst (Within (k + k)) (sym e) (within-difference (score-within hx hy) (score-within hx hw))))
+  strong-within n A = least-within (strongValues n (score l) A) (λ z m.
+      let (x, y, w, _, _, _, _, _, _, e) = of-strongValues n (score l) A m in
+      within-grow (omega arith) (within-equal e (within-difference (score-within x y) (score-within x w))))
 
-  pub separation-within : (A : ℕ) → Within (4 * k) (separationIndex n (score l) A)
+  pub separation-within : (n A : ℕ) → Within (4 * k) (separationIndex n (score l) A)
   unfolding separationIndex
-  separation-within A = least-within (separationValues n (score l) A) (λ z m. let (x, y, v, w, hx, hy, hv, hw, _, _, _, _, e) = of-separationValues n (score l) A m in
-      within-grow (omega arith) (subst (Within (k + k + k + k)) (sym e) (within-difference (within-difference (within-sum (score-within hx hv) (score-within hy hw)) (score-within hx hy)) (score-within hv hw))))
+  separation-within n A = least-within (separationValues n (score l) A) (λ z m.
+      let (x, y, v, w, _, _, _, _, _, _, _, _, e) = of-separationValues n (score l) A m in
+      within-grow (omega arith) (within-equal e (within-difference (within-difference (within-sum (score-within x v) (score-within y w)) (score-within x y)) (score-within v w))))
 
-  pub clean-within : n ≤ 32 → (A : ℕ) → Within (62 * k) (cleanIndex n (score l) A)
+  pub clean-within : (n A : ℕ) → n ≤ 32 → Within (62 * k) (cleanIndex n (score l) A)
   unfolding cleanIndex sumOfSmallest
-  clean-within few A = let w = weights n (score l) A in
-      within-grow (omega arith) (sum-within 31 (take (size n A - 1) (sort w)) (omega (arith, length-take (size n A - 1) (sort w), size-le n A)) (λ z m. weights-within A z (of-sort w (of-take (size n A - 1) (sort w) m))))
+  clean-within n A few =
+      let w = weights n (score l) A in
+      let smallest = take (size n A - 1) (sort w) in
+      within-grow (omega arith) (sum-within 31 smallest (omega (arith, length-take (size n A - 1) (sort w), size-le n A)) (λ z m. weights-within n A z (of-sort w (of-take (size n A - 1) (sort w) m))))

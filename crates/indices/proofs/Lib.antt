@@ -1,6 +1,6 @@
-pub mod Running
 pub mod Smallest
 pub mod Totals
 pub mod Bounds
 pub mod Margins
+pub mod Seen
 pub mod Clean

@@ -1,32 +1,20 @@
--- The strong and the separation index are least margins; margins are bounded; a loop finds a margin.
-use mathlib.Core.Path.{_≡_, refl, sym, ap, ap₂, _∙_, subst}
-use mathlib.Core.Bool.{Bool, true, false, not}
-use mathlib.Core.List.{List, map, foldl, Memᴰ·cast}
-use Prim.Native.Nat.{ℕ, _+_, _^_, _<_}
-use lib.Dec.{lit<, lit≤}
-use lib.ListN.{length}
-use lib.IntN.{ℤ, pos, negℤ, _+ℤ_, _-ℤ_}
-use lib.Signed.{_≤ℤ_, mag}
-use mir.Syntax.{w64}
-use mir.Val.{ofZ, toZ, hbits}
-use Rattle.lists.specs.Lists.{_∈_, each, keep, below}
+-- The strong and the separation index are least margins.
+use mathlib.Core.Path.{_≡_, sym, ap, _∙_}
+use mathlib.Core.List.{List, map, Memᴰ·cast}
+use Prim.Native.Nat.{ℕ, _+_}
+use lib.IntN.{ℤ, _+ℤ_, _-ℤ_}
+use Rattle.lists.specs.Lists.{_∈_, each}
 use Rattle.lists.proofs.Lists.{in-map, of-map, in-each, of-each, map-cong}
-use Rattle.integers.specs.Integers.{minZ, maxZ, least, greatest}
-use Rattle.integers.specs.Range.{Within, Bounded}
+use Rattle.integers.specs.Integers.{least, greatest}
 use Rattle.integers.proofs.Linear.{zarith, -at, +at}
 use Rattle.integers.proofs.Least.{least-le, least-of, least-same, least-each, greatest-ge, greatest-of}
-use Rattle.integers.proofs.Range.{within-grow, within-difference}
-use Rattle.integers.proofs.Held.{Held, held-value, held-result, held-equal}
-use Rattle.sets.specs.Sets.{has, _∋_, _∌_, members, others}
+use Rattle.sets.specs.Sets.{members, others}
 use Rattle.sets.proofs.Sets.{in-members, of-members, in-others, of-others, size-member, size-less}
-use Rattle.clusters.specs.PairList.{Similarity, place, score}
+use Rattle.clusters.specs.PairList.{Similarity}
 use Rattle.clusters.specs.Indices.{strongValues, strongIndex, separationValues, separationIndex}
 use Rattle.clusters.proofs.Strong.{in-separationValues, of-separationValues}
-use Rattle.matrix.proofs.Places.{score-asks}
-use Rattle.indices.specs.Asked.{Scores, Proper}
+use Rattle.indices.specs.Asked.{Proper}
 use Rattle.indices.specs.Margins.{margin, nearness, separationFrom}
-use Rattle.indices.proofs.Bounds.{score-within}
-use Rattle.indices.proofs.Running.{Run, run-start, run-yes, run-no, run-least, run-greatest}
 
 -- a member, and an entry outside
 pub a-member : {n A : ℕ} → Proper n A → (a : ℕ) × (a ∈ members n A)
@@ -116,104 +104,3 @@ module _ (n : ℕ) (s : Similarity) (A : ℕ) (p : Proper n A) where
       ∙ least-each (others n A) (of-pair b) (λ y _. some b y) mx))
       ∙ least-each (members n A) of-entry (λ b _. (some b x .0, in-each (of-pair b) mx (some b x .1))) ma
       ∙ reordered
-
--- values between −k and k, and a margin of them
-module _ {n A k : ℕ} (p : Proper n A) {f : ℕ → ℤ} (b : (y : ℕ) → y < n → Within k (f y)) where
-  members-bounded : Bounded k (map f (members n A))
-  members-bounded z m = let (y, my, e) = of-map f (members n A) m in subst (Within k) (sym e) (b y (of-members n A my .0))
-
-  others-bounded : Bounded k (map f (others n A))
-  others-bounded z m = let (y, my, e) = of-map f (others n A) m in subst (Within k) (sym e) (b y (of-others n A my .0))
-
-  least-within : Within k (least (map f (members n A)))
-  least-within = members-bounded (least (map f (members n A))) (least-of (map f (members n A)) (in-map f (a-member p .1)))
-
-  pub least-other-within : Within k (least (map f (others n A)))
-  least-other-within = others-bounded (least (map f (others n A))) (least-of (map f (others n A)) (in-map f (an-other p .1)))
-
-  greatest-within : Within k (greatest (map f (others n A)))
-  greatest-within = others-bounded (greatest (map f (others n A))) (greatest-of (map f (others n A)) (in-map f (an-other p .1)))
-
-  pub margin-within : Within (k + k) (margin n f A)
-  unfolding margin
-  margin-within = within-difference least-within greatest-within
-
--- beyond every value: what a running least and a running greatest start from
-abbrev pub top : ℤ
-top = pos (2 ^ 30)
-
-abbrev pub bottom : ℤ
-bottom = negℤ (pos (2 ^ 30))
-
-pub top-held : Held w64 (ofZ w64 top) top
-top-held = held-result refl (lit< tt) refl
-
--- the least and the greatest, once the loop is through
-module _ {n A : ℕ} (p : Proper n A) {f : ℕ → ℤ} (b : (y : ℕ) → y < n → Within (2 ^ 30) (f y)) {x i : ℕ} (e : x ≡ n) where
-  pub least-member : Run minZ top (has A) f x i → toZ w64 i ≡ least (map f (members n A))
-  unfolding members
-  least-member r = let (a, m) = a-member p in run-least m (subst (λ (y : ℕ). Run minZ top (has A) f y i) e r) (b a (of-members n A m .0) .top)
-
-  pub least-other : Run minZ top (λ y. not (has A y)) f x i → toZ w64 i ≡ least (map f (others n A))
-  unfolding others
-  least-other r = let (y, m) = an-other p in run-least m (subst (λ (y : ℕ). Run minZ top (λ y. not (has A y)) f y i) e r) (b y (of-others n A m .0) .top)
-
-  greatest-other : Run maxZ bottom (λ y. not (has A y)) f x i → toZ w64 i ≡ greatest (map f (others n A))
-  unfolding others
-  greatest-other r = let (y, m) = an-other p in run-greatest m (subst (λ (y : ℕ). Run maxZ bottom (λ y. not (has A y)) f y i) e r) (b y (of-others n A m .0) .low)
-
--- the two locals of a loop that has seen the entries before x
-pub record Seen (A : ℕ) (f : ℕ → ℤ) (x inside outside : ℕ) : Type 0 where
-  pub low : Run minZ top (has A) f x inside
-  pub high : Run maxZ bottom (λ y. not (has A y)) f x outside
-
-pub seen-none : {A : ℕ} {f : ℕ → ℤ} → Seen A f 0 (ofZ w64 top) (ofZ w64 bottom)
-seen-none = record { low = run-start top-held; high = run-start (held-result refl (lit< tt) refl) }
-
-module _ {A : ℕ} {f : ℕ → ℤ} {x i o i′ o′ : ℕ} (s : Seen A f x i o) {z : ℤ} (ok : mag z < 2 ^ hbits w64) where
-  pub seen-member : has A x ≡ true → i′ ≡ ofZ w64 z → o′ ≡ o → z ≡ minZ (toZ w64 i) (f x) → Seen A f (x + 1) i′ o′
-  seen-member t q r e = record { low = run-yes (s .low) t q ok e; high = run-no (s .high) (ap not t) r }
-
-  pub seen-other : has A x ≡ false → i′ ≡ i → o′ ≡ ofZ w64 z → z ≡ maxZ (toZ w64 o) (f x) → Seen A f (x + 1) i′ o′
-  seen-other t q r e = record { low = run-no (s .low) t q; high = run-yes (s .high) (ap not t) r ok e }
-
-module _ {n A : ℕ} (p : Proper n A) {f : ℕ → ℤ} (b : (y : ℕ) → y < n → Within (2 ^ 30) (f y)) {x i o : ℕ} (e : x ≡ n) (s : Seen A f x i o) where
-  pub seen-within : Within (2 ^ 61) (toZ w64 i) × Within (2 ^ 61) (toZ w64 o)
-  seen-within = (
-    subst (Within (2 ^ 61)) (sym (least-member p b e (s .low))) (within-grow (lit≤ tt) (least-within p b)),
-    subst (Within (2 ^ 61)) (sym (greatest-other p b e (s .high))) (within-grow (lit≤ tt) (greatest-within p b)),
-  )
-
-  pub seen-margin : toZ w64 i -ℤ toZ w64 o ≡ margin n f A
-  unfolding margin
-  seen-margin = ap₂ _-ℤ_ (least-member p b e (s .low)) (greatest-other p b e (s .high))
-
--- the values that the loops over a pair list see
-module _ {n : ℕ} {l : List ℤ} (s : Scores n l) where
-  -- a score may be looked up, and its differences fit
-  pub score-asked : {a b : ℕ} → a < n → b < n → (a < 32) × (b < 32) × (place a b < length l)
-  score-asked h k = score-asks l (s .few) (s .long) h k
-
-  pub score-safe : {a b : ℕ} → a < n → b < n → {z : ℤ} → z ≡ score l a b → Within (2 ^ 61) z
-  score-safe h k e = subst (Within (2 ^ 61)) (sym e) (within-grow (lit≤ tt) (score-within n l (s .long) (s .small) h k))
-
-  pub nearness-within : {a x : ℕ} → a < n → x < n → (y : ℕ) → y < n → Within (2 ^ 23) (nearness (score l) a x y)
-  unfolding nearness
-  nearness-within h k y m = within-difference (score-within n l (s .long) (s .small) m k) (score-within n l (s .long) (s .small) h m)
-
-  pub score-beyond : {a : ℕ} → a < n → (y : ℕ) → y < n → Within (2 ^ 30) (score l a y)
-  score-beyond h y k = within-grow (lit≤ tt) (score-within n l (s .long) (s .small) h k)
-
-  pub nearness-beyond : {a x : ℕ} → a < n → x < n → (y : ℕ) → y < n → Within (2 ^ 30) (nearness (score l) a x y)
-  nearness-beyond h k y m = within-grow (lit≤ tt) (nearness-within h k y m)
-
-  module _ {A : ℕ} (p : Proper n A) where
-    pub strong-beyond : (a : ℕ) → a < n → Within (2 ^ 30) (margin n (score l a) A)
-    strong-beyond a h = within-grow (lit≤ tt) (margin-within p (λ y k. score-within n l (s .long) (s .small) h k))
-
-    pub split-beyond : {a : ℕ} → a < n → (x : ℕ) → x < n → Within (2 ^ 30) (margin n (nearness (score l) a x) A)
-    split-beyond h x k = within-grow (lit≤ tt) (margin-within p (nearness-within h k))
-
-    pub separation-beyond : (a : ℕ) → a < n → Within (2 ^ 30) (separationFrom n (score l) A a)
-    unfolding separationFrom
-    separation-beyond a h = least-other-within p (split-beyond h)

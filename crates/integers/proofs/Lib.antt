@@ -6,3 +6,4 @@ pub mod Smallest
 pub mod Halves
 pub mod Range
 pub mod Held
+pub mod Running

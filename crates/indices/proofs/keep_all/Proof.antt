@@ -1,18 +1,14 @@
 use mathlib.Core.Path.{sym, _∙_}
 use mathlib.Core.Logic.{⊎-elim}
 use Prim.Native.Nat.{_-_, _≤_}
+use native.Mathlib.Omega.{arith}
+use borrow.Author.Needs.{needs}
 use Rattle.sets.specs.Sets.{has, members}
 use Rattle.clusters.specs.PairList.{score}
 use Rattle.indices.specs.Smallest.{keepBefore, keepAll}
 use Rattle.indices.proofs.Smallest.{Kept, kept-start, kept-yes, kept-no, kept-sorted, kept-end, sorted-before}
-use borrow.Author.Needs.{needs}
-use native.Mathlib.Omega.{arith}
 use Rattle.indices.proofs.keep_all.Statement.{statement}
 use Rattle.indices.proofs.keep_all.Tie as tie
-use Rattle.indices.proofs.keep_all.Reads as reads
-use Rattle.indices.proofs.keep_all.Lts as lts
-use Rattle.indices.proofs.keep_before.Reads as keep-before-reads
-use Rattle.sets.proofs.has.Reads as has-reads
 
 abbrev Inv-loop : tie.InvT-loop
 Inv-loop kept₀ k n pairs set a₀ kept a = (a ≤ n) × Kept (λ l a. keepBefore n (score pairs) set k a l) (has set) k kept₀ a kept
@@ -20,30 +16,24 @@ Inv-loop kept₀ k n pairs set a₀ kept a = (a ≤ n) × Kept (λ l a. keepBefo
 abbrev μ-loop : tie.MeasureT-loop
 μ-loop kept₀ k n pairs set a₀ kept a = n - a
 
--- src/lib.rt:141:5
 loop-holds : tie.Need-loop-holds Inv-loop μ-loop
 loop-holds c = (omega arith, kept-start)
 
--- src/lib.rt:142:12
 has-requires : tie.Need-has-requires Inv-loop μ-loop
 has-requires c κs = search needs
 
--- src/lib.rt:143:13
 keep-before-requires : tie.Need-keep-before-requires Inv-loop μ-loop
 keep-before-requires c κs = let s = c .before .before .before .before in
     let g = s .before in
     let r = s .loop .inv .1 in
     (g .pre .0, omega arith, omega (arith, g .pre .1, r .long), kept-sorted r (sorted-before (g .args .n) (score (g .args .pairs .now)) (g .args .set) (g .args .k)) (g .pre .2))
 
--- src/lib.rt:141:9
 add-a : tie.Need-add-a Inv-loop μ-loop
 add-a c = search needs
 
--- src/lib.rt:141:5
 loop-less : tie.Need-loop-less Inv-loop μ-loop
 loop-less c = search needs
 
--- src/lib.rt:141:5
 loop-again : tie.Need-loop-again Inv-loop μ-loop
 loop-again c = let s = c .before .before .before in
     let t = c .before .has .ensures in
@@ -52,11 +42,9 @@ loop-again c = let s = c .before .before .before in
     (λ w. (omega arith, kept-no (s .loop .inv .1) (sym t ∙ w .0 .left) (w .1)))
     (c .if1 .came)
 
--- src/lib.rt:137:1
 same-length : tie.Need-same-length Inv-loop μ-loop
 same-length c = c .before .loop .inv .1 .long
 
--- src/lib.rt:137:1
 returns : tie.Need-returns Inv-loop μ-loop
 unfolding keepAll members
 returns c = kept-end (c .before .loop .inv .1) (omega arith)

@@ -1,30 +1,22 @@
-use mathlib.Core.Path.{sym, ap, ap₂, _∙_, subst}
+use mathlib.Core.Path.{sym, ap, ap₂, _∙_}
 use mathlib.Core.Bool.{not}
 use mathlib.Core.Logic.{⊎-elim}
-use Prim.Native.Nat.{_-_, _≤_, _^_}
+use Prim.Native.Nat.{_-_, _≤_}
+use native.Mathlib.Omega.{arith}
+use borrow.Author.Needs.{needs}
 use lib.IntN.{_-ℤ_}
 use mir.Syntax.{w64}
 use Rattle.integers.specs.Integers.{maxZ}
-use Rattle.integers.specs.Range.{Within}
 use Rattle.integers.proofs.Held.{passed}
-use Rattle.integers.proofs.Range.{within-max}
+use Rattle.integers.proofs.Range.{within-equal, within-max}
 use Rattle.sets.specs.Sets.{has, others}
 use Rattle.clusters.specs.PairList.{score}
 use Rattle.clusters.specs.Indices.{weight}
 use Rattle.indices.specs.Smallest.{keepSmallest, keepOutside}
-use Rattle.indices.proofs.Margins.{score-asked, score-safe}
+use Rattle.indices.proofs.Seen.{score-asked, score-safe}
 use Rattle.indices.proofs.Smallest.{Kept, kept-start, kept-yes, kept-no, kept-sorted, kept-end, sorted-triple}
-use borrow.Author.Needs.{needs}
-use native.Mathlib.Omega.{arith}
 use Rattle.indices.proofs.keep_outside.Statement.{statement}
 use Rattle.indices.proofs.keep_outside.Tie as tie
-use Rattle.indices.proofs.keep_outside.Reads as reads
-use Rattle.indices.proofs.keep_outside.Lts as lts
-use Rattle.indices.proofs.keep_smallest.Reads as keep-smallest-reads
-use Rattle.integers.proofs.difference.Reads as difference-reads
-use Rattle.integers.proofs.larger.Reads as larger-reads
-use Rattle.matrix.proofs.score.Reads as score-reads
-use Rattle.sets.proofs.has.Reads as has-reads
 
 abbrev Inv-loop : tie.InvT-loop
 Inv-loop kept₀ k n pairs set a b own c₀ kept c = (c ≤ n) × Kept (λ l c. keepSmallest k l (weight (score pairs) a b c)) (λ c. not (has set c)) k kept₀ c kept
@@ -32,59 +24,46 @@ Inv-loop kept₀ k n pairs set a b own c₀ kept c = (c ≤ n) × Kept (λ l c. 
 abbrev μ-loop : tie.MeasureT-loop
 μ-loop kept₀ k n pairs set a b own c₀ kept c = n - c
 
--- src/lib.rt:115:9
 score-requires : tie.Need-score-requires Inv-loop μ-loop
 score-requires c κs = score-asked (c .pre .0) (omega arith) (omega arith)
 
--- src/lib.rt:116:5
 loop-holds : tie.Need-loop-holds Inv-loop μ-loop
 loop-holds c = (omega arith, kept-start)
 
--- src/lib.rt:117:13
 has-requires : tie.Need-has-requires Inv-loop μ-loop
 has-requires c κs = search needs
 
--- src/lib.rt:118:42
 score-requires-2 : tie.Need-score-requires-2 Inv-loop μ-loop
 score-requires-2 c κs = score-asked (c .before .before .before .before .before .pre .0) (omega arith) (omega arith)
 
--- src/lib.rt:118:70
 score-requires-3 : tie.Need-score-requires-3 Inv-loop μ-loop
 score-requires-3 c κs = score-asked (c .before .before .before .before .before .before .pre .0) (omega arith) (omega arith)
 
--- src/lib.rt:118:17
 larger-requires : tie.Need-larger-requires Inv-loop μ-loop
 larger-requires c κs = search needs
 
--- src/lib.rt:119:36
 difference-requires : tie.Need-difference-requires Inv-loop μ-loop
 difference-requires c κs = let s = c .before .before .before .before .before .before .before .before in
     let g = s .before .pre .0 in
     let v = c .before .before .before .score2 in
     let u = c .before .before .score3 in
-    let m = c .before .larger in
-    (
-      score-safe g (omega arith) (omega arith) (passed w64 (s .score .ok) (s .score .ensures)),
-      subst (Within (2 ^ 61)) (sym (passed w64 (m .ok) (m .ensures)))
-      (within-max (score-safe g (omega arith) (omega arith) (passed w64 (v .ok) (v .ensures))) (score-safe g (omega arith) (omega arith) (passed w64 (u .ok) (u .ensures)))),
+    let m = c .before .larger in (
+      within-equal (passed w64 (s .score .ok) (s .score .ensures)) (score-safe g _ _),
+      within-equal (passed w64 (m .ok) (m .ensures)) (within-max (within-equal (passed w64 (v .ok) (v .ensures)) (score-safe g _ _)) (within-equal (passed w64 (u .ok) (u .ensures)) (score-safe g _ _))),
     )
 
--- src/lib.rt:119:13
 keep-smallest-requires : tie.Need-keep-smallest-requires Inv-loop μ-loop
 keep-smallest-requires c κs = let s = c .before .before .before .before .before .before .before .before in
     let g = s .before .before in
     let r = s .loop .inv .1 in
     (omega (arith, g .pre .3, r .long), kept-sorted r (sorted-triple (g .args .n) (score (g .args .pairs .now)) (g .args .set) (g .args .k) (g .args .a) (g .args .b)) (g .pre .4))
 
--- src/lib.rt:116:9
 add-c : tie.Need-add-c Inv-loop μ-loop
 add-c c = search needs
 
--- src/lib.rt:116:5
 loop-less : tie.Need-loop-less Inv-loop μ-loop
 loop-less c = search needs
 
--- src/lib.rt:116:5
 loop-again : tie.Need-loop-again Inv-loop μ-loop
 unfolding weight
 loop-again c = let s = c .before .before .before in
@@ -100,11 +79,9 @@ loop-again c = let s = c .before .before .before in
     (λ w. (omega arith, kept-no (s .loop .inv .1) (sym t ∙ w .0 .left) (w .1)))
     (c .if1 .came)
 
--- src/lib.rt:111:1
 same-length : tie.Need-same-length Inv-loop μ-loop
 same-length c = c .before .loop .inv .1 .long
 
--- src/lib.rt:111:1
 returns : tie.Need-returns Inv-loop μ-loop
 unfolding keepOutside others
 returns c = let s = c .before in

@@ -2,23 +2,18 @@ use mathlib.Core.Path.{sym, ap, _∙_}
 use mathlib.Core.Bool.{not}
 use mathlib.Core.Logic.{⊎-elim}
 use Prim.Native.Nat.{_-_, _≤_}
+use native.Mathlib.Omega.{arith}
+use borrow.Author.Needs.{needs}
 use mir.Syntax.{w64}
 use Rattle.integers.specs.Integers.{minZ}
 use Rattle.integers.proofs.Held.{passed}
+use Rattle.integers.proofs.Running.{Run, run-start, run-yes, run-no}
 use Rattle.sets.specs.Sets.{has}
 use Rattle.clusters.specs.PairList.{score}
 use Rattle.indices.specs.Margins.{margin, nearness, separationFrom}
-use Rattle.indices.proofs.Running.{Run, run-start, run-yes, run-no}
-use Rattle.indices.proofs.Margins.{top, top-held, least-other, split-beyond}
-use borrow.Author.Needs.{needs}
-use native.Mathlib.Omega.{arith}
+use Rattle.indices.proofs.Seen.{top, top-held, least-other, split-beyond}
 use Rattle.indices.proofs.separation_from.Statement.{statement}
 use Rattle.indices.proofs.separation_from.Tie as tie
-use Rattle.indices.proofs.separation_from.Reads as reads
-use Rattle.indices.proofs.separation_from.Lts as lts
-use Rattle.indices.proofs.separation_margin.Reads as separation-margin-reads
-use Rattle.integers.proofs.smaller.Reads as smaller-reads
-use Rattle.sets.proofs.has.Reads as has-reads
 
 abbrev Inv-loop : tie.InvT-loop
 Inv-loop n pairs set a least₀ x₀ least x = (x ≤ n) × Run minZ top (λ x. not (has set x)) (λ x. margin n (nearness (score pairs) a x) set) x least
@@ -26,31 +21,24 @@ Inv-loop n pairs set a least₀ x₀ least x = (x ≤ n) × Run minZ top (λ x. 
 abbrev μ-loop : tie.MeasureT-loop
 μ-loop n pairs set a least₀ x₀ least x = n - x
 
--- src/lib.rt:69:5
 loop-holds : tie.Need-loop-holds Inv-loop μ-loop
 loop-holds c = (omega arith, run-start top-held)
 
--- src/lib.rt:70:13
 has-requires : tie.Need-has-requires Inv-loop μ-loop
 has-requires c κs = search needs
 
--- src/lib.rt:71:46
 separation-margin-requires : tie.Need-separation-margin-requires Inv-loop μ-loop
 separation-margin-requires c κs = let g = c .before .before .before .before .pre in (g .0, g .1, g .2, omega arith)
 
--- src/lib.rt:71:13
 smaller-requires : tie.Need-smaller-requires Inv-loop μ-loop
 smaller-requires c κs = search needs
 
--- src/lib.rt:69:9
 add-x : tie.Need-add-x Inv-loop μ-loop
 add-x c = search needs
 
--- src/lib.rt:69:5
 loop-less : tie.Need-loop-less Inv-loop μ-loop
 loop-less c = search needs
 
--- src/lib.rt:69:5
 loop-again : tie.Need-loop-again Inv-loop μ-loop
 loop-again c = let s = c .before .before .before in
     let t = ap not (c .before .has .ensures) in
@@ -59,12 +47,11 @@ loop-again c = let s = c .before .before .before in
     (λ w. (omega arith, run-no (s .loop .inv .1) (sym t ∙ w .0 .left) (w .1)))
     (c .if1 .came)
 
--- src/lib.rt:64:1
 returns : tie.Need-returns Inv-loop μ-loop
 unfolding separationFrom
 returns c = let s = c .before in
     let g = s .before in
-    least-other (g .pre .1) (split-beyond (g .pre .0) (g .pre .1) (g .pre .2)) (omega arith) (s .loop .inv .1)
+    least-other (g .pre .1) (split-beyond (g .pre .0) (g .pre .1) (g .args .a)) (omega arith) (s .loop .inv .1)
 
 pub separation-from-spec : {M : Type 1} → statement M
 separation-from-spec =

@@ -1,23 +1,19 @@
 use mathlib.Core.Path.{sym, ap, _∙_}
 use mathlib.Core.Logic.{⊎-elim}
 use Prim.Native.Nat.{_-_, _≤_}
+use native.Mathlib.Omega.{arith}
+use borrow.Author.Needs.{needs}
 use mir.Syntax.{w64}
 use Rattle.integers.specs.Integers.{minZ}
 use Rattle.integers.proofs.Held.{passed}
+use Rattle.integers.proofs.Running.{Run, run-start, run-yes, run-no}
 use Rattle.sets.specs.Sets.{has}
 use Rattle.clusters.specs.PairList.{score}
 use Rattle.indices.specs.Margins.{separationFrom}
-use Rattle.indices.proofs.Running.{Run, run-start, run-yes, run-no}
-use Rattle.indices.proofs.Margins.{top, top-held, least-member, separation-beyond, separation-margins}
-use borrow.Author.Needs.{needs}
-use native.Mathlib.Omega.{arith}
+use Rattle.indices.proofs.Margins.{separation-margins}
+use Rattle.indices.proofs.Seen.{top, top-held, least-member, separation-beyond}
 use Rattle.indices.proofs.separation_index.Statement.{statement}
 use Rattle.indices.proofs.separation_index.Tie as tie
-use Rattle.indices.proofs.separation_index.Reads as reads
-use Rattle.indices.proofs.separation_index.Lts as lts
-use Rattle.indices.proofs.separation_from.Reads as separation-from-reads
-use Rattle.integers.proofs.smaller.Reads as smaller-reads
-use Rattle.sets.proofs.has.Reads as has-reads
 
 abbrev Inv-loop : tie.InvT-loop
 Inv-loop n pairs set least₀ a₀ least a = (a ≤ n) × Run minZ top (has set) (separationFrom n (score pairs) set) a least
@@ -25,31 +21,24 @@ Inv-loop n pairs set least₀ a₀ least a = (a ≤ n) × Run minZ top (has set)
 abbrev μ-loop : tie.MeasureT-loop
 μ-loop n pairs set least₀ a₀ least a = n - a
 
--- src/lib.rt:82:5
 loop-holds : tie.Need-loop-holds Inv-loop μ-loop
 loop-holds c = (omega arith, run-start top-held)
 
--- src/lib.rt:83:12
 has-requires : tie.Need-has-requires Inv-loop μ-loop
 has-requires c κs = search needs
 
--- src/lib.rt:84:46
 separation-from-requires : tie.Need-separation-from-requires Inv-loop μ-loop
 separation-from-requires c κs = let g = c .before .before .before .before .pre in (g .0, g .1, omega arith)
 
--- src/lib.rt:84:13
 smaller-requires : tie.Need-smaller-requires Inv-loop μ-loop
 smaller-requires c κs = search needs
 
--- src/lib.rt:82:9
 add-a : tie.Need-add-a Inv-loop μ-loop
 add-a c = search needs
 
--- src/lib.rt:82:5
 loop-less : tie.Need-loop-less Inv-loop μ-loop
 loop-less c = search needs
 
--- src/lib.rt:82:5
 loop-again : tie.Need-loop-again Inv-loop μ-loop
 loop-again c = let s = c .before .before .before in
     let t = c .before .has .ensures in
@@ -58,7 +47,6 @@ loop-again c = let s = c .before .before .before in
     (λ w. (omega arith, run-no (s .loop .inv .1) (sym t ∙ w .0 .left) (w .1)))
     (c .if1 .came)
 
--- src/lib.rt:77:1
 returns : tie.Need-returns Inv-loop μ-loop
 returns c = let s = c .before in
     let g = s .before in

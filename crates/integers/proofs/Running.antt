@@ -1,9 +1,8 @@
 -- A loop over the numbers below n that pass a test, as a fold; the running least and greatest.
 use mathlib.Core.Path.{_≡_, refl, sym, ap, _∙_}
 use mathlib.Core.Bool.{Bool, true, false}
-use mathlib.Core.Logic.{_⊎_, inl, inr}
-use mathlib.Core.List.{List, [], _∷_, _++_, map, foldl, foldl-append, foldl-map, append-nil}
-use Prim.Native.Nat.{ℕ, suc, _+_, _^_, _<_}
+use mathlib.Core.List.{List, [], _∷_, map, foldl, foldl-append, foldl-map}
+use Prim.Native.Nat.{ℕ, _+_, _^_, _<_}
 use native.Mathlib.Numerals.{add-one}
 use lib.IntN.{ℤ}
 use lib.Signed.{_≤ℤ_, leZ, mag}
@@ -12,10 +11,10 @@ use mir.Val.{ofZ, toZ, hbits}
 use Rattle.lists.specs.Lists.{_∈_, below, each, keep}
 use Rattle.lists.proofs.Tests.{true-T, false-T, cond-elim}
 use Rattle.lists.proofs.Lists.{in-map, keep-append, keep-yes, keep-no}
 use Rattle.integers.specs.Integers.{minZ, maxZ, least, greatest}
 use Rattle.integers.proofs.Linear.{zarith}
 use Rattle.integers.proofs.Held.{Held, held-value, held-result, held-equal}
-use Rattle.integers.proofs.Least.{min-left, min-right, min-is, max-left, max-right, max-is, least-le, greatest-ge}
+use Rattle.integers.proofs.Least.{min-left, min-right, max-left, max-right, least-le, greatest-ge}
 
 -- one turn: x passes, or x is passed over
 module _ {ℓ} {S : Type ℓ} (op : S → ℕ → S) (z : S) (p : ℕ → Bool) (x : ℕ) where
