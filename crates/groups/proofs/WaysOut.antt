@@ -14,7 +14,7 @@ use Rattle.clusters.specs.PairList.{score, hasLength, inRange}
 use Rattle.clusters.specs.Refusals.{wrongKind, kindOf, wrongCount, wrongDistances}
 use Rattle.answers.specs.Answers.{answer, filled}
 use Rattle.answers.specs.declared.Answer.the-variants.{Count, Refused}
-use Rattle.answers.proofs.Answers.{refused}
+use Rattle.answers.proofs.WaysOut.{refused}
 use Rattle.farris.proofs.Refusals.{no-first, or-none, right-count, right-length}
 use Rattle.kinds.specs.Checked.{Checked}
 use Rattle.groups.specs.Calls.{numbersChecks, numbersRefusal, groupsFound, setsFound, indicesFound, Numbered}
