@@ -1,4 +1,4 @@
--- Numbers of kinds as the code reads them, and the sizes that a kind asks for.
+-- The number of a kind as the code reads it, the sizes that a kind speaks of, and what the code for the indices asks.
 use mathlib.Core.Path.{_≡_, sym, _∙_}
 use mathlib.Core.Bool.{Bool, false, _&&_}
 use mathlib.Core.List.{List}
