@@ -36,8 +36,7 @@ numbers-pass kind n l sets indices e₀ =
     let (c₁₁, e₁₁) = no-first 11 (not (inRange l)) _ (lit< tt) e₁₀ in
     let (c₁₂, e₁₂) = no-first 12 (wrongDistances kind n l) _ (lit< tt) e₁₁ in
     let (c₁₃, e₁₃) = no-first 13 (ltb sets (2 * n) || ltb indices (2 * n)) _ (lit< tt) e₁₂ in
-    let (p, q) = or-none (ltb sets (2 * n)) (ltb indices (2 * n)) c₁₃ in
-    (
+    let (p, q) = or-none (ltb sets (2 * n)) (ltb indices (2 * n)) c₁₃ in (
       record { some = some-count n c₆; few = right-count n c₆; long = right-length n l c₁₀; range = true-T (not-false (inRange l) c₁₁) },
       ltb-false sets (2 * n) p,
       ltb-false indices (2 * n) q,

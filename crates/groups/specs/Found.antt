@@ -14,7 +14,7 @@ setsOf f = take (f .count) (f .sets)
 abbrev pub indicesOf : Found → List ℤ
 indicesOf f = take (f .count) (f .indices)
 
--- they are the groups of a kind, each with its index
+-- they are the groups of a kind, each with its index: at most 2n − 2, so at most 62 of 32 entries
 pub record Groups (kind : Kind) (n : ℕ) (l : List ℤ) (f : Found) : Type 0 where
   pub sets : setsOf f ≡ groupSets kind n (score l)
   pub indices : indicesOf f ≡ map (index kind n (score l)) (groupSets kind n (score l))

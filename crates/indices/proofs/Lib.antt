@@ -2,4 +2,5 @@ pub mod Smallest
 pub mod Totals
 pub mod Bounds
 pub mod Margins
+pub mod Seen
 pub mod Clean

@@ -1,4 +1,4 @@
--- Numbers of kinds as the code reads them, and the sizes that a kind asks for.
+-- The number of a kind as the code reads it, the sizes that a kind speaks of, and what the code for the indices asks.
 use mathlib.Core.Path.{_≡_, sym, _∙_}
 use mathlib.Core.Bool.{Bool, false, _&&_}
 use mathlib.Core.List.{List}
@@ -44,13 +44,8 @@ checked-scores {n} {l} c = record {
   small = λ z m. let (a, b, _, _, e) = element-score n l (c .long) m in within-grow (omega arith) (within-equal e (score-within l a b (c .range)));
 }
 
-module _ (n A : ℕ) where
-  pub spoken : A < 2 ^ n → (kind : Kind) → T (speaksOf kind n A) → Proper n A
-  unfolding leastSize
-  spoken low strong t = let (some, rest) = speaks-size strong n A t in record { fits = low; some = some; rest = rest }
-  spoken low clean t = let (some, rest) = speaks-size clean n A t in record { fits = low; some = omega arith; rest = rest }
-  spoken low splits t = let (some, rest) = speaks-size splits n A t in record { fits = low; some = some; rest = rest }
-
-  pub spoken-clean : T (speaksOf clean n A) → 2 ≤ size n A
-  unfolding leastSize
-  spoken-clean t = speaks-size clean n A t .0
+pub spoken : (n A : ℕ) → A < 2 ^ n → (kind : Kind) → T (speaksOf kind n A) → Proper n A
+unfolding leastSize
+spoken n A low strong t = let (some, rest) = speaks-size strong n A t in record { fits = low; some = some; rest = rest }
+spoken n A low clean t = let (some, rest) = speaks-size clean n A t in record { fits = low; some = omega arith; rest = rest }
+spoken n A low splits t = let (some, rest) = speaks-size splits n A t in record { fits = low; some = some; rest = rest }

@@ -2,17 +2,17 @@
 use mathlib.Core.Path.{_≡_, subst}
 use mathlib.Core.Bool.{true, false}
 use mathlib.Core.List.{List}
-use Prim.Native.Nat.{ℕ, zero, suc, _+_, _*_, _≤_, _<_}
+use Prim.Native.Nat.{ℕ, _+_, _*_, _≤_, _<_}
+use native.Mathlib.Nat.{mul-pos}
 use native.Mathlib.Decide.{ℕ-discrete}
 use native.Mathlib.Omega.{arith}
 use lib.IntN.{ℤ, pos, _*ℤ_}
 use lib.Signed.{_≤ℤ_, _<ℤ_, ≤ℤ-refl}
-use lib.ListN.{getD}
 use Rattle.integers.proofs.Linear.{zarith}
 use Rattle.integers.proofs.Tests.{leZ-true, leZ-false}
 use Rattle.clusters.specs.Linkage.{Quotient, _≼_}
 use Rattle.clusters.proofs.Links.{≼-trans}
-use Rattle.links.specs.Table.{quotientAt, atMost, Weights, GreatestAt, GreatestBefore}
+use Rattle.links.specs.Table.{Small, quotientAt, atMost, Weights, Readable, GreatestAt, GreatestBefore}
 
 yes-≼ : (p q : Quotient) → atMost p q ≡ true → p ≼ q
 unfolding atMost _≼_
@@ -29,12 +29,15 @@ unfolding _≼_
 -- denominators of weights are not 0
 pub quotient-den : {k : ℕ} (w : List ℕ) (t : List ℤ) (a b : ℕ) → Weights k w → a < k → b < k → 0 < quotientAt w t a b .den
 unfolding quotientAt
-quotient-den w t a b h ha hb = product (getD w a 0) (getD w b 0) (h a ha .0) (h b hb .0)
-  where
-    product : (x y : ℕ) → 1 ≤ x → 1 ≤ y → 0 < x * y
-    product zero y h k = absurd (omega arith)
-    product (suc x) zero h k = absurd (omega arith)
-    product (suc x) (suc y) h k = omega arith
+quotient-den w t a b h ha hb = mul-pos (h a ha .0) (h b hb .0)
+
+pub readable : {k : ℕ} {w : List ℕ} {t : List ℤ} (a b : ℕ) → k ≤ 32 → Small k t → Weights k w → a < b → b < k → Readable w t a b
+readable a b h s v ab bk = record {
+  row = omega arith;
+  column = omega arith;
+  light = (v a (omega arith) .1, v b bk .1);
+  within = s .within a b (omega arith) bk (λ e. omega arith);
+}
 
 module _ {k : ℕ} {link : ℕ → ℕ → Quotient} where
   pub before-none : {i j : ℕ} → i < j → j < k → GreatestBefore k link 0 i j

@@ -57,6 +57,13 @@ atMost p q = leZ (pos (q .den) *ℤ p .num) (pos (p .den) *ℤ q .num)
 abbrev pub Weights : ℕ → List ℕ → Type 0
 Weights k w = (a : ℕ) → a < k → (1 ≤ getD w a 0) × (getD w a 0 ≤ 32)
 
+-- the link at a and b is in the table, and what is computed of it stays far below what 64 bits hold
+pub record Readable (w : List ℕ) (t : List ℤ) (a b : ℕ) : Type 0 where
+  pub row : a < 32
+  pub column : b < 32
+  pub light : (getD w a 0 ≤ 32) × (getD w b 0 ≤ 32)
+  pub within : Within (2 ^ 40) (entry t a b)
+
 -- two of the first k places, in rising order, and the link of the blocks there is at least that of any such two
 pub record GreatestAt (k : ℕ) (link : ℕ → ℕ → Quotient) (i j : ℕ) : Type 0 where
   pub rising : i < j

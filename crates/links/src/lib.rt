@@ -6,7 +6,7 @@ ghost use lib.IntN.{pos, _*ℤ_};
 ghost use lib.Signed.{leZ};
 ghost use lib.ListN.{length, getD};
 ghost use Rattle.integers.specs.Range.{Within};
-ghost use Rattle.clusters.specs.PairList.{rowStart, score};
+ghost use Rattle.clusters.specs.PairList.{rowStart, place, score};
 ghost use Rattle.links.specs.Table.{
   entry,
   stored,
@@ -18,6 +18,7 @@ ghost use Rattle.links.specs.Table.{
   quotientAt,
   atMost,
   Weights,
+  Readable,
   GreatestAt,
   GreatestBefore,
 };
@@ -38,8 +39,8 @@ fn put(t: &mut [i64; 1024], a: usize, b: usize, z: i64)
     t[b * 32 + a] = z;
 }
 
-fn fill_row(pairs: &[i32], n: usize, a: usize, t: &mut [i64; 1024])
-    requires { ⌜ (a < n) × (n ≤ 32) × (length (now pairs) ≡ rowStart n) × (length (now t) ≡ 1024) ⌝ }
+fn fill_row(pairs: &[i32], a: usize, t: &mut [i64; 1024])
+    requires { ⌜ (a < 32) × (place a a < length (now pairs)) × (length (now t) ≡ 1024) ⌝ }
     ensures { λ _. ⌜ Written a a (score (now (pairs .entry)) a) a (now (t .entry)) (now (t .exit)) ⌝ }
 {
     for b in 0..a {
@@ -53,7 +54,7 @@ pub fn fill(pairs: &[i32], n: usize, t: &mut [i64; 1024])
     ensures { λ _. ⌜ Holds n (score (now (pairs .entry))) (now (t .exit)) ⌝ }
 {
     for a in 0..n {
-        fill_row(pairs, n, a, t);
+        fill_row(pairs, a, t);
     }
 }
 
@@ -109,31 +110,23 @@ fn denominator(weights: &[usize; 32], a: usize, b: usize) -> usize
     weights[a] * weights[b]
 }
 
-// The link at a and b is at most that at i and j.
-fn is_at_most(
-    count: usize,
-    weights: &[usize; 32],
-    t: &[i64; 1024],
-    a: usize,
-    b: usize,
-    i: usize,
-    j: usize,
-) -> bool
-    requires { ⌜ (a < b) × (b < count) × (i < j) × (j < count) × (count ≤ 32) × Small count (now t) × Weights count (now weights) ⌝ }
-    ensures { λ r. ⌜ r ≡ atMost (quotientAt (now (weights .entry)) (now (t .entry)) a b) (quotientAt (now (weights .entry)) (now (t .entry)) i j) ⌝ }
-{
-    is_quotient_at_most(
-        get(t, a, b),
-        denominator(weights, a, b),
-        get(t, i, j),
-        denominator(weights, i, j),
-    )
-}
-
 // Two places of the table.
 pub struct Pair {
     pub i: usize,
     pub j: usize,
+}
+
+// The link at p is at most that at q.
+fn is_at_most(weights: &[usize; 32], t: &[i64; 1024], p: Pair, q: Pair) -> bool
+    requires { ⌜ Readable (now weights) (now t) (p .i) (p .j) × Readable (now weights) (now t) (q .i) (q .j) ⌝ }
+    ensures { λ r. ⌜ r ≡ atMost (quotientAt (now (weights .entry)) (now (t .entry)) (p .i) (p .j)) (quotientAt (now (weights .entry)) (now (t .entry)) (q .i) (q .j)) ⌝ }
+{
+    is_quotient_at_most(
+        get(t, p.i, p.j),
+        denominator(weights, p.i, p.j),
+        get(t, q.i, q.j),
+        denominator(weights, q.i, q.j),
+    )
 }
 
 // The greatest of what was found before and the links at i and a later place.
@@ -149,7 +142,7 @@ fn greatest_in_row(
 {
     let mut best = found;
     for j in i + 1..count {
-        if is_at_most(count, weights, t, i, j, best.i, best.j) {
+        if is_at_most(weights, t, Pair { i, j }, best) {
             continue;
         }
         best = Pair { i, j };

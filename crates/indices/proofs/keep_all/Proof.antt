@@ -1,12 +1,12 @@
 use mathlib.Core.Path.{sym, _∙_}
 use mathlib.Core.Logic.{⊎-elim}
 use Prim.Native.Nat.{_-_, _≤_}
+use native.Mathlib.Omega.{arith}
+use borrow.Author.Needs.{needs}
 use Rattle.sets.specs.Sets.{has, members}
 use Rattle.clusters.specs.PairList.{score}
 use Rattle.indices.specs.Smallest.{keepBefore, keepAll}
 use Rattle.indices.proofs.Smallest.{Kept, kept-start, kept-yes, kept-no, kept-sorted, kept-end, sorted-before}
-use borrow.Author.Needs.{needs}
-use native.Mathlib.Omega.{arith}
 use Rattle.indices.proofs.keep_all.Statement.{statement}
 use Rattle.indices.proofs.keep_all.Tie as tie
 

@@ -2,6 +2,8 @@ use mathlib.Core.Path.{sym, ap, ap₂, _∙_}
 use mathlib.Core.Bool.{not}
 use mathlib.Core.Logic.{⊎-elim}
 use Prim.Native.Nat.{_-_, _≤_}
+use native.Mathlib.Omega.{arith}
+use borrow.Author.Needs.{needs}
 use lib.IntN.{_-ℤ_}
 use mir.Syntax.{w64}
 use Rattle.integers.specs.Integers.{maxZ}
@@ -11,10 +13,8 @@ use Rattle.sets.specs.Sets.{has, others}
 use Rattle.clusters.specs.PairList.{score}
 use Rattle.clusters.specs.Indices.{weight}
 use Rattle.indices.specs.Smallest.{keepSmallest, keepOutside}
-use Rattle.indices.proofs.Margins.{score-asked, score-safe}
+use Rattle.indices.proofs.Seen.{score-asked, score-safe}
 use Rattle.indices.proofs.Smallest.{Kept, kept-start, kept-yes, kept-no, kept-sorted, kept-end, sorted-triple}
-use borrow.Author.Needs.{needs}
-use native.Mathlib.Omega.{arith}
 use Rattle.indices.proofs.keep_outside.Statement.{statement}
 use Rattle.indices.proofs.keep_outside.Tie as tie
 

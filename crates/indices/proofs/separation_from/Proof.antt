@@ -2,16 +2,16 @@ use mathlib.Core.Path.{sym, ap, _∙_}
 use mathlib.Core.Bool.{not}
 use mathlib.Core.Logic.{⊎-elim}
 use Prim.Native.Nat.{_-_, _≤_}
+use native.Mathlib.Omega.{arith}
+use borrow.Author.Needs.{needs}
 use mir.Syntax.{w64}
 use Rattle.integers.specs.Integers.{minZ}
 use Rattle.integers.proofs.Held.{passed}
+use Rattle.integers.proofs.Running.{Run, run-start, run-yes, run-no}
 use Rattle.sets.specs.Sets.{has}
 use Rattle.clusters.specs.PairList.{score}
 use Rattle.indices.specs.Margins.{margin, nearness, separationFrom}
-use Rattle.integers.proofs.Running.{Run, run-start, run-yes, run-no}
-use Rattle.indices.proofs.Margins.{top, top-held, least-other, split-beyond}
-use borrow.Author.Needs.{needs}
-use native.Mathlib.Omega.{arith}
+use Rattle.indices.proofs.Seen.{top, top-held, least-other, split-beyond}
 use Rattle.indices.proofs.separation_from.Statement.{statement}
 use Rattle.indices.proofs.separation_from.Tie as tie
 

@@ -1,6 +1,8 @@
 use mathlib.Core.Path.{sym, ap, ap₂, _∙_}
 use mathlib.Core.Logic.{⊎-elim}
 use Prim.Native.Nat.{_-_, _≤_}
+use native.Mathlib.Omega.{arith}
+use borrow.Author.Needs.{needs}
 use lib.IntN.{_-ℤ_}
 use lib.Dec.{lit<}
 use mir.Syntax.{w64}
@@ -9,9 +11,7 @@ use Rattle.integers.proofs.Held.{passed}
 use Rattle.integers.proofs.Range.{within-equal}
 use Rattle.clusters.specs.PairList.{score}
 use Rattle.indices.specs.Margins.{nearness}
-use Rattle.indices.proofs.Margins.{Seen, seen-none, seen-member, seen-other, seen-within, seen-margin, score-asked, score-safe, nearness-beyond}
-use borrow.Author.Needs.{needs}
-use native.Mathlib.Omega.{arith}
+use Rattle.indices.proofs.Seen.{Seen, seen-none, seen-member, seen-other, seen-within, seen-margin, score-asked, score-safe, nearness-beyond}
 use Rattle.indices.proofs.separation_margin.Statement.{statement}
 use Rattle.indices.proofs.separation_margin.Tie as tie
 

@@ -1,15 +1,15 @@
 use mathlib.Core.Path.{sym, ap, _∙_}
 use mathlib.Core.Logic.{⊎-elim}
 use Prim.Native.Nat.{_-_, _≤_}
+use native.Mathlib.Omega.{arith}
+use borrow.Author.Needs.{needs}
 use lib.Dec.{lit<}
 use mir.Syntax.{w64}
 use Rattle.integers.specs.Integers.{minZ, maxZ}
 use Rattle.integers.proofs.Held.{passed}
 use Rattle.sets.specs.Sets.{has}
 use Rattle.clusters.specs.PairList.{score}
-use Rattle.indices.proofs.Margins.{Seen, seen-none, seen-member, seen-other, seen-within, seen-margin, score-asked, score-beyond}
-use borrow.Author.Needs.{needs}
-use native.Mathlib.Omega.{arith}
+use Rattle.indices.proofs.Seen.{Seen, seen-none, seen-member, seen-other, seen-within, seen-margin, score-asked, score-beyond}
 use Rattle.indices.proofs.strong_margin.Statement.{statement}
 use Rattle.indices.proofs.strong_margin.Tie as tie
 

@@ -2,30 +2,33 @@ use borrow.Author.Needs.{needs}
 use mir.Syntax.{w64}
 use Rattle.integers.proofs.Held.{passed}
 use Rattle.clusters.specs.Groups.{index}
+use Rattle.indices.specs.Asked.{Scores, Proper}
 use Rattle.kinds.specs.Kinds.{kindFor}
-use Rattle.kinds.proofs.Listed.{checked-scores, spoken, spoken-clean}
+use Rattle.kinds.proofs.Listed.{checked-scores, spoken}
 use Rattle.kinds.proofs.index.Statement.{statement}
 use Rattle.kinds.proofs.index.Tie as tie
+
+-- what each index asks
+asked : (s : tie.Start) → Scores (s .args .n) (s .args .pairs .now) × Proper (s .args .n) (s .args .set)
+asked s = (checked-scores (s .pre .0), spoken (s .args .n) (s .args .set) (s .pre .1) (kindFor (s .args .kind)) (s .pre .2))
 
 enum-told : tie.Need-enum-told
 enum-told c = search needs
 
 strong-index-requires : tie.Need-strong-index-requires
-strong-index-requires c κs = let s = c .before .before in (checked-scores (s .pre .0), spoken (s .args .n) (s .args .set) (s .pre .1) (kindFor (s .args .kind)) (s .pre .2))
+strong-index-requires c κs = asked (c .before .before)
 
 enum-told-2 : tie.Need-enum-told-2
 enum-told-2 c = search needs
 
 clean-index-requires : tie.Need-clean-index-requires
-unfolding kindFor
-clean-index-requires c κs = let s = c .before .before in
-    (checked-scores (s .pre .0), spoken (s .args .n) (s .args .set) (s .pre .1) (kindFor (s .args .kind)) (s .pre .2), spoken-clean (s .args .n) (s .args .set) (rw (c .enum-told2 .given .1) at (s .pre .2)))
+clean-index-requires c κs = asked (c .before .before)
 
 enum-told-3 : tie.Need-enum-told-3
 enum-told-3 c = search needs
 
 separation-index-requires : tie.Need-separation-index-requires
-separation-index-requires c κs = let s = c .before .before in (checked-scores (s .pre .0), spoken (s .args .n) (s .args .set) (s .pre .1) (kindFor (s .args .kind)) (s .pre .2))
+separation-index-requires c κs = asked (c .before .before)
 
 returns : tie.Need-returns
 unfolding index kindFor

@@ -140,7 +140,7 @@ loop-again c =
     let l = turn c .before .loop in
     let m = c .before .merge in
     let many = turn c .loop-test .taken in
-    (omega (arith, l .inv .0, m .ensures .0, many), omega (arith, m .ensures .0, many), counted c, length-set (l .out) (l .k) (getD (m .result .sets) (search-of c .greatest .result .i) 0) ∙ l .inv .3, next c)
+    (omega (arith, l .inv .0, m .ensures .0, many), omega (arith, m .ensures .0, many), counted c, simp length-set (l .inv .3), next c)
 
 same-length : tie.Need-same-length Inv-loop μ-loop
 same-length c = search needs

@@ -3,7 +3,7 @@ use Prim.Native.Nat.{_≤_, _-_}
 use native.Mathlib.Omega.{arith}
 use borrow.Author.Needs.{needs}
 use Rattle.clusters.specs.PairList.{score}
-use Rattle.clusters.proofs.PairList.{score-symm}
+use Rattle.clusters.proofs.PairList.{place-lt, score-symm}
 use Rattle.links.specs.Table.{Holds}
 use Rattle.links.proofs.Rows.{holds-start, holds-next, holds-all}
 use Rattle.links.proofs.fill.Statement.{statement}
@@ -19,7 +19,9 @@ loop-holds : tie.Need-loop-holds Inv-loop μ-loop
 loop-holds c = (omega arith, holds-start _ _ (c .pre .2))
 
 fill-row-requires : tie.Need-fill-row-requires Inv-loop μ-loop
-fill-row-requires c κs = let l = c .before .before .loop in (search needs, search needs, c .before .before .before .pre .1, l .inv .1 .size)
+fill-row-requires c κs = let s = c .before .before .before in
+    let l = c .before .before .loop in
+    (omega arith, omega (arith, s .pre .1, place-lt (s .args .n) (l .a) (l .a) (omega arith) (omega arith)), l .inv .1 .size)
 
 add-a : tie.Need-add-a Inv-loop μ-loop
 add-a c = search needs

@@ -3,7 +3,7 @@ use Prim.Native.Nat.{_≤_, _<_, _*_, _+_, _-_}
 use native.Mathlib.Omega.{arith}
 use borrow.Author.Needs.{needs}
 use Rattle.links.specs.Table.{quotientAt, GreatestBefore}
-use Rattle.links.proofs.Search.{quotient-den, before-same, before-keep, before-new}
+use Rattle.links.proofs.Search.{quotient-den, readable, before-same, before-keep, before-new}
 use Rattle.links.proofs.greatest_in_row.Statement.{statement}
 use Rattle.links.proofs.greatest_in_row.Tie as tie
 
@@ -21,7 +21,8 @@ loop-holds c = (omega arith, omega arith, before-same (c .pre .4) (λ p q h l m.
 
 is-at-most-requires : tie.Need-is-at-most-requires Inv-loop μ-loop
 is-at-most-requires c κs = let s = c .before .before in
-    (omega arith, omega arith, omega arith, omega arith, s .pre .1, s .pre .2, s .pre .3)
+    let l = c .before .loop in
+    (readable (s .args .i) (l .j) (s .pre .1) (s .pre .2) (s .pre .3) (omega arith) (omega arith), readable (l .best .i) (l .best .j) (s .pre .1) (s .pre .2) (s .pre .3) (l .inv .2 .rising) (l .inv .2 .inside))
 
 add-j-2 : tie.Need-add-j-2 Inv-loop μ-loop
 add-j-2 c = search needs

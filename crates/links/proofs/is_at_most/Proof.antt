@@ -1,6 +1,5 @@
 use mathlib.Core.Path.{_∙_, ap₂}
 use Prim.Native.Nat.{ℕ}
-use native.Mathlib.Omega.{arith}
 use borrow.Author.Needs.{needs}
 use lib.IntN.{ℤ, pos, _*ℤ_}
 use lib.Signed.{leZ}
@@ -14,21 +13,19 @@ get-requires : tie.Need-get-requires
 get-requires c κs = search needs
 
 denominator-requires : tie.Need-denominator-requires
-denominator-requires c κs = let s = c .before in
-    (omega arith, omega arith, s .pre .6 (s .args .a) (omega arith) .1, s .pre .6 (s .args .b) (omega arith) .1)
+denominator-requires c κs = search needs
 
 get-requires-2 : tie.Need-get-requires-2
 get-requires-2 c κs = search needs
 
 denominator-requires-2 : tie.Need-denominator-requires-2
-denominator-requires-2 c κs = let s = c .before .before .before in
-    (omega arith, omega arith, s .pre .6 (s .args .i) (omega arith) .1, s .pre .6 (s .args .j) (omega arith) .1)
+denominator-requires-2 c κs = search needs
 
 is-quotient-at-most-requires : tie.Need-is-quotient-at-most-requires
 is-quotient-at-most-requires c κs = let s = c .before .before .before .before in
     let x = c .before .before .before .get in
     let y = c .before .get2 in
-    (c .before .before .denominator .ensures .1, c .denominator2 .ensures .1, rw (passed w64 (x .ok) (x .ensures)) (s .pre .5 .within (s .args .a) (s .args .b) (omega arith) (omega arith) (λ e. omega arith)), rw (passed w64 (y .ok) (y .ensures)) (s .pre .5 .within (s .args .i) (s .args .j) (omega arith) (omega arith) (λ e. omega arith)))
+    (c .before .before .denominator .ensures .1, c .denominator2 .ensures .1, rw (passed w64 (x .ok) (x .ensures)) (s .pre .0 .within), rw (passed w64 (y .ok) (y .ensures)) (s .pre .1 .within))
 
 times : ℕ → ℤ → ℤ
 times k z = pos k *ℤ z
