@@ -1,0 +1,1 @@
+// The triangle view: the pair list as lent, with its number of entries.
