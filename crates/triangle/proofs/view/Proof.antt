@@ -1,0 +1,50 @@
+-- `view`, walked: the view is made of the slice and the number, and owns what they own.
+use Prim.Native.Nat.{ℕ}
+use lib.IntN.{ℤ}
+use lib.ListN.{length}
+use types.Part.{agg}
+use denote.Builtin.{i32}
+use denote.Ref.{RefT}
+use denote.Slice.{sliceVal, ShrSlice, slice-vals, shr-slice-tells, shr-slice-lawful}
+use denote.Struct.Rest.{own-shut}
+use Rattle.triangle.proofs.Walks.{refl, List, [], _∷_, _<_, _^_, URA, named, w64, Val, vint, SProp, ent, emp, Lft, Share, Memory, Routine, Heap, Calls, Loops, WpFn, Atoms, Fun, factI, givenOf, tables, Given, ‵, raw, _$_, _∵_, !, qed, by, move, use1, look, init, forget, stop, from, load, and-then, no-more, assigns, returns, enter, alloc1, alloc0, params1, pass1, pass0, free1, free0, Is, uint-vals, uint-tells, namedLft, onEntry, Clauses, silence, triple, Owned, Result, Tokens, ends, meets}
+use Rattle.triangle.specs.declared.Triangle.{Triangle}
+use Rattle.triangle.proofs.Triangle as T
+use Rattle.triangle.proofs.Triangle.Laws as T′
+use Rattle.triangle.proofs.view.Key.{name}
+use Rattle.triangle.proofs.view as view
+use Rattle.triangle.proofs.view.Statement as stated
+use Rattle.triangle.proofs.view.Code as code
+
+module _ {M : Type 1} (𝓤 : URA M) (H : Heap 𝓤) (A : Atoms 𝓤) (W : Given 𝓤 H A) (mem : Memory → SProp 𝓤) (run : Routine → Fun 𝓤) (κ : Lft) (q : Share) (s : RefT (List ℤ)) (n : ℕ) where
+  abbrev c : Clauses 𝓤 view.ended
+  c = view.clauses 𝓤 H A mem run
+
+  -- the machine value of the slice
+  abbrev v : Val
+  v = sliceVal (s .ptr) (length (s .now))
+
+  abbrev y : triple 𝓤 H A view.ended c .Ghost
+  y = (((κ, tt), (q, tt), tt, (s, (n, tt)), (v ∷ [], (vint w64 n ∷ [], tt))), tt)
+
+  abbrev made : Triangle
+  made = record { pairs = s; n = n }
+
+  walk : (C : Calls 𝓤 H) (Λ : Loops 𝓤 H) → Is (ShrSlice (named 0) κ i32) s (v ∷ []) → n < 2 ^ 64
+      → ent 𝓤 (onEntry 𝓤 H A view.signature (κ, tt) (q, tt) (y .0 .3) (y .0 .4)) (WpFn 𝓤 H C Λ code.function (v ∷ vint w64 n ∷ []) (triple 𝓤 H A view.ended c .post y))
+  walk C Λ p fits =
+      let t = shr-slice-lawful 𝓤 H A W (named 0) κ i32 .typed s (v ∷ []) p .0 in
+      qed W (raw (Tokens 𝓤 H A view.ended c y) ∷ ‵ (Owned 𝓤 H A view.ended c y) ∷ []) ∵ enter ! C Λ code.function (v ∷ vint w64 n ∷ []) _ $
+      alloc1 ! (λ l₀. alloc1 ! (λ l₁. alloc1 ! (λ l₂. alloc0 ! $ params1 ! $ pass1 ! (init ! 2 refl t) $ pass1 ! (init ! 0 refl (tt, record { fits = fits })) $ pass0 ! $
+      assigns ! (agg ! (and-then ! (load ! (from ! (stop !)) (look ! 2 refl)) (and-then ! (load ! (from ! (stop !)) (look ! 0 refl)) (no-more !)))) (from ! (stop !)) (init ! 4 refl (tt, (t .1, (record { fits = fits }, tt)))) $
+      returns ! (look ! 4 refl) $ forget ! 0 refl $ forget ! 2 refl $ forget ! 4 refl $ move ! (4 ∷ 5 ∷ []) $ free1 ! $ move ! (2 ∷ 3 ∷ []) $ free1 ! $ free1 ! $ free0 ! $
+      -- [the tokens; what the slice and the number own]
+      move ! (1 ∷ 0 ∷ []) $ use1 W (‵ (Result 𝓤 H A view.ended c y (T′.lowered made) made)) (own-shut 𝓤 H A W (T.the-type (namedLft 1 0 tt (κ, tt))) (T′.the-laws (namedLft 1 0 tt (κ, tt))) (s, (n, tt))) $
+      by ! (ends 𝓤 H A view.ended c W y (T′.lowered made) made (tt, (tt, tt)) (silence 𝓤 H A 2) (factI 𝓤 _ (emp 𝓤) (refl, refl))))))
+
+pub view-spec : {M : Type 1} → stated.statement M
+unfolding code.routine
+view-spec 𝓤 H 𝓜 𝓖 𝓡 =
+    meets 𝓤 H 𝓜 𝓖 𝓡 code.env name code.function view.ended (view.clauses 𝓤 H (𝓖 .A) (𝓜 .mem) (𝓡 .run)) (code.unfolded 𝓤 H 𝓜 𝓡)
+    (λ κs. (slice-vals, (uint-vals w64, tt))) (λ κs. (shr-slice-tells (named 0) (κs .0) i32, (uint-tells w64, tt)))
+    (λ κs qs bounds a g are. walk 𝓤 H (𝓖 .A) (givenOf 𝓤 H 𝓜 𝓖) (𝓜 .mem) (𝓡 .run) (κs .0) (qs .0) (a .0) (a .1 .0) (tables 𝓤 H 𝓜 𝓡 code.env .C) (tables 𝓤 H 𝓜 𝓡 code.env .Λ) (are .0) (are .1 .0 .1))
