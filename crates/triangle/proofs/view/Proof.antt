@@ -1,18 +1,9 @@
 -- `view`, walked: the view is made of the slice and the number, and owns what they own.
-use Prim.Native.Nat.{ℕ}
-use lib.IntN.{ℤ}
-use lib.ListN.{length}
-use types.Part.{agg}
-use denote.Builtin.{i32}
-use denote.Ref.{RefT}
-use denote.Slice.{sliceVal, ShrSlice, slice-vals, shr-slice-tells, shr-slice-lawful}
-use denote.Struct.Rest.{own-shut}
-use Rattle.triangle.proofs.Walks.{refl, List, [], _∷_, _<_, _^_, URA, named, w64, Val, vint, SProp, ent, emp, Lft, Share, Memory, Routine, Heap, Calls, Loops, WpFn, Atoms, Fun, factI, givenOf, tables, Given, ‵, raw, _$_, _∵_, !, qed, by, move, use1, look, init, forget, stop, from, load, and-then, no-more, assigns, returns, enter, alloc1, alloc0, params1, pass1, pass0, free1, free0, Is, uint-vals, uint-tells, namedLft, onEntry, Clauses, silence, triple, Owned, Result, Tokens, ends, meets}
+use Rattle.triangle.proofs.Walks.{refl, List, [], _∷_, ℕ, _<_, _^_, ℤ, length, URA, named, w64, Val, vint, SProp, ent, emp, Lft, Share, Memory, Routine, Heap, Calls, Loops, WpFn, Atoms, Fun, factI, givenOf, tables, Given, ‵, raw, _$_, _∵_, !, qed, by, move, use1, agg, look, init, forget, stop, from, load, and-then, no-more, assigns, returns, enter, alloc1, alloc0, params1, pass1, pass0, free1, free0, Is, i32, uint-vals, uint-tells, RefT, sliceVal, ShrSlice, slice-vals, shr-slice-tells, shr-slice-lawful, own-shut, onEntry, Clauses, ViewType, view-laws, silence, triple, Owned, Result, Tokens, ends, meets}
 use Rattle.triangle.specs.declared.Triangle.{Triangle}
-use Rattle.triangle.proofs.Triangle as T
-use Rattle.triangle.proofs.Triangle.Laws as T′
-use Rattle.triangle.proofs.view.Key.{name}
+use Rattle.triangle.proofs.Triangle.Laws.{lowered}
 use Rattle.triangle.proofs.view as view
+use Rattle.triangle.proofs.view.Key.{name}
 use Rattle.triangle.proofs.view.Statement as stated
 use Rattle.triangle.proofs.view.Code as code
 
@@ -39,8 +30,8 @@ module _ {M : Type 1} (𝓤 : URA M) (H : Heap 𝓤) (A : Atoms 𝓤) (W : Given
       assigns ! (agg ! (and-then ! (load ! (from ! (stop !)) (look ! 2 refl)) (and-then ! (load ! (from ! (stop !)) (look ! 0 refl)) (no-more !)))) (from ! (stop !)) (init ! 4 refl (tt, (t .1, (record { fits = fits }, tt)))) $
       returns ! (look ! 4 refl) $ forget ! 0 refl $ forget ! 2 refl $ forget ! 4 refl $ move ! (4 ∷ 5 ∷ []) $ free1 ! $ move ! (2 ∷ 3 ∷ []) $ free1 ! $ free1 ! $ free0 ! $
       -- [the tokens; what the slice and the number own]
-      move ! (1 ∷ 0 ∷ []) $ use1 W (‵ (Result 𝓤 H A view.ended c y (T′.lowered made) made)) (own-shut 𝓤 H A W (T.the-type (namedLft 1 0 tt (κ, tt))) (T′.the-laws (namedLft 1 0 tt (κ, tt))) (s, (n, tt))) $
-      by ! (ends 𝓤 H A view.ended c W y (T′.lowered made) made (tt, (tt, tt)) (silence 𝓤 H A 2) (factI 𝓤 _ (emp 𝓤) (refl, refl))))))
+      move ! (1 ∷ 0 ∷ []) $ use1 W (‵ (Result 𝓤 H A view.ended c y (lowered made) made)) (own-shut 𝓤 H A W (ViewType κ) (view-laws κ) (s, (n, tt))) $
+      by ! (ends 𝓤 H A view.ended c W y (lowered made) made (tt, (tt, tt)) (silence 𝓤 H A 2) (factI 𝓤 _ (emp 𝓤) (refl, refl))))))
 
 pub view-spec : {M : Type 1} → stated.statement M
 unfolding code.routine

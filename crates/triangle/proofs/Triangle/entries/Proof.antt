@@ -1,17 +1,9 @@
 -- `entries`, walked: the number is read from the view.
-use types.Part.{whole, sub, look-in}
-use types.Kit.{drop}
-use types.Run.{fld, of-opd}
-use denote.Builtin.{usize}
-use denote.Plain.{uint-makes}
-use denote.Steps.{owned}
-use denote.Struct.Laws as LL
-use Rattle.triangle.proofs.Walks.{refl, List, [], _∷_, URA, w64, Val, vint, SProp, ent, emp, Lft, Share, Memory, Routine, Heap, Calls, Loops, WpFn, Atoms, Fun, factI, givenOf, tables, Given, ‵, raw, _$_, _∵_, !, qed, by, move, use1, look, init, forget, stop, from, load, assigns, returns, enter, alloc1, alloc0, params1, pass1, pass0, free1, free0, Is, namedLft, onEntry, Clauses, silence, triple, Owned, Result, Tokens, ends, meets}
+use Rattle.triangle.proofs.Walks.{refl, [], _∷_, URA, w64, vint, SProp, ent, emp, Lft, Share, Memory, Routine, Heap, Calls, Loops, WpFn, Atoms, Fun, factI, givenOf, tables, Given, ‵, raw, _$_, _∵_, !, qed, by, move, drop, whole, sub, look-in, look, init, forget, stop, fld, from, load, of-opd, assigns, returns, enter, alloc1, alloc0, params1, pass1, pass0, free1, free0, Is, usize, uint-makes, owned, onEntry, Clauses, View, view-vals, view-tells, view-typed, silence, triple, Owned, Tokens, ends, meets}
 use Rattle.triangle.specs.declared.Triangle.{Triangle}
-use Rattle.triangle.proofs.Triangle as T
-use Rattle.triangle.proofs.Triangle.Laws as T′
-use Rattle.triangle.proofs.Triangle.entries.Key.{name}
+use Rattle.triangle.proofs.Triangle.Laws.{lowered}
 use Rattle.triangle.proofs.Triangle.entries as entries
+use Rattle.triangle.proofs.Triangle.entries.Key.{name}
 use Rattle.triangle.proofs.Triangle.entries.Statement as stated
 use Rattle.triangle.proofs.Triangle.entries.Code as code
 
@@ -20,13 +12,13 @@ module _ {M : Type 1} (𝓤 : URA M) (H : Heap 𝓤) (A : Atoms 𝓤) (W : Given
   c = entries.clauses 𝓤 H A mem run
 
   abbrev y : triple 𝓤 H A entries.ended c .Ghost
-  y = (((κ, tt), (q, tt), tt, (d, tt), (T′.lowered d ∷ [], tt)), tt)
+  y = (((κ, tt), (q, tt), tt, (d, tt), (view-vals d, tt)), tt)
 
-  walk : (C : Calls 𝓤 H) (Λ : Loops 𝓤 H) → Is (T.the-row (namedLft 1 0 tt (κ, tt))) d (T′.lowered d ∷ [])
-      → ent 𝓤 (onEntry 𝓤 H A entries.signature (κ, tt) (q, tt) (y .0 .3) (y .0 .4)) (WpFn 𝓤 H C Λ code.function (T′.lowered d ∷ []) (triple 𝓤 H A entries.ended c .post y))
+  walk : (C : Calls 𝓤 H) (Λ : Loops 𝓤 H) → Is (View κ) d (view-vals d)
+      → ent 𝓤 (onEntry 𝓤 H A entries.signature (κ, tt) (q, tt) (y .0 .3) (y .0 .4)) (WpFn 𝓤 H C Λ code.function (view-vals d) (triple 𝓤 H A entries.ended c .post y))
   walk C Λ p =
-      let t = LL.lawful (T.the-type (namedLft 1 0 tt (κ, tt))) (T′.the-laws (namedLft 1 0 tt (κ, tt))) 𝓤 H A W .typed d (T′.lowered d ∷ []) p .0 in
-      qed W (raw (Tokens 𝓤 H A entries.ended c y) ∷ ‵ (Owned 𝓤 H A entries.ended c y) ∷ []) ∵ enter ! C Λ code.function (T′.lowered d ∷ []) _ $
+      let t = view-typed 𝓤 H A W κ d p in
+      qed W (raw (Tokens 𝓤 H A entries.ended c y) ∷ ‵ (Owned 𝓤 H A entries.ended c y) ∷ []) ∵ enter ! C Λ code.function (view-vals d) _ $
       alloc1 ! (λ l₀. alloc1 ! (λ l₁. alloc0 ! $ params1 ! $ pass1 ! (init ! 0 refl t) $ pass0 ! $
       assigns ! (of-opd ! (load ! (from ! (fld ! refl (stop !))) (look-in ! 0 (sub ! 1 refl (whole !))))) (from ! (stop !)) (init ! 2 refl (tt, t .1 .1 .0)) $
       returns ! (look ! 2 refl) $ forget ! 0 refl $ forget ! 2 refl $ move ! (2 ∷ 3 ∷ []) $ free1 ! $ free1 ! $ free0 ! $
@@ -38,5 +30,5 @@ pub entries-spec : {M : Type 1} → stated.statement M
 unfolding code.routine
 entries-spec 𝓤 H 𝓜 𝓖 𝓡 =
     meets 𝓤 H 𝓜 𝓖 𝓡 code.env name code.function entries.ended (entries.clauses 𝓤 H (𝓖 .A) (𝓜 .mem) (𝓡 .run)) (code.unfolded 𝓤 H 𝓜 𝓡)
-    (λ κs. (LL.vals (T.the-type (namedLft 1 0 tt κs)) (T′.the-laws (namedLft 1 0 tt κs)), tt)) (λ κs. (LL.tells (T.the-type (namedLft 1 0 tt κs)) (T′.the-laws (namedLft 1 0 tt κs)), tt))
+    (λ κs. (view-vals, tt)) (λ κs. (view-tells (κs .0), tt))
     (λ κs qs bounds a g are. walk 𝓤 H (𝓖 .A) (givenOf 𝓤 H 𝓜 𝓖) (𝓜 .mem) (𝓡 .run) (κs .0) (qs .0) (a .0) (tables 𝓤 H 𝓜 𝓡 code.env .C) (tables 𝓤 H 𝓜 𝓡 code.env .Λ) (are .0))

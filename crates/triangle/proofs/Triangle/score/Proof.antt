@@ -1,29 +1,13 @@
 -- `score`, walked: the view is taken apart, and what its slice and its number own goes to `score_among`.
-use mathlib.Core.Path.{_≡_}
-use Prim.Native.Nat.{ℕ}
-use lib.ListN.{length}
-use base.Logic.{id⊢}
-use sound.WpLaws.{FmC}
-use types.Kit.{given, drop, use2, learn, fsplit, fjoin}
-use types.Part.{whole, sub, look-in}
-use types.Run.{fld, of-opd, land}
-use denote.Ref.{now}
-use denote.Signed.{sint-lawful}
-use denote.Slice.{sliceVal}
-use denote.Struct.Laws as LL
-use denote.Struct.Rest.{all-own, own-open}
-use denote.Triple.Call.{calls-at}
-use denote.Triple.Table.{cited, framed}
+use Rattle.triangle.proofs.Walks.{refl, _≡_, [], _∷_, ℕ, _<_, _^_, URA, w64, vint, SProp, ent, emp, id⊢, Lft, Share, Memory, Routine, Heap, Calls, Loops, WpFn, Atoms, Fun, factI, givenOf, tables, FmC, Given, ‵, raw, given, _$_, _∵_, !, qed, by, move, drop, use1, learn, fsplit, fjoin, whole, sub, look-in, look, init, forget, stop, fld, from, load, of-opd, and-then, no-more, assigns, land, returns, enter, alloc1, alloc0, params1, pass1, pass0, free1, free0, Is, uint-vals, uint-tells, sint-lawful, now, slice-vals, own-open, all-own, onEntry, Triple, Clauses, calls-at, cited, framed, ViewType, view-laws, View, view-vals, view-tells, view-typed, silence, triple, Owned, Tokens, ends, asks, answers, meets}
 use Rattle.triangle.specs.Triangle.{scoreAmong}
-use Rattle.triangle.proofs.Walks.{refl, List, [], _∷_, _<_, _^_, URA, named, w64, Val, vint, SProp, ent, emp, Lft, Share, Memory, Routine, Heap, Calls, Loops, WpFn, Atoms, Fun, factI, givenOf, tables, Given, ‵, raw, _$_, _∵_, !, qed, by, move, use1, look, init, forget, stop, from, load, and-then, no-more, assigns, returns, enter, alloc1, alloc0, params1, pass1, pass0, free1, free0, Is, uint-vals, uint-tells, namedLft, onEntry, Clauses, silence, triple, Owned, Result, Tokens, ends, meets, Triple, asks, answers, split}
 use Rattle.triangle.specs.declared.Triangle.{Triangle}
-use Rattle.triangle.proofs.Triangle as T
-use Rattle.triangle.proofs.Triangle.Laws as T′
+use Rattle.triangle.proofs.Triangle.Laws.{lowered}
 use Rattle.triangle.proofs.score_among as among
 use Rattle.triangle.proofs.score_among.Symbol as among-def
 use Rattle.triangle.proofs.score_among.Met as among-thm
-use Rattle.triangle.proofs.Triangle.score.Key.{name}
 use Rattle.triangle.proofs.Triangle.score as score
+use Rattle.triangle.proofs.Triangle.score.Key.{name}
 use Rattle.triangle.proofs.Triangle.score.Statement as stated
 use Rattle.triangle.proofs.Triangle.score.Code as code
 
@@ -32,30 +16,28 @@ module _ {M : Type 1} (𝓤 : URA M) (H : Heap 𝓤) (A : Atoms 𝓤) (W : Given
   c = score.clauses 𝓤 H A mem run
 
   abbrev y : triple 𝓤 H A score.ended c .Ghost
-  y = (((κ, tt), (q, tt), tt, (d, (a, (b, tt))), (T′.lowered d ∷ [], (vint w64 a ∷ [], (vint w64 b ∷ [], tt)))), tt)
+  y = (((κ, tt), (q, tt), tt, (d, (a, (b, tt))), (view-vals d, (vint w64 a ∷ [], (vint w64 b ∷ [], tt)))), tt)
 
   -- the call of `score_among`
   abbrev c′ : Clauses 𝓤 among.ended
   c′ = among.clauses 𝓤 H A mem run
 
   abbrev y′ : triple 𝓤 H A among.ended c′ .Ghost
-  y′ = (((κ, tt), (q, tt), tt, (d .pairs, (d .n, (a, (b, tt)))), (sliceVal (d .pairs .ptr) (length (d .pairs .now)) ∷ [], (vint w64 (d .n) ∷ [], (vint w64 a ∷ [], (vint w64 b ∷ [], tt))))), tt)
+  y′ = (((κ, tt), (q, tt), tt, (d .pairs, (d .n, (a, (b, tt)))), (slice-vals (d .pairs), (vint w64 (d .n) ∷ [], (vint w64 a ∷ [], (vint w64 b ∷ [], tt))))), tt)
 
   apart : ent 𝓤 (onEntry 𝓤 H A score.signature (κ, tt) (q, tt) (y .0 .3) (y .0 .4)) (triple 𝓤 H A among.ended c′ .pre y′)
   apart =
-      let D = T.the-type (namedLft 1 0 tt (κ, tt)) in
-      let L = T′.the-laws (namedLft 1 0 tt (κ, tt)) in
       qed W (raw (Tokens 𝓤 H A score.ended c y) ∷ ‵ (Owned 𝓤 H A score.ended c y) ∷ []) ∵ move ! (1 ∷ []) $ fsplit ! $
-      use1 W (given (T′.lowered d ∷ [] ≡ T′.lowered d ∷ []) (‵ (all-own (D .parts) L (d .pairs, (d .n, tt))))) (own-open 𝓤 H A W D L (d .pairs, (d .n, tt)) (T′.lowered d)) $ learn ! (λ _. fsplit ! $ move ! (1 ∷ []) $ fsplit ! $
+      use1 W (given (view-vals d ≡ view-vals d) (‵ (all-own (ViewType κ .parts) (view-laws κ) (d .pairs, (d .n, tt))))) (own-open 𝓤 H A W (ViewType κ) (view-laws κ) (d .pairs, (d .n, tt)) (lowered d)) $ learn ! (λ _.
+      fsplit ! $ move ! (1 ∷ []) $ fsplit ! $
       -- [what the number owns; nothing; what the slice owns; what a and b own; the tokens]
       move ! (1 ∷ []) $ drop ! $ move ! (0 ∷ 2 ∷ []) $ fjoin ! $ move ! (1 ∷ 0 ∷ []) $ fjoin ! $ by ! (asks 𝓤 H A among.ended c′ W y′ (id⊢ 𝓤 (emp 𝓤))))
 
-  walk : (C : Calls 𝓤 H) (Λ : Loops 𝓤 H) → FmC 𝓤 H (W .laws) C → Triple 𝓤 (C among-def.name) (triple 𝓤 H A among.ended c′)
-      → Is (T.the-row (namedLft 1 0 tt (κ, tt))) d (T′.lowered d ∷ []) → a < 2 ^ 64 → b < 2 ^ 64
-      → ent 𝓤 (onEntry 𝓤 H A score.signature (κ, tt) (q, tt) (y .0 .3) (y .0 .4)) (WpFn 𝓤 H C Λ code.function (T′.lowered d ∷ vint w64 a ∷ vint w64 b ∷ []) (triple 𝓤 H A score.ended c .post y))
+  walk : (C : Calls 𝓤 H) (Λ : Loops 𝓤 H) → FmC 𝓤 H (W .laws) C → Triple 𝓤 (C among-def.name) (triple 𝓤 H A among.ended c′) → Is (View κ) d (view-vals d) → a < 2 ^ 64 → b < 2 ^ 64
+      → ent 𝓤 (onEntry 𝓤 H A score.signature (κ, tt) (q, tt) (y .0 .3) (y .0 .4)) (WpFn 𝓤 H C Λ code.function (lowered d ∷ vint w64 a ∷ vint w64 b ∷ []) (triple 𝓤 H A score.ended c .post y))
   walk C Λ fm known p fits-a fits-b =
-      let t = LL.lawful (T.the-type (namedLft 1 0 tt (κ, tt))) (T′.the-laws (namedLft 1 0 tt (κ, tt))) 𝓤 H A W .typed d (T′.lowered d ∷ []) p .0 in
-      qed W (raw (onEntry 𝓤 H A score.signature (κ, tt) (q, tt) (y .0 .3) (y .0 .4)) ∷ []) ∵ enter ! C Λ code.function (T′.lowered d ∷ vint w64 a ∷ vint w64 b ∷ []) _ $
+      let t = view-typed 𝓤 H A W κ d p in
+      qed W (raw (onEntry 𝓤 H A score.signature (κ, tt) (q, tt) (y .0 .3) (y .0 .4)) ∷ []) ∵ enter ! C Λ code.function (lowered d ∷ vint w64 a ∷ vint w64 b ∷ []) _ $
       alloc1 ! (λ l₀. alloc1 ! (λ l₁. alloc1 ! (λ l₂. alloc1 ! (λ l₃. alloc1 ! (λ l₄. alloc1 ! (λ l₅. alloc0 ! $ params1 ! $
       pass1 ! (init ! 8 refl t) $ pass1 ! (init ! 6 refl (tt, record { fits = fits-a })) $ pass1 ! (init ! 4 refl (tt, record { fits = fits-b })) $ pass0 ! $
       assigns ! (of-opd ! (load ! (from ! (fld ! refl (stop !))) (look-in ! 8 (sub ! 0 refl (whole !))))) (from ! (stop !)) (init ! 2 refl (tt, t .1 .0)) $
@@ -74,7 +56,7 @@ pub score-spec : {M : Type 1} → stated.statement M
 unfolding code.routine
 score-spec 𝓤 H 𝓜 𝓖 𝓡 =
     meets 𝓤 H 𝓜 𝓖 𝓡 code.env name code.function score.ended (score.clauses 𝓤 H (𝓖 .A) (𝓜 .mem) (𝓡 .run)) (code.unfolded 𝓤 H 𝓜 𝓡)
-    (λ κs. (LL.vals (T.the-type (namedLft 1 0 tt κs)) (T′.the-laws (namedLft 1 0 tt κs)), (uint-vals w64, (uint-vals w64, tt)))) (λ κs. (LL.tells (T.the-type (namedLft 1 0 tt κs)) (T′.the-laws (namedLft 1 0 tt κs)), (uint-tells w64, (uint-tells w64, tt))))
+    (λ κs. (view-vals, (uint-vals w64, (uint-vals w64, tt)))) (λ κs. (view-tells (κs .0), (uint-tells w64, (uint-tells w64, tt))))
     (λ κs qs bounds a g are. walk 𝓤 H (𝓖 .A) (givenOf 𝓤 H 𝓜 𝓖) (𝓜 .mem) (𝓡 .run) (κs .0) (qs .0) (a .0) (a .1 .0) (a .1 .1 .0) (tables 𝓤 H 𝓜 𝓡 code.env .C) (tables 𝓤 H 𝓜 𝓡 code.env .Λ)
     (framed 𝓤 H 𝓜 (tables 𝓤 H 𝓜 𝓡 code.env))
     (cited 𝓤 H (triple 𝓤 H (𝓖 .A) among.ended (among.clauses 𝓤 H (𝓖 .A) (𝓜 .mem) (𝓡 .run))) 𝓜 𝓡 code.env among-def.name among-def.routine code.calls-triangle·score-among (among-thm.met 𝓤 H 𝓜 𝓖 𝓡))
