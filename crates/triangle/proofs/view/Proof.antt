@@ -1,5 +1,5 @@
 -- `view`, walked: the view is made of the slice and the number, and owns what they own.
-use Rattle.triangle.proofs.Walks.{refl, List, [], _∷_, ℕ, _<_, _^_, ℤ, length, URA, named, w64, Val, vint, SProp, ent, emp, Lft, Share, Memory, Routine, Heap, Calls, Loops, WpFn, Atoms, Fun, factI, givenOf, tables, Given, ‵, raw, _$_, _∵_, !, qed, by, move, use1, agg, look, init, forget, stop, from, load, and-then, no-more, assigns, returns, enter, alloc1, alloc0, params1, pass1, pass0, free1, free0, Is, i32, uint-vals, uint-tells, RefT, sliceVal, ShrSlice, slice-vals, shr-slice-tells, shr-slice-lawful, own-shut, onEntry, Clauses, ViewType, view-laws, silence, triple, Owned, Result, Tokens, ends, meets}
+use Rattle.triangle.proofs.Walks.{refl, List, [], _∷_, ℕ, _<_, _^_, ℤ, length, URA, named, w64, Val, vint, SProp, emp, Lft, Share, Memory, Routine, Heap, Calls, Loops, Atoms, Fun, factI, givenOf, tables, Given, ‵, raw, _$_, _∵_, !, qed, by, move, use1, agg, look, init, stop, from, and-then, no-more, assigns, returns, enter, alloc1, alloc0, params1, pass1, pass0, free0, Is, i32, uint-vals, uint-tells, RefT, sliceVal, ShrSlice, slice-vals, shr-slice-tells, shr-slice-lawful, own-shut, Clauses, ViewType, view-laws, copied, freed, Walk, silence, triple, Owned, Result, Tokens, ends, meets}
 use Rattle.triangle.specs.declared.Triangle.{Triangle}
 use Rattle.triangle.proofs.Triangle.Laws.{lowered}
 use Rattle.triangle.proofs.view as view
@@ -15,23 +15,22 @@ module _ {M : Type 1} (𝓤 : URA M) (H : Heap 𝓤) (A : Atoms 𝓤) (W : Given
   abbrev v : Val
   v = sliceVal (s .ptr) (length (s .now))
 
-  abbrev y : triple 𝓤 H A view.ended c .Ghost
+  abbrev y : triple W view.ended c .Ghost
   y = (((κ, tt), (q, tt), tt, (s, (n, tt)), (v ∷ [], (vint w64 n ∷ [], tt))), tt)
 
   abbrev made : Triangle
   made = record { pairs = s; n = n }
 
-  walk : (C : Calls 𝓤 H) (Λ : Loops 𝓤 H) → Is (ShrSlice (named 0) κ i32) s (v ∷ []) → n < 2 ^ 64
-      → ent 𝓤 (onEntry 𝓤 H A view.signature (κ, tt) (q, tt) (y .0 .3) (y .0 .4)) (WpFn 𝓤 H C Λ code.function (v ∷ vint w64 n ∷ []) (triple 𝓤 H A view.ended c .post y))
+  walk : (C : Calls 𝓤 H) (Λ : Loops 𝓤 H) → Is (ShrSlice (named 0) κ i32) s (v ∷ []) → n < 2 ^ 64 → Walk W view.ended c y C Λ code.function
   walk C Λ p fits =
       let t = shr-slice-lawful 𝓤 H A W (named 0) κ i32 .typed s (v ∷ []) p .0 in
-      qed W (raw (Tokens 𝓤 H A view.ended c y) ∷ ‵ (Owned 𝓤 H A view.ended c y) ∷ []) ∵ enter ! C Λ code.function (v ∷ vint w64 n ∷ []) _ $
+      qed W (raw (Tokens W view.ended c y) ∷ ‵ (Owned W view.ended c y) ∷ []) ∵ enter ! C Λ code.function _ _ $
       alloc1 ! (λ l₀. alloc1 ! (λ l₁. alloc1 ! (λ l₂. alloc0 ! $ params1 ! $ pass1 ! (init ! 2 refl t) $ pass1 ! (init ! 0 refl (tt, record { fits = fits })) $ pass0 ! $
-      assigns ! (agg ! (and-then ! (load ! (from ! (stop !)) (look ! 2 refl)) (and-then ! (load ! (from ! (stop !)) (look ! 0 refl)) (no-more !)))) (from ! (stop !)) (init ! 4 refl (tt, (t .1, (record { fits = fits }, tt)))) $
-      returns ! (look ! 4 refl) $ forget ! 0 refl $ forget ! 2 refl $ forget ! 4 refl $ move ! (4 ∷ 5 ∷ []) $ free1 ! $ move ! (2 ∷ 3 ∷ []) $ free1 ! $ free1 ! $ free0 ! $
+      assigns ! (agg ! (and-then ! (copied ! 2 refl) (and-then ! (copied ! 0 refl) (no-more !)))) (from ! (stop !)) (init ! 4 refl (tt, (t .1, (record { fits = fits }, tt)))) $
+      returns ! (look ! 4 refl) $ freed ! 4 refl refl $ freed ! 2 refl refl $ freed ! 0 refl refl $ free0 ! $
       -- [the tokens; what the slice and the number own]
-      move ! (1 ∷ 0 ∷ []) $ use1 W (‵ (Result 𝓤 H A view.ended c y (lowered made) made)) (own-shut 𝓤 H A W (ViewType κ) (view-laws κ) (s, (n, tt))) $
-      by ! (ends 𝓤 H A view.ended c W y (lowered made) made (tt, (tt, tt)) (silence 𝓤 H A 2) (factI 𝓤 _ (emp 𝓤) (refl, refl))))))
+      move ! (1 ∷ 0 ∷ []) $ use1 W (‵ (Result W view.ended c y (lowered made) made)) (own-shut 𝓤 H A W (ViewType κ) (view-laws κ) (s, (n, tt))) $
+      by ! (ends W view.ended c y (lowered made) made (tt, (tt, tt)) (silence W 2) (factI 𝓤 _ (emp 𝓤) (refl, refl))))))
 
 pub view-spec : {M : Type 1} → stated.statement M
 unfolding code.routine

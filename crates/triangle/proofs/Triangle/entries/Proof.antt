@@ -1,5 +1,5 @@
 -- `entries`, walked: the number is read from the view.
-use Rattle.triangle.proofs.Walks.{refl, [], _∷_, URA, w64, vint, SProp, ent, emp, Lft, Share, Memory, Routine, Heap, Calls, Loops, WpFn, Atoms, Fun, factI, givenOf, tables, Given, ‵, raw, _$_, _∵_, !, qed, by, move, drop, whole, sub, look-in, look, init, forget, stop, fld, from, load, of-opd, assigns, returns, enter, alloc1, alloc0, params1, pass1, pass0, free1, free0, Is, usize, uint-makes, owned, onEntry, Clauses, View, view-vals, view-tells, view-typed, silence, triple, Owned, Tokens, ends, meets}
+use Rattle.triangle.proofs.Walks.{refl, [], _∷_, URA, w64, vint, SProp, emp, Lft, Share, Memory, Routine, Heap, Calls, Loops, Atoms, Fun, factI, givenOf, tables, Given, ‵, raw, _$_, _∵_, !, qed, by, move, drop, whole, sub, look-in, look, init, stop, fld, from, load, of-opd, assigns, returns, enter, alloc1, alloc0, params1, pass1, pass0, free0, Is, usize, uint-makes, owned, Clauses, View, view-vals, view-tells, view-typed, freed, Walk, silence, triple, Owned, Tokens, ends, meets}
 use Rattle.triangle.specs.declared.Triangle.{Triangle}
 use Rattle.triangle.proofs.Triangle.Laws.{lowered}
 use Rattle.triangle.proofs.Triangle.entries as entries
@@ -11,20 +11,19 @@ module _ {M : Type 1} (𝓤 : URA M) (H : Heap 𝓤) (A : Atoms 𝓤) (W : Given
   abbrev c : Clauses 𝓤 entries.ended
   c = entries.clauses 𝓤 H A mem run
 
-  abbrev y : triple 𝓤 H A entries.ended c .Ghost
+  abbrev y : triple W entries.ended c .Ghost
   y = (((κ, tt), (q, tt), tt, (d, tt), (view-vals d, tt)), tt)
 
-  walk : (C : Calls 𝓤 H) (Λ : Loops 𝓤 H) → Is (View κ) d (view-vals d)
-      → ent 𝓤 (onEntry 𝓤 H A entries.signature (κ, tt) (q, tt) (y .0 .3) (y .0 .4)) (WpFn 𝓤 H C Λ code.function (view-vals d) (triple 𝓤 H A entries.ended c .post y))
+  walk : (C : Calls 𝓤 H) (Λ : Loops 𝓤 H) → Is (View κ) d (view-vals d) → Walk W entries.ended c y C Λ code.function
   walk C Λ p =
-      let t = view-typed 𝓤 H A W κ d p in
-      qed W (raw (Tokens 𝓤 H A entries.ended c y) ∷ ‵ (Owned 𝓤 H A entries.ended c y) ∷ []) ∵ enter ! C Λ code.function (view-vals d) _ $
+      let t = view-typed W κ d p in
+      qed W (raw (Tokens W entries.ended c y) ∷ ‵ (Owned W entries.ended c y) ∷ []) ∵ enter ! C Λ code.function _ _ $
       alloc1 ! (λ l₀. alloc1 ! (λ l₁. alloc0 ! $ params1 ! $ pass1 ! (init ! 0 refl t) $ pass0 ! $
       assigns ! (of-opd ! (load ! (from ! (fld ! refl (stop !))) (look-in ! 0 (sub ! 1 refl (whole !))))) (from ! (stop !)) (init ! 2 refl (tt, t .1 .1 .0)) $
-      returns ! (look ! 2 refl) $ forget ! 0 refl $ forget ! 2 refl $ move ! (2 ∷ 3 ∷ []) $ free1 ! $ free1 ! $ free0 ! $
+      returns ! (look ! 2 refl) $ freed ! 2 refl refl $ freed ! 0 refl refl $ free0 ! $
       -- [the tokens; what the view owns]
       move ! (1 ∷ []) $ drop ! $ owned ! usize (Is usize) (uint-makes 𝓤 H A W w64) (d .n) _ (refl, t .1 .1 .0 .fits) $
-      by ! (ends 𝓤 H A entries.ended c W y (vint w64 (d .n)) (d .n) (tt, tt) (silence 𝓤 H A 1) (factI 𝓤 _ (emp 𝓤) refl))))
+      by ! (ends W entries.ended c y (vint w64 (d .n)) (d .n) (tt, tt) (silence W 1) (factI 𝓤 _ (emp 𝓤) refl))))
 
 pub entries-spec : {M : Type 1} → stated.statement M
 unfolding code.routine
