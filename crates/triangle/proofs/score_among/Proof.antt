@@ -1,11 +1,11 @@
 use mathlib.Core.Path.{_≡_, sym, _∙_}
 use mathlib.Core.Bool.{true}
+use native.Mathlib.Omega.{arith}
 use borrow.Author.Needs.{needs}
 use borrow.Author.Tests.{le-leb, lt-leb, lt-ltb, le-ltb, eqb-true, not-true, not-false}
-use lib.ListN.{length}
 use mir.Syntax.{w64}
 use Rattle.integers.proofs.Held.{passed}
-use Rattle.clusters.specs.PairList.{rowStart, hasLength}
+use Rattle.clusters.specs.PairList.{hasLength}
 use Rattle.matrix.proofs.Places.{score-asks}
 use Rattle.triangle.specs.Triangle.{isPair, scoreAmong}
 use Rattle.triangle.proofs.Among.{among-score}
@@ -29,7 +29,7 @@ has c = sym (c .before .has-length .ensures) ∙ not-false _ (c .if2 .left)
 
 returns-3 : tie.Need-returns-3
 unfolding scoreAmong isPair
-returns-3 c = simp (le-leb _ _ (c .before .before .before .if1 .left), has (c .before), le-ltb _ _ (c .if3 .taken))
+returns-3 c = let s = c .before .before .before .before .args in simp (le-leb _ _ (c .before .before .before .if1 .left), has (c .before), le-ltb (s .a) (s .n) (omega arith))
 
 returns-4 : tie.Need-returns-4
 unfolding scoreAmong isPair

@@ -1,7 +1,6 @@
 -- `entries`, walked: the number is read from the view.
 use Rattle.triangle.proofs.Walks.{refl, [], _∷_, URA, w64, vint, SProp, emp, Lft, Share, Memory, Routine, Heap, Calls, Loops, Atoms, Fun, factI, givenOf, tables, Given, ‵, raw, _$_, _∵_, !, qed, by, move, drop, whole, sub, look-in, look, init, stop, fld, from, load, of-opd, assigns, returns, enter, alloc1, alloc0, params1, pass1, pass0, free0, Is, usize, uint-makes, owned, Clauses, View, view-vals, view-tells, view-typed, freed, Walk, silence, triple, Owned, Tokens, ends, meets}
 use Rattle.triangle.specs.declared.Triangle.{Triangle}
-use Rattle.triangle.proofs.Triangle.Laws.{lowered}
 use Rattle.triangle.proofs.Triangle.entries as entries
 use Rattle.triangle.proofs.Triangle.entries.Key.{name}
 use Rattle.triangle.proofs.Triangle.entries.Statement as stated
