@@ -1,0 +1,56 @@
+// The triangle view: the pair list as lent, with its number of entries (document 01, The sheet).
+ghost use mathlib.Core.Path.{_≡_};
+ghost use Rattle.triangle.specs.Triangle.{scoreAmong};
+
+pub struct Triangle<'a> {
+    pub pairs: &'a [i32],
+    pub n: usize,
+}
+
+// The score of a and b, 0 if they are not two entries of a pair list of n.
+pub fn score_among(pairs: &[i32], n: usize, a: usize, b: usize) -> i64
+    ensures { λ r. ⌜ r ≡ scoreAmong n (now (pairs .entry)) a b ⌝ }
+{
+    if n > 32 {
+        return 0;
+    }
+    if !matrix::has_length(n, pairs) {
+        return 0;
+    }
+    if a >= n {
+        return 0;
+    }
+    if b >= n {
+        return 0;
+    }
+    matrix::score(pairs, a, b)
+}
+
+pub fn view<'a>(pairs: &'a [i32], n: usize) -> Triangle<'a>
+    ensures { λ r. ⌜ (r .pairs ≡ pairs .entry) × (r .n ≡ n) ⌝ }
+{
+    Triangle { pairs, n }
+}
+
+impl<'a> Triangle<'a> {
+    // How many entries it has.
+    pub fn entries(self) -> usize
+        ensures { λ r. ⌜ r ≡ self .entry .n ⌝ }
+    {
+        self.n
+    }
+
+    // The score of a and b.
+    pub fn score(self, a: usize, b: usize) -> i64
+        ensures { λ r. ⌜ r ≡ scoreAmong (self .entry .n) (now (self .entry .pairs)) a b ⌝ }
+    {
+        score_among(self.pairs, self.n, a, b)
+    }
+}
+
+// The score of a and b in the view of a pair list.
+pub fn score_of(pairs: &[i32], n: usize, a: usize, b: usize) -> i64
+    ensures { λ r. ⌜ r ≡ scoreAmong n (now (pairs .entry)) a b ⌝ }
+{
+    view(pairs, n).score(a, b)
+}
