@@ -1,7 +1,7 @@
 #!/usr/bin/env bash
 # Holds the engine's C call and the plain C engine against the second engine, answer by answer and byte by byte. The last line is
 # `N passed, M failed`; the exit status is 1 if anything failed.
-# usage: tests/comparison.sh [CASES [SEED]]     20,000 calls without CASES: about half a minute
+# usage: tests/comparison.sh [CASES [SEED]]     15,000 generated calls without CASES: about half a minute
 set -u
 root=$(cd "$(dirname "$0")/.." && pwd) || exit 2
 # shellcheck source=scripts/tools.sh

@@ -10,7 +10,7 @@ mod sheet_call;
 use parts::Parts;
 use std::process::ExitCode;
 
-const CASES: usize = 20_000;
+const CASES: usize = 15_000;
 const SEED: u64 = 1;
 
 fn main() -> ExitCode {

@@ -1,9 +1,10 @@
-//! The sheet call of each engine: generated calls, the bench, reorderings.
+//! The sheet call of each engine: generated calls, all small sheets, the bench,
+//! reorderings.
 
 use crate::bench;
 use crate::parts::Parts;
 use second_engine::compare::{check, Case, Expected, Tally, SHEET_REFUSALS};
-use second_engine::generate::{self, Random};
+use second_engine::generate::{self, Random, Table};
 use second_engine::{engine, reordering};
 
 type SheetCall = unsafe extern "C" fn(i32, *const u8, usize, *mut u8, usize) -> i64;
@@ -86,6 +87,7 @@ impl Outcomes {
 pub fn run(cases: usize, seed: u64, parts: &mut Parts) {
     let tally = generated_calls(cases, seed, parts);
     every_refusal(&tally, parts);
+    small_sheets(parts);
     bench_cases(parts);
     reorderings(cases.div_ceil(10), seed, parts);
 }
@@ -112,6 +114,55 @@ fn every_refusal(tally: &Tally, parts: &mut Parts) {
         missed => Err(format!("never met: {missed:?}")),
     };
     parts.add("every refusal is met", outcome);
+}
+
+/// Every sheet of so few entries and values, ties and all orders with them.
+fn small_sheets(parts: &mut Parts) {
+    let mut outcomes = Outcomes::new();
+    let mut sheets = 0;
+    for (kind, n, own, values) in [
+        (1, 3, true, -1..=3),
+        (1, 4, true, 0..=2),
+        (2, 4, false, -2..=2),
+        (2, 5, false, 0..=2),
+        (3, 4, false, 0..=4),
+        (3, 5, false, 0..=2),
+    ] {
+        let values: Vec<i64> = values.collect();
+        let pairs = if own {
+            n * (n + 1) / 2
+        } else {
+            n * (n - 1) / 2
+        };
+        for number in 0..values.len().pow(pairs as u32) {
+            let expected = Expected::of(Case {
+                kind,
+                sheet: small_table(n, own, &values, number).sheet(),
+                room: 128,
+            });
+            outcomes.each(|engine| engine.check(&expected));
+            sheets += 1;
+        }
+    }
+    println!("small sheets: {sheets}");
+    outcomes.add_to(parts, "all small sheets");
+}
+
+/// The digits of the number choose a value for each pair, own ones or not.
+fn small_table(n: usize, own: bool, values: &[i64], mut number: usize) -> Table {
+    let mut table = Table {
+        names: (0..n).map(|a| format!("E{a}")).collect(),
+        values: vec![vec![0; n]; n],
+    };
+    for a in 0..n {
+        for b in 0..=a {
+            if own || a != b {
+                table.set(a, b, values[number % values.len()]);
+                number /= values.len();
+            }
+        }
+    }
+    table
 }
 
 fn bench_cases(parts: &mut Parts) {
