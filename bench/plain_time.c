@@ -1,84 +1,25 @@
 /* Microseconds per call of the plain engine on near-tree sheets.
 
-   cc -std=c11 -O2 -Wall -Wextra -Werror -pedantic plain.c plain_time.c */
+   cc -std=c11 -O2 -Wall -Wextra -Werror -pedantic plain.c sheets.c plain_time.c */
 
 #define _POSIX_C_SOURCE 199309L
 
 #include "plain.h"
+#include "sheets.h"
 
-#include <inttypes.h>
 #include <stdbool.h>
 #include <stdio.h>
 #include <time.h>
 
-enum { MAX_N = 32, SHEETS = 64, REPEATS = 100, MAX_PAIRS = MAX_N * (MAX_N + 1) / 2 };
+enum { SHEETS = 64, REPEATS = 100 };
 
 typedef struct {
     int32_t pairs[MAX_PAIRS];
-    uint8_t text[12289];
+    uint8_t text[MAX_SHEET + 1];
     size_t length;
 } Sheet;
 
 static Sheet sheets[SHEETS];
-static uint64_t seed = 1;
-
-static int32_t random_below(int32_t bound)
-{
-    seed ^= seed << 13;
-    seed ^= seed >> 7;
-    seed ^= seed << 17;
-    return (int32_t)((seed >> 16) % (uint64_t)bound);
-}
-
-/* A random binary tree.  Scores fall by 10,000 with each merge, with a noise
-   below 5,000; distances are path lengths over edges of 500 to 1,499, with a
-   noise below 200. */
-static void near_tree(bool distances, int n, int32_t *pairs)
-{
-    int block[MAX_N], left = n;
-    int32_t value[MAX_N][MAX_N], depth[MAX_N];
-    for (int a = 0; a < n; a++) {
-        block[a] = a;
-        depth[a] = 0;
-        value[a][a] = distances ? 0 : 10000 * (n + 1);
-    }
-    for (; left > 1; left--) {
-        int i = random_below(left), j = random_below(left - 1);
-        j += j >= i;
-        int32_t up_i = 500 + random_below(1000), up_j = 500 + random_below(1000);
-        for (int a = 0; a < n; a++)
-            depth[a] += block[a] == i ? up_i : block[a] == j ? up_j : 0;
-        for (int a = 0; a < n; a++)
-            for (int b = 0; b < n; b++)
-                if (block[a] == i && block[b] == j)
-                    value[a][b] = value[b][a] =
-                        distances ? depth[a] + depth[b] + random_below(200)
-                                  : 10000 * left + random_below(5000);
-        for (int a = 0; a < n; a++) {
-            if (block[a] == j)
-                block[a] = i;
-            if (block[a] == left - 1)
-                block[a] = j;
-        }
-    }
-    for (int a = 0; a < n; a++)
-        for (int b = 0; b <= a; b++)
-            *pairs++ = value[a][b];
-}
-
-static size_t write_sheet(int n, const int32_t *pairs, uint8_t *text)
-{
-    char *to = (char *)text;
-    for (int i = 0; i < n; i++)
-        to += sprintf(to, "E%d%c", i, i < n - 1 ? ' ' : '\n');
-    for (int i = 0; i < n; i++)
-        for (int j = 0; j < n; j++) {
-            int high = i > j ? i : j, low = i + j - high;
-            to += sprintf(to, "%" PRId32 "%c", pairs[high * (high + 1) / 2 + low],
-                          j < n - 1 ? ' ' : '\n');
-        }
-    return (size_t)(to - (char *)text);
-}
 
 static double now(void)
 {
@@ -92,8 +33,8 @@ static double now(void)
 static double time_once(bool listing, int32_t kind, int n, int rounds,
                         double *lines)
 {
-    uint32_t sets[2 * MAX_N];
-    int64_t indices[2 * MAX_N], sum = 0;
+    uint32_t sets[2 * MAX_ENTRIES];
+    int64_t indices[2 * MAX_ENTRIES], sum = 0;
     uint8_t out[2048];
     double start = now();
     for (int r = 0; r < rounds; r++)
@@ -123,7 +64,7 @@ int main(void)
     const char *const kinds[] = {"", "strong", "clean", "splits"};
     printf("kind    n   bytes  lines  numbers us  listing us\n");
     for (int32_t kind = 1; kind <= 3; kind++)
-        for (int n = 4; n <= MAX_N; n *= 2) {
+        for (int n = 4; n <= MAX_ENTRIES; n *= 2) {
             double lines, bytes = 0, unused;
             for (int t = 0; t < SHEETS; t++) {
                 near_tree(kind == 3, n, sheets[t].pairs);

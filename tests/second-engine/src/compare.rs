@@ -43,10 +43,31 @@ impl Tally {
     }
 }
 
+/// A call, the answer it must get and the bytes it must write.
+#[derive(Clone, Debug, PartialEq, Eq)]
+pub struct Expected {
+    pub case: Case,
+    pub answer: i64,
+    pub listing: Vec<u8>,
+}
+
+impl Expected {
+    /// As this engine answers.
+    pub fn of(case: Case) -> Self {
+        let mut listing = vec![0; case.room];
+        let answer = engine::listing(case.kind, &case.sheet, &mut listing);
+        listing.truncate(usize::try_from(answer).unwrap_or(0));
+        Expected {
+            case,
+            answer,
+            listing,
+        }
+    }
+}
+
 const GUARD: usize = 64;
 
-/// Calls `other` on each case and compares. Each case is run on a pattern and
-/// on its complement, so that no byte written can hide behind what was there.
+/// Calls `other` on each case and compares; the first difference ends the run.
 pub fn compare(
     name: &str,
     other: impl Fn(i32, &[u8], &mut [u8]) -> i64,
@@ -54,26 +75,39 @@ pub fn compare(
 ) -> Result<Tally, String> {
     let mut tally = Tally::default();
     for case in cases {
-        let mut listing = vec![0; case.room];
-        let answer = engine::listing(case.kind, &case.sheet, &mut listing);
-        listing.truncate(usize::try_from(answer).unwrap_or(0));
-        tally.count(answer);
-
-        for flip in [0x00, 0xff] {
-            let mut found = pattern(case.room + 2 * GUARD, flip);
-            let mut wanted = found.clone();
-            wanted[GUARD..GUARD + listing.len()].copy_from_slice(&listing);
-
-            let sheet = case.sheet.clone();
-            let given = other(case.kind, &sheet, &mut found[GUARD..GUARD + case.room]);
-            let (found, sheet) = (black_box(found), black_box(sheet));
-
-            if given != answer || found != wanted || sheet != case.sheet {
-                return Err(describe(name, &case, answer, given, &wanted, &found));
-            }
-        }
+        let expected = Expected::of(case);
+        tally.count(expected.answer);
+        check(name, &other, &expected)?;
     }
     Ok(tally)
+}
+
+/// Calls `other` once on a pattern and once on its complement, so that no byte
+/// written can hide behind what was there.
+pub fn check(
+    name: &str,
+    other: impl Fn(i32, &[u8], &mut [u8]) -> i64,
+    expected: &Expected,
+) -> Result<(), String> {
+    let Expected {
+        case,
+        answer,
+        listing,
+    } = expected;
+    for flip in [0x00, 0xff] {
+        let mut found = pattern(case.room + 2 * GUARD, flip);
+        let mut wanted = found.clone();
+        wanted[GUARD..GUARD + listing.len()].copy_from_slice(listing);
+
+        let sheet = case.sheet.clone();
+        let given = other(case.kind, &sheet, &mut found[GUARD..GUARD + case.room]);
+        let (found, sheet) = (black_box(found), black_box(sheet));
+
+        if given != *answer || found != wanted || sheet != case.sheet {
+            return Err(describe(name, case, *answer, given, &wanted, &found));
+        }
+    }
+    Ok(())
 }
 
 fn pattern(length: usize, flip: u8) -> Vec<u8> {

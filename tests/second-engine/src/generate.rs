@@ -269,7 +269,7 @@ pub fn entries(random: &mut Random) -> usize {
 }
 
 /// A sheet and a kind that accepts it.
-fn good(random: &mut Random, n: usize) -> (i32, Table) {
+pub fn good(random: &mut Random, n: usize) -> (i32, Table) {
     let kind = random.of(&[1, 2, 3]);
     match kind {
         3 => (kind, distances(random, n)),

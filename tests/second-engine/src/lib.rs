@@ -4,6 +4,7 @@
 //! * `engine`: the calls, each by the definitions.
 //! * `generate`: sheets, good and damaged, from a seed.
 //! * `compare`: another engine's answers and bytes against these.
+//! * `reordering`: an engine's listings of one sheet in two orders.
 //! * `selfcheck`: this engine against itself, by other routes.
 
 #![forbid(unsafe_code)]
@@ -11,4 +12,5 @@
 pub mod compare;
 pub mod engine;
 pub mod generate;
+pub mod reordering;
 pub mod selfcheck;

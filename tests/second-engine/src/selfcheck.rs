@@ -5,6 +5,7 @@
 use crate::compare::{Tally, SHEET_REFUSALS};
 use crate::engine::{self, Method, Scores, Way};
 use crate::generate::{self, Random, Table};
+use crate::reordering::{self, read_listing, show, whole};
 use std::fmt;
 
 /// What a run went through.
@@ -87,7 +88,8 @@ pub fn round(random: &mut Random, report: &mut Report) -> Result<(), String> {
     let n = 1 + random.below(32);
     for (kind, table) in tables(random, n) {
         another_route(random, kind, &table, report)?;
-        reordering(random, kind, &table)?;
+        let p = generate::order(random, n);
+        reordering::check(engine::listing, kind, &table, &p)?;
         report.reorderings += 1;
     }
     Ok(())
@@ -105,13 +107,6 @@ fn demand(holds: bool, message: impl FnOnce() -> String) -> Result<(), String> {
     } else {
         Err(message())
     }
-}
-
-fn show(kind: i32, table: &Table) -> String {
-    format!(
-        "kind {kind}, sheet:\n{}",
-        String::from_utf8_lossy(&table.sheet())
-    )
 }
 
 /// Every set against the candidates.
@@ -159,7 +154,7 @@ fn another_route(
         2 => through_linkage(random, kind, Method::Average, table)?,
         _ => through_anchors(random, table)?,
     };
-    let found = read_listing(kind, table)?;
+    let found = read_listing(engine::listing, kind, table)?;
     demand(found == wanted, || {
         format!("{found:x?}, wanted {wanted:x?}; {}", show(kind, table))
     })?;
@@ -238,60 +233,6 @@ fn anchored(distances: &[i32], n: usize, anchor: usize) -> Result<Vec<i32>, Stri
     Ok(scores)
 }
 
-fn whole(n: usize) -> u32 {
-    ((1u64 << n) - 1) as u32
-}
-
-/// A set A has a line exactly when the set of all p(a) has one in the reordered
-/// sheet, with an equal index; in kind 3 a side may stand for the other.
-fn reordering(random: &mut Random, kind: i32, table: &Table) -> Result<(), String> {
-    let n = table.entries();
-    let p = generate::order(random, n);
-    let image = |set: u32| {
-        let moved = (0..n).filter(|a| set >> a & 1 == 1);
-        let set = moved.fold(0, |set, a| set | 1 << p[a]);
-        if kind == 3 && set & 1 == 1 {
-            whole(n) & !set
-        } else {
-            set
-        }
-    };
-    let old = read_listing(kind, table)?;
-    let mut wanted: Vec<(u32, i64)> = old
-        .iter()
-        .map(|&(set, index)| (image(set), index))
-        .collect();
-    wanted.sort_unstable_by_key(|&(set, _)| (set.count_ones(), set));
-    let new = read_listing(kind, &table.reordered(&p))?;
-    demand(new == wanted, || {
-        format!("reordered by {p:?}: {new:x?}; {}", show(kind, table))
-    })
-}
-
-/// The sets and indices of a listing, read back from its bytes.
-fn read_listing(kind: i32, table: &Table) -> Result<Vec<(u32, i64)>, String> {
-    let mut bytes = vec![0; 4096];
-    let answer = engine::listing(kind, &table.sheet(), &mut bytes);
-    let length =
-        usize::try_from(answer).map_err(|_| format!("answer {answer}; {}", show(kind, table)))?;
-    let text = String::from_utf8_lossy(&bytes[..length]).into_owned();
-    parse_listing(&text).ok_or_else(|| format!("listing {text:?}; {}", show(kind, table)))
-}
-
-fn parse_listing(text: &str) -> Option<Vec<(u32, i64)>> {
-    let lines = text
-        .strip_prefix("set size index\n")?
-        .split_terminator('\n');
-    lines
-        .map(|line| {
-            let [set, size, index] = line.split(' ').collect::<Vec<_>>().try_into().ok()?;
-            let digits = u32::from_str_radix(set, 16).ok()?;
-            let sized = size.parse() == Ok(digits.count_ones());
-            (set.len() == 8 && sized).then_some((digits, index.parse().ok()?))
-        })
-        .collect()
-}
-
 #[cfg(test)]
 mod tests {
     use super::*;
@@ -337,23 +278,6 @@ mod tests {
         }
         for number in SHEET_REFUSALS {
             assert!(report.tally.refusals[number] > 100, "{report}");
-        }
-    }
-
-    #[test]
-    fn a_listing_is_read_back() {
-        assert_eq!(
-            parse_listing("set size index\n00000003 2 5\n"),
-            Some(vec![(3, 5)])
-        );
-        for wrong in [
-            "set size index",
-            "set size index\n3 2 5\n",
-            "set size index\n00000003 1 5\n",
-            "set size index\n00000003 2  5\n",
-            "set size index\n00000003 2 5 \n",
-        ] {
-            assert_eq!(parse_listing(wrong), None);
         }
     }
 }

@@ -1,0 +1,17 @@
+#!/usr/bin/env bash
+# Holds the engine's C call and the plain C engine against the second engine, answer by answer and byte by byte. The last line is
+# `N passed, M failed`; the exit status is 1 if anything failed.
+# usage: tests/comparison.sh [CASES [SEED]]     15,000 generated calls without CASES: about half a minute
+set -u
+root=$(cd "$(dirname "$0")/.." && pwd) || exit 2
+# shellcheck source=scripts/tools.sh
+. "$root/scripts/tools.sh"
+# shellcheck source=scripts/library.sh
+. "$root/scripts/library.sh"
+need cargo cargo
+need gcc gcc
+need ar binutils
+find_library "$root"
+cd "$root/tests/comparison" || exit 2
+cargo build --quiet --release --offline --locked || exit 2
+exec target/release/comparison "$@"

@@ -1,0 +1,35 @@
+//! `comparison [CASES [SEED]]`: the engine and the plain C engine held against
+//! the second engine. The last line is `N passed, M failed`.
+//!
+//! * `sheet_call`: the call that reads a sheet and writes its listing.
+
+mod bench;
+mod parts;
+mod sheet_call;
+
+use parts::Parts;
+use std::process::ExitCode;
+
+const CASES: usize = 15_000;
+const SEED: u64 = 1;
+
+fn main() -> ExitCode {
+    let Some((cases, seed)) = numbers() else {
+        eprintln!("usage: comparison [CASES [SEED]]");
+        return ExitCode::from(2);
+    };
+    println!("{cases} generated calls, seed {seed}");
+    let mut parts = Parts::default();
+    sheet_call::run(cases, seed, &mut parts);
+    parts.end()
+}
+
+fn numbers() -> Option<(usize, u64)> {
+    let words: Vec<String> = std::env::args().skip(1).collect();
+    match &words[..] {
+        [] => Some((CASES, SEED)),
+        [cases] => Some((cases.parse().ok()?, SEED)),
+        [cases, seed] => Some((cases.parse().ok()?, seed.parse().ok()?)),
+        _ => None,
+    }
+}

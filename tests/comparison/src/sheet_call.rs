@@ -1,0 +1,215 @@
+//! The sheet call of each engine: generated calls, all small sheets, the bench,
+//! reorderings.
+
+use crate::bench;
+use crate::parts::Parts;
+use second_engine::compare::{check, Case, Expected, Tally, SHEET_REFUSALS};
+use second_engine::generate::{self, Random, Table};
+use second_engine::{engine, reordering};
+
+type SheetCall = unsafe extern "C" fn(i32, *const u8, usize, *mut u8, usize) -> i64;
+
+extern "C" {
+    fn farzhudyl_listing(
+        kind: i32,
+        sheet: *const u8,
+        sheet_len: usize,
+        out: *mut u8,
+        out_len: usize,
+    ) -> i64;
+    fn plain_listing(
+        kind: i32,
+        sheet: *const u8,
+        sheet_len: usize,
+        out: *mut u8,
+        out_len: usize,
+    ) -> i64;
+}
+
+struct Engine {
+    name: &'static str,
+    listing: SheetCall,
+}
+
+const ENGINES: [Engine; 2] = [
+    Engine {
+        name: "farzhudyl",
+        listing: farzhudyl_listing,
+    },
+    Engine {
+        name: "plain C",
+        listing: plain_listing,
+    },
+];
+
+impl Engine {
+    fn call(&self, kind: i32, sheet: &[u8], out: &mut [u8]) -> i64 {
+        // Lent for the call only, and with their lengths.
+        unsafe {
+            (self.listing)(
+                kind,
+                sheet.as_ptr(),
+                sheet.len(),
+                out.as_mut_ptr(),
+                out.len(),
+            )
+        }
+    }
+
+    fn check(&self, expected: &Expected) -> Result<(), String> {
+        check(self.name, |k, s, o| self.call(k, s, o), expected)
+    }
+}
+
+/// What became of each engine; its first failure ends its part.
+struct Outcomes([Result<(), String>; ENGINES.len()]);
+
+impl Outcomes {
+    fn new() -> Self {
+        Outcomes(ENGINES.map(|_| Ok(())))
+    }
+
+    fn each(&mut self, test: impl Fn(&Engine) -> Result<(), String>) {
+        for (engine, outcome) in ENGINES.iter().zip(&mut self.0) {
+            if outcome.is_ok() {
+                *outcome = test(engine);
+            }
+        }
+    }
+
+    fn add_to(self, parts: &mut Parts, what: &str) {
+        for (engine, outcome) in ENGINES.iter().zip(self.0) {
+            parts.add(&format!("{}, {what}", engine.name), outcome);
+        }
+    }
+}
+
+pub fn run(cases: usize, seed: u64, parts: &mut Parts) {
+    let tally = generated_calls(cases, seed, parts);
+    every_refusal(&tally, parts);
+    small_sheets(parts);
+    bench_cases(parts);
+    reorderings(cases.div_ceil(10), seed, parts);
+}
+
+fn generated_calls(cases: usize, seed: u64, parts: &mut Parts) -> Tally {
+    let mut tally = Tally::default();
+    let mut outcomes = Outcomes::new();
+    for case in generate::cases(seed).take(cases) {
+        let expected = Expected::of(case);
+        tally.count(expected.answer);
+        outcomes.each(|engine| engine.check(&expected));
+    }
+    outcomes.add_to(parts, "generated calls");
+    tally
+}
+
+fn every_refusal(tally: &Tally, parts: &mut Parts) {
+    println!("listings: {}", tally.listings);
+    for number in SHEET_REFUSALS {
+        println!("refused {number}: {}", tally.refusals[number]);
+    }
+    let outcome = match tally.missed() {
+        missed if missed.is_empty() => Ok(()),
+        missed => Err(format!("never met: {missed:?}")),
+    };
+    parts.add("every refusal is met", outcome);
+}
+
+/// Every sheet of so few entries and values, ties and all orders with them.
+fn small_sheets(parts: &mut Parts) {
+    let mut outcomes = Outcomes::new();
+    let mut sheets = 0;
+    for (kind, n, own, values) in [
+        (1, 3, true, -1..=3),
+        (1, 4, true, 0..=2),
+        (2, 4, false, -2..=2),
+        (2, 5, false, 0..=2),
+        (3, 4, false, 0..=4),
+        (3, 5, false, 0..=2),
+    ] {
+        let values: Vec<i64> = values.collect();
+        let pairs = if own {
+            n * (n + 1) / 2
+        } else {
+            n * (n - 1) / 2
+        };
+        for number in 0..values.len().pow(pairs as u32) {
+            let expected = Expected::of(Case {
+                kind,
+                sheet: small_table(n, own, &values, number).sheet(),
+                room: 128,
+            });
+            outcomes.each(|engine| engine.check(&expected));
+            sheets += 1;
+        }
+    }
+    println!("small sheets: {sheets}");
+    outcomes.add_to(parts, "all small sheets");
+}
+
+/// The digits of the number choose a value for each pair, own ones or not.
+fn small_table(n: usize, own: bool, values: &[i64], mut number: usize) -> Table {
+    let mut table = Table {
+        names: (0..n).map(|a| format!("E{a}")).collect(),
+        values: vec![vec![0; n]; n],
+    };
+    for a in 0..n {
+        for b in 0..=a {
+            if own || a != b {
+                table.set(a, b, values[number % values.len()]);
+                number /= values.len();
+            }
+        }
+    }
+    table
+}
+
+fn bench_cases(parts: &mut Parts) {
+    let mut outcomes = Outcomes::new();
+    for expected in bench::calls() {
+        outcomes.each(|other| {
+            check("second engine", engine::listing, &expected)?;
+            other.check(&expected)
+        });
+    }
+    outcomes.add_to(parts, "bench cases");
+}
+
+/// Each sheet turned round, with its first entry elsewhere, and in any order.
+fn reorderings(sheets: usize, seed: u64, parts: &mut Parts) {
+    let mut random = Random::new(!seed);
+    let mut outcomes = Outcomes::new();
+    let mut lines = 0;
+    for _ in 0..sheets {
+        let n = generate::entries(&mut random).max(2);
+        let (kind, table) = generate::good(&mut random, n);
+        let expected = Expected::of(Case {
+            kind,
+            sheet: table.sheet(),
+            room: 4096,
+        });
+        lines += expected
+            .listing
+            .split(|&byte| byte == b'\n')
+            .count()
+            .saturating_sub(2);
+        let mut first_elsewhere: Vec<usize> = (0..n).collect();
+        first_elsewhere.swap(0, 1 + random.below(n - 1));
+        let orders = [
+            (0..n).rev().collect(),
+            first_elsewhere,
+            generate::order(&mut random, n),
+            generate::order(&mut random, n),
+        ];
+        outcomes.each(|engine| {
+            engine.check(&expected)?;
+            for p in &orders {
+                reordering::check(|k, s, o| engine.call(k, s, o), kind, &table, p)?;
+            }
+            Ok(())
+        });
+    }
+    println!("reordered sheets: {sheets}, their lines: {lines}, 4 orders each");
+    outcomes.add_to(parts, "reorderings");
+}
