@@ -5,24 +5,24 @@ use borrow.Author.Needs.{needs}
 use mir.Syntax.{w64}
 use Rattle.integers.proofs.Held.{passed}
 use Rattle.clusters.specs.PairList.{score}
-use Rattle.matrix.proofs.Places.{score-asks}
 use Rattle.links.specs.Table.{Written}
-use Rattle.links.proofs.Rows.{written-start, written-next, written-all}
+use Rattle.links.proofs.Rows.{written-start, written-next, written-all, place-rises}
 use Rattle.links.proofs.fill_row.Statement.{statement}
 use Rattle.links.proofs.fill_row.Tie as tie
 
 abbrev Inv-loop : tie.InvT-loop
-Inv-loop pairs n a t₀ b₀ t b = (b ≤ a) × Written a a (score pairs a) b t₀ t
+Inv-loop pairs a t₀ b₀ t b = (b ≤ a) × Written a a (score pairs a) b t₀ t
 
 abbrev μ-loop : tie.MeasureT-loop
-μ-loop pairs n a t₀ b₀ t b = a - b
+μ-loop pairs a t₀ b₀ t b = a - b
 
 loop-holds : tie.Need-loop-holds Inv-loop μ-loop
-loop-holds c = (omega arith, written-start _ _ _ _ (c .pre .3))
+loop-holds c = (omega arith, written-start _ _ _ _ (c .pre .2))
 
 score-requires : tie.Need-score-requires Inv-loop μ-loop
 score-requires c κs = let s = c .before .before .before in
-    score-asks (s .args .pairs .now) (search needs) (s .pre .2) (search needs) (omega arith)
+    let b = c .before .before .loop .b in
+    (omega arith, omega arith, omega (arith, place-rises (s .args .a) b (omega arith)))
 
 put-requires : tie.Need-put-requires Inv-loop μ-loop
 put-requires c κs = search needs
