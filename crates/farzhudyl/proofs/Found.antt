@@ -5,8 +5,7 @@ use Prim.Native.Nat.{ℕ, _^_, _<_, _≤_}
 use native.Mathlib.Omega.{arith}
 use lib.IntN.{ℤ, pos}
 use lib.Signed.{_≤ℤ_}
-use lib.ListN.{length, take, drop, length-map, take-append-drop}
-use lib.Seq.{length-take-le}
+use lib.ListN.{length, drop, length-map, length-take, take-append-drop}
 use Rattle.lists.specs.Lists.{_∈_, each}
 use Rattle.lists.proofs.Lists.{each-cong, of-map}
 use Rattle.integers.proofs.Linear.{zarith, up, dn}
@@ -18,6 +17,8 @@ use Rattle.clusters.proofs.Groups.{in-groups, listed-index}
 use Rattle.listing.specs.Listing.{hexadecimal, decimal, signedDecimal, firstLine, lineText, line, listing}
 use Rattle.listing.specs.Slots.{groupsOf, Slots}
 use Rattle.listing.proofs.Slots.{groups-slots}
+use Rattle.groups.specs.declared.Found.{Found}
+use Rattle.groups.specs.Found.{Groups}
 
 -- the size of a set of n entries is that of a set of 32
 listing-wide : (n : ℕ) → n ≤ 32 → (found : List (ℕ × ℤ)) → ((g : ℕ × ℤ) → g ∈ found → g .0 < 2 ^ n) → listing 32 found ≡ listing n found
@@ -46,33 +47,41 @@ module _ (kind : Kind) (n : ℕ) (l : List ℤ) where
   unfolding groups
   indices-of = map-map _ _ (groupSets kind n (score l))
 
-  module _ (sets : List ℕ) (indices : List ℤ) (count : ℕ) (long : length sets ≡ 64) (wide : length indices ≡ 64) (few : count ≤ 62)
-      (e : take count sets ≡ groupSets kind n (score l)) (d : take count indices ≡ map (index kind n (score l)) (groupSets kind n (score l))) where
+  module _ (f : Found) (g : Groups kind n l f) where
+    sets : List ℕ
+    sets = f .sets
+
+    indices : List ℤ
+    indices = f .indices
+
+    count : ℕ
+    count = f .count
+
     many : length found ≡ count
-    unfolding found
-    many = sym (length-map found (λ (g : ℕ × ℤ). g .0)) ∙ ap length (sets-of ∙ sym e) ∙ length-take-le count sets (omega arith)
+    unfolding found count
+    many = sym (length-map found (λ (g : ℕ × ℤ). g .0)) ∙ ap length sets-of ∙ sym (g .count)
 
     these : sets ≡ map (λ (g : ℕ × ℤ). g .0) found ++ drop count sets
-    unfolding found
-    these = sym (take-append-drop count sets) ∙ ap (λ (t : List ℕ). t ++ drop count sets) (e ∙ sym sets-of)
+    unfolding found sets count
+    these = sym (take-append-drop (f .count) (f .sets)) ∙ ap (λ (t : List ℕ). t ++ drop (f .count) (f .sets)) (g .sets ∙ sym sets-of)
 
     their : indices ≡ map (λ (g : ℕ × ℤ). g .1) found ++ drop count indices
-    unfolding found
-    their = sym (take-append-drop count indices) ∙ ap (λ (t : List ℤ). t ++ drop count indices) (d ∙ sym indices-of)
+    unfolding found indices count
+    their = sym (take-append-drop (f .count) (f .indices)) ∙ ap (λ (t : List ℤ). t ++ drop (f .count) (f .indices)) (g .indices ∙ sym indices-of)
 
-    pub found-groups : groupsOf count sets indices ≡ groups kind n (score l)
-    unfolding found
-    found-groups = ap (λ (k : ℕ). groupsOf k sets indices) (sym many) ∙ ap₂ (λ (s : List ℕ) (t : List ℤ). groupsOf (length found) s t) these their ∙ groups-slots found (drop count sets) (drop count indices)
+    pub found-groups : groupsOf (f .count) (f .sets) (f .indices) ≡ groups kind n (score l)
+    unfolding found sets indices count
+    found-groups = ap (λ (k : ℕ). groupsOf k (f .sets) (f .indices)) (sym many) ∙ ap₂ (λ (s : List ℕ) (t : List ℤ). groupsOf (length found) s t) these their ∙ groups-slots found (drop (f .count) (f .sets)) (drop (f .count) (f .indices))
 
-    pub found-slots : Slots count sets indices
+    pub found-slots : Slots (f .count) (f .sets) (f .indices)
     unfolding found
     found-slots = record {
-      few = omega arith;
-      sets-hold = omega arith;
-      indices-hold = omega arith;
-      natural = λ g m. natural g (subst (λ (f : List (ℕ × ℤ)). g ∈ f) found-groups m);
+      few = omega (arith, g .few);
+      sets-hold = omega (arith, length-take (f .count) (f .sets), ap length (g .sets), g .count);
+      indices-hold = omega (arith, length-take (f .count) (f .indices), ap length (g .indices), length-map (groupSets kind n (score l)) (index kind n (score l)), g .count);
+      natural = λ h m. natural h (subst (λ (s : List (ℕ × ℤ)). h ∈ s) found-groups m);
     }
 
-    pub found-listing : n ≤ 32 → listing 32 (groupsOf count sets indices) ≡ listing n (groups kind n (score l))
+    pub found-listing : n ≤ 32 → listing 32 (groupsOf (f .count) (f .sets) (f .indices)) ≡ listing n (groups kind n (score l))
     unfolding found
     found-listing h = ap (listing 32) found-groups ∙ listing-wide n h found low

@@ -3,4 +3,5 @@ pub mod Table
 pub mod Room
 pub mod Numbers
 pub mod Found
+pub mod Pairs
 pub mod Demands

@@ -3,14 +3,14 @@ use mathlib.Core.Path.{_≡_}
 use mathlib.Core.Bool.{Bool, not, _||_}
 use mathlib.Core.List.{List, [], _∷_, map}
 use Prim.Native.Nat.{ℕ, _*_}
-use lib.IntN.{ℤ, pos}
 use lib.Dec.{ltb}
+use lib.IntN.{ℤ, pos}
 use lib.ListN.{length}
-use Rattle.clusters.specs.PairList.{score, hasLength, inRange}
 use Rattle.clusters.specs.Groups.{groups}
+use Rattle.clusters.specs.PairList.{score, hasLength, inRange}
 use Rattle.clusters.specs.Refusals.{firstOf, wrongKind, kindOf, wrongCount, wrongDistances}
-use Rattle.answers.specs.declared.Answer.{Answer}
 use Rattle.answers.specs.Answers.{answer, filled}
+use Rattle.answers.specs.declared.Answer.{Answer}
 
 -- "the numbers call [makes checks] 1, 6, 10 to 13"; 13: "either has fewer than 2n slots"
 unfoldable pub numbersChecks : ℤ → ℕ → List ℤ → ℕ → ℕ → List (ℕ × Bool)

@@ -4,8 +4,8 @@ use mathlib.Core.List.{List, map}
 use Prim.Native.Nat.{ℕ, _≤_}
 use lib.IntN.{ℤ}
 use lib.ListN.{length, take}
-use Rattle.clusters.specs.PairList.{score}
 use Rattle.clusters.specs.Groups.{Kind, index, groupSets}
+use Rattle.clusters.specs.PairList.{score}
 use Rattle.groups.specs.declared.Found.{Found}
 
 abbrev pub setsOf : Found → List ℕ

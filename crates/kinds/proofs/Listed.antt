@@ -7,16 +7,16 @@ use native.Mathlib.Omega.{arith}
 use borrow.Author.Tests.{lt-leb, le-leb}
 use lib.Dec.{T, leb, ltb}
 use lib.IntN.{ℤ}
-use mir.Val.{SFits, ofZ, toZ}
 use mir.Facts.{toZ-ofZ}
 use mir.Syntax.{w32}
+use mir.Val.{SFits, ofZ, toZ}
 use Rattle.integers.specs.Integers.{eqZ}
+use Rattle.integers.proofs.Range.{within-grow, within-equal}
 use Rattle.sets.specs.Sets.{size}
 use Rattle.sets.proofs.Sizes.{size-wide}
-use Rattle.integers.proofs.Range.{within-grow, within-equal}
 use Rattle.clusters.specs.Groups.{Kind, strong, clean, splits, proper, speaksOf}
-use Rattle.clusters.proofs.PairList.{element-score}
 use Rattle.clusters.proofs.Groups.{leastSize, speaks-size}
+use Rattle.clusters.proofs.PairList.{element-score}
 use Rattle.matrix.proofs.Scores.{score-within}
 use Rattle.indices.specs.Asked.{Scores, Proper}
 use Rattle.kinds.specs.Checked.{Checked}

@@ -1,6 +1,6 @@
 -- Kinds as the code holds them.
-use Rattle.clusters.specs.Groups as Groups
 use Rattle.clusters.specs.Groups.{strong, clean, splits}
+use Rattle.clusters.specs.Groups as Groups
 use Rattle.kinds.specs.declared.Kind.{Kind}
 use Rattle.kinds.specs.declared.Kind.the-variants.{Strong, Clean, Splits}
 

@@ -9,14 +9,13 @@ use lib.ListN.{length, take, drop, length-append, length-map}
 use lib.Seq.{take-at}
 use Rattle.integers.specs.Range.{Bounded}
 use Rattle.sets.specs.Sets.{_∪_}
-use Rattle.clusters.specs.PairList.{rowStart, score, inRange}
-use Rattle.clusters.specs.Linkage.{Linkage, single, average, Tree, singles, mergedBlocks, blocks}
 use Rattle.clusters.specs.Farris.{farris, anchoredScores}
 use Rattle.clusters.specs.Groups.{Kind, strong, clean, splits, treeLinkage, treeScores}
-use Rattle.clusters.proofs.PairList.{length-pairList}
+use Rattle.clusters.specs.Linkage.{Linkage, single, average, Tree, singles, mergedBlocks, blocks}
+use Rattle.clusters.specs.PairList.{rowStart, score, inRange}
 use Rattle.clusters.proofs.Exists.{tree-length, count-singles}
+use Rattle.clusters.proofs.PairList.{length-pairList}
 use Rattle.farris.proofs.Bounds.{anchored-bounded}
-use Rattle.linkage.specs.Blocks.{linkageOf}
 use Rattle.linkage.specs.Steps as Linkage
 use Rattle.trees.specs.Trees.{Merged, Blocks}
 use Rattle.trees.proofs.Trees.{anchored-tree}

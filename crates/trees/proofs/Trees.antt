@@ -4,14 +4,14 @@ use mathlib.Core.Logic.{_⊎_, inl, inr}
 use mathlib.Core.List.{List, [], _∷_, map, List·Memᴰ·cases-cons, List·Memᴰ·append-cases, List·Memᴰ·not-nil}
 use Prim.Native.Nat.{ℕ, _^_, _<_}
 use lib.IntN.{ℤ}
-use Rattle.lists.specs.Lists.{_∈_, each}
+use Rattle.lists.specs.Lists.{_∈_}
 use Rattle.lists.proofs.Lists.{each-cong, map-cong}
 use Rattle.sets.specs.Sets.{_∪_, members}
 use Rattle.sets.proofs.Sets.{of-members, ∪-lt}
-use Rattle.clusters.specs.PairList.{Similarity, score}
-use Rattle.clusters.specs.Linkage.{Linkage, single, average, Quotient, link, between, Merges, merged, Tree, singles, mergedBlocks, blocks}
 use Rattle.clusters.specs.Farris.{farris, anchoredScores}
 use Rattle.clusters.specs.Groups.{Kind}
+use Rattle.clusters.specs.Linkage.{Linkage, single, average, Quotient, link, between, Merges, merged, Tree, singles, mergedBlocks, blocks}
+use Rattle.clusters.specs.PairList.{Similarity, score}
 use Rattle.clusters.proofs.Blocks.{Partition, partition-singles, partition-merged}
 use Rattle.clusters.proofs.Farris.{score-anchored}
 use Rattle.trees.specs.Trees.{Blocks}

@@ -4,9 +4,9 @@ use mathlib.Core.List.{List, _++_}
 use Prim.Native.Nat.{ℕ, _-_}
 use lib.IntN.{ℤ}
 use lib.ListN.{drop}
-use Rattle.clusters.specs.PairList.{score}
-use Rattle.clusters.specs.Linkage.{Tree, blocks, mergedBlocks}
 use Rattle.clusters.specs.Groups.{Kind, treeLinkage, treeScores}
+use Rattle.clusters.specs.Linkage.{Tree, blocks, mergedBlocks}
+use Rattle.clusters.specs.PairList.{score}
 
 -- the merged blocks of such a tree are written, and the slots beyond stay
 pub record Merged (kind : Kind) (n : ℕ) (l : List ℤ) (lent after : List ℕ) : Type 0 where

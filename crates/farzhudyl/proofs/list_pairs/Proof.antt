@@ -1,3 +1,25 @@
+use mathlib.Core.Path.{_≡_, refl, sym, ap, _∙_, subst}
+use mathlib.Core.Bool.{Bool, true, false}
+use mathlib.Core.List.{List}
+use Prim.Native.Nat.{ℕ, _<_, _≤_}
+use borrow.Author.Tests.{not-true, not-false}
+use lib.Dec.{T}
+use lib.IntN.{ℤ}
+use lib.ListN.{length}
+use mir.Syntax.{w32}
+use mir.Val.{SFits, ofZ, toZ}
+use mir.Facts.{toZ-ofZ}
+use Rattle.lists.proofs.Tests.{true-T}
+use Rattle.clusters.specs.PairList.{inRange}
+use Rattle.clusters.specs.Refusals.{kindOf, wrongDistances}
+use Rattle.answers.proofs.WaysOut.{refused, counted}
+use Rattle.kinds.specs.Checked.{Checked}
+use Rattle.groups.specs.Found.{Groups}
+use Rattle.listing.specs.Listing.{listing}
+use Rattle.listing.specs.Slots.{groupsOf}
+use Rattle.farzhudyl.specs.Calls.{pairsListing, pairsRefusal}
+use Rattle.farzhudyl.proofs.Found.{found-slots, found-listing}
+use Rattle.farzhudyl.proofs.Pairs.{refused-11, refused-12, refused-14, passed, same-text}
 use native.Mathlib.Omega.{arith}
 use borrow.Author.Needs.{needs}
 use Rattle.farzhudyl.proofs.list_pairs.Statement.{statement}
@@ -10,13 +32,45 @@ use Rattle.listing.proofs.length.Reads as length-reads
 use Rattle.listing.proofs.write.Reads as write-reads
 use Rattle.matrix.proofs.in_range.Reads as in-range-reads
 
+-- the arguments, and the listing that is to be written
+abbrev text : tie.Start → List ℕ
+text s = pairsListing (s .args .kind) (s .args .n) (s .args .pairs .now)
+
+-- a signed argument reaches a callee through its bits
+told : {r t : Bool} {kind : ℤ} (f : ℤ → Bool) → SFits w32 kind → r ≡ f (toZ w32 (ofZ w32 kind)) → r ≡ t → f kind ≡ t
+told f k e p = sym (rw (toZ-ofZ k) at e) ∙ p
+
+in-range-false : (c : tie.Then1) → inRange (c .before .before .before .args .pairs .now) ≡ false
+in-range-false c = sym (c .before .in-range .ensures) ∙ not-true _ (c .if1 .taken)
+
+in-range-true : (c : tie.Else1) → inRange (c .before .before .before .args .pairs .now) ≡ true
+in-range-true c = sym (c .before .in-range .ensures) ∙ not-false _ (c .if1 .left)
+
+distances-wrong : (c : tie.Then2) → let s = c .before .before .before .before .before in wrongDistances (s .args .kind) (s .args .n) (s .args .pairs .now) ≡ true
+distances-wrong c = let s = c .before .before .before .before .before in
+    told (λ k. wrongDistances k (s .args .n) (s .args .pairs .now)) (s .fits .kind) (c .before .are-wrong-distances .ensures) (c .if2 .taken)
+
+distances-right : (c : tie.Else2) → let s = c .before .before .before .before .before in wrongDistances (s .args .kind) (s .args .n) (s .args .pairs .now) ≡ false
+distances-right c = let s = c .before .before .before .before .before in
+    told (λ k. wrongDistances k (s .args .n) (s .args .pairs .now)) (s .fits .kind) (c .before .are-wrong-distances .ensures) (c .if2 .left)
+
+-- the groups that were found
+these : (c : tie.After-find) → let s = c .before .before .before .before .before .before in Groups (kindOf (s .args .kind)) (s .args .n) (s .args .pairs .now) (c .find .result)
+these c = let s = c .before .before .before .before .before .before in
+    subst (λ k. Groups (kindOf k) (s .args .n) (s .args .pairs .now) (c .find .result)) (toZ-ofZ (s .fits .kind)) (c .find .ensures)
+
+-- the text that the writer is given is the listing
+wide : (c : tie.After-find) → let s = c .before .before .before .before .before .before in listing 32 (groupsOf (c .find .result .count) (c .find .result .sets) (c .find .result .indices)) ≡ text s
+unfolding pairsListing
+wide c = let s = c .before .before .before .before .before .before in found-listing (kindOf (s .args .kind)) (s .args .n) (s .args .pairs .now) (c .find .result) (these c) (s .pre .1)
+
 -- src/lib.rt:17:9
 in-range-requires : tie.Need-in-range-requires
 in-range-requires c κs = search needs
 
 -- src/lib.rt:18:9
 returns : tie.Need-returns
-returns c = search needs
+returns c = let s = c .before .before .before in refused (length (text s)) (text s) (s .args .out .now) (refused-11 (s .args .kind) (s .args .n) (s .args .pairs .now) (length (s .args .out .now)) (in-range-false c)) (λ z. omega arith)
 
 -- src/lib.rt:20:8
 are-wrong-distances-requires : tie.Need-are-wrong-distances-requires
@@ -24,11 +78,12 @@ are-wrong-distances-requires c κs = search needs
 
 -- src/lib.rt:21:9
 returns-2 : tie.Need-returns-2
-returns-2 c = search needs
+returns-2 c = let s = c .before .before .before .before .before in
+    refused (length (text s)) (text s) (s .args .out .now) (refused-12 (s .args .kind) (s .args .n) (s .args .pairs .now) (length (s .args .out .now)) (in-range-true (c .before .before)) (distances-wrong c)) (λ z. omega arith)
 
 -- src/lib.rt:23:9
 find-requires : tie.Need-find-requires
-find-requires c κs = search needs
+find-requires c κs = let s = c .before .before .before .before .before in record { some = s .pre .0; few = s .pre .1; long = s .pre .2; range = true-T (in-range-true (c .before .before)) }
 
 -- src/lib.rt:27:36
 slice-aggregate-length : tie.Need-slice-aggregate-length
@@ -40,11 +95,13 @@ slice-aggregate-length-2 c = search needs
 
 -- src/lib.rt:27:20
 length-requires : tie.Need-length-requires
-length-requires c κs = search needs
+length-requires c κs = found-slots _ _ _ _ (these (c .before .before .before .before))
 
 -- src/lib.rt:28:9
 returns-3 : tie.Need-returns-3
-returns-3 c = search needs
+returns-3 c = let s = c .before .before .before .before .before .before .before .before .before .before .before .before in let f = c .before .before .before .before .before .before in
+    let h : length (s .args .out .now) < length (text s) = omega (arith, c .before .length .ensures, ap length (wide f), c .if3 .taken) in
+    refused (length (text s)) (text s) (s .args .out .now) (refused-14 (s .args .kind) (s .args .n) (s .args .pairs .now) (length (s .args .out .now)) (in-range-true (f .before .before .before)) (distances-right (f .before)) h) (λ z. omega arith)
 
 -- src/lib.rt:30:39
 slice-aggregate-write : tie.Need-slice-aggregate-write
@@ -56,7 +113,7 @@ slice-aggregate-write-2 c = search needs
 
 -- src/lib.rt:30:19
 write-requires : tie.Need-write-requires
-write-requires c κs = search needs
+write-requires c κs = let f = c .before .before .before .before .before .before .before .before .before in (found-slots _ _ _ _ (these f), omega (arith, c .before .before .before .before .length .ensures, c .before .before .before .if3 .left))
 
 -- src/lib.rt:12:1
 same-length : tie.Need-same-length
@@ -64,7 +121,10 @@ same-length c = search needs
 
 -- src/lib.rt:12:1
 returns-4 : tie.Need-returns-4
-returns-4 c = search needs
+returns-4 c = let s = c .before .before .before .before .before .before .before .before .before .before .before .before .before .before .before .before .before .before in let f = c .before .before .before .before .before .before .before .before .before .before .before .before in let w = c .before .before .write in
+    let (m, o) = same-text (s .args .out .now) (wide f) (w .ensures .0) (w .ensures .1) in
+    let h : length (text s) ≤ length (s .args .out .now) = omega (arith, c .before .before .before .before .before .before .before .length .ensures, ap length (wide f), c .before .before .before .before .before .before .if3 .left) in
+    counted (length (text s)) (text s) (s .args .out .now) (passed (s .args .kind) (s .args .n) (s .args .pairs .now) (length (s .args .out .now)) (in-range-true (f .before .before .before)) (distances-right (f .before)) h) refl m refl o
 
 pub list-pairs-spec : {M : Type 1} → statement M
 list-pairs-spec =

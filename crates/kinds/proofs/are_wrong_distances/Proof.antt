@@ -1,31 +1,22 @@
-use Rattle.kinds.proofs.Listed.{told-number}
-use lib.IntN.{pos}
 use mathlib.Core.Path.{sym}
-use Rattle.clusters.specs.Refusals.{wrongDistances}
-use native.Mathlib.Omega.{arith}
 use borrow.Author.Needs.{needs}
+use lib.IntN.{pos}
+use Rattle.clusters.specs.Refusals.{wrongDistances}
+use Rattle.kinds.proofs.Listed.{told-number}
 use Rattle.kinds.proofs.are_wrong_distances.Statement.{statement}
 use Rattle.kinds.proofs.are_wrong_distances.Tie as tie
-use Rattle.kinds.proofs.are_wrong_distances.Reads as reads
-use Rattle.kinds.proofs.are_wrong_distances.Lts as lts
-use Rattle.kinds.proofs.is_number.Reads as is-number-reads
-use Rattle.matrix.proofs.are_distances.Reads as are-distances-reads
 
--- src/lib.rt:58:8
 is-number-requires : tie.Need-is-number-requires
 is-number-requires c κs = search needs
 
--- src/lib.rt:59:17
 are-distances-requires : tie.Need-are-distances-requires
 are-distances-requires c κs = search needs
 
--- src/lib.rt:59:9
 returns : tie.Need-returns
 unfolding wrongDistances
 returns c = let s = c .before .before .before in
     let e = told-number (pos 3) (s .fits .kind) (c .before .before .is-number .ensures) (c .before .if1 .taken) in rw (e, sym (c .are-distances .ensures))
 
--- src/lib.rt:54:1
 returns-2 : tie.Need-returns-2
 unfolding wrongDistances
 returns-2 c = let s = c .before .before in

@@ -1,21 +1,14 @@
-use Rattle.kinds.proofs.Listed.{too-small, large-enough}
-use native.Mathlib.Omega.{arith}
 use borrow.Author.Needs.{needs}
+use Rattle.kinds.proofs.Listed.{too-small, large-enough}
 use Rattle.kinds.proofs.has_size.Statement.{statement}
 use Rattle.kinds.proofs.has_size.Tie as tie
-use Rattle.kinds.proofs.has_size.Reads as reads
-use Rattle.kinds.proofs.has_size.Lts as lts
-use Rattle.sets.proofs.size.Reads as size-reads
 
--- src/lib.rt:69:9
 size-requires : tie.Need-size-requires
 size-requires c κs = search needs
 
--- src/lib.rt:71:9
 returns : tie.Need-returns
 returns c = let s = c .before .before in too-small (s .pre .0) (s .pre .1) (c .before .size .ensures) (c .if1 .taken)
 
--- src/lib.rt:65:1
 returns-2 : tie.Need-returns-2
 returns-2 c = let s = c .before .before in large-enough (s .pre .0) (s .pre .1) (c .before .size .ensures) (c .if1 .left)
 

@@ -1,55 +1,40 @@
+use borrow.Author.Needs.{needs}
 use mir.Syntax.{w64}
 use Rattle.integers.proofs.Held.{passed}
 use Rattle.clusters.specs.Groups.{index}
 use Rattle.kinds.specs.Kinds.{kindFor}
 use Rattle.kinds.proofs.Listed.{checked-scores, spoken, spoken-clean}
-use native.Mathlib.Omega.{arith}
-use borrow.Author.Needs.{needs}
 use Rattle.kinds.proofs.index.Statement.{statement}
 use Rattle.kinds.proofs.index.Tie as tie
-use Rattle.kinds.proofs.index.Reads as reads
-use Rattle.kinds.proofs.index.Lts as lts
-use Rattle.indices.proofs.clean_index.Reads as clean-index-reads
-use Rattle.indices.proofs.separation_index.Reads as separation-index-reads
-use Rattle.indices.proofs.strong_index.Reads as strong-index-reads
 
--- src/lib.rt:94:25
 enum-told : tie.Need-enum-told
 enum-told c = search needs
 
--- src/lib.rt:94:25
 strong-index-requires : tie.Need-strong-index-requires
 strong-index-requires c κs = let s = c .before .before in (checked-scores (s .pre .0), spoken (s .args .n) (s .args .set) (s .pre .1) (kindFor (s .args .kind)) (s .pre .2))
 
--- src/lib.rt:95:24
 enum-told-2 : tie.Need-enum-told-2
 enum-told-2 c = search needs
 
--- src/lib.rt:95:24
 clean-index-requires : tie.Need-clean-index-requires
 unfolding kindFor
 clean-index-requires c κs = let s = c .before .before in
     (checked-scores (s .pre .0), spoken (s .args .n) (s .args .set) (s .pre .1) (kindFor (s .args .kind)) (s .pre .2), spoken-clean (s .args .n) (s .args .set) (rw (c .enum-told2 .given .1) at (s .pre .2)))
 
--- src/lib.rt:96:25
 enum-told-3 : tie.Need-enum-told-3
 enum-told-3 c = search needs
 
--- src/lib.rt:96:25
 separation-index-requires : tie.Need-separation-index-requires
 separation-index-requires c κs = let s = c .before .before in (checked-scores (s .pre .0), spoken (s .args .n) (s .args .set) (s .pre .1) (kindFor (s .args .kind)) (s .pre .2))
 
--- src/lib.rt:89:1
 returns : tie.Need-returns
 unfolding index kindFor
 returns c = rw (c .before .enum-told .given .1) (passed w64 (c .strong-index .ok) (c .strong-index .ensures))
 
--- src/lib.rt:89:1
 returns-2 : tie.Need-returns-2
 unfolding index kindFor
 returns-2 c = rw (c .before .enum-told2 .given .1) (passed w64 (c .clean-index .ok) (c .clean-index .ensures))
 
--- src/lib.rt:89:1
 returns-3 : tie.Need-returns-3
 unfolding index kindFor
 returns-3 c = rw (c .before .enum-told3 .given .1) (passed w64 (c .separation-index .ok) (c .separation-index .ensures))

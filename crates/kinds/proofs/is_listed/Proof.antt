@@ -1,38 +1,27 @@
 use mathlib.Core.Path.{sym, _∙_}
+use borrow.Author.Needs.{needs}
 use mir.Syntax.{w64}
 use Rattle.lists.proofs.Tests.{true-T}
 use Rattle.integers.proofs.Held.{passed}
 use Rattle.integers.proofs.Tests.{and-second, and-first}
 use Rattle.clusters.specs.Groups.{listed}
-use native.Mathlib.Omega.{arith}
-use borrow.Author.Needs.{needs}
 use Rattle.kinds.proofs.is_listed.Statement.{statement}
 use Rattle.kinds.proofs.is_listed.Tie as tie
-use Rattle.kinds.proofs.is_listed.Reads as reads
-use Rattle.kinds.proofs.is_listed.Lts as lts
-use Rattle.integers.proofs.at_most.Reads as at-most-reads
-use Rattle.kinds.proofs.index.Reads as index-reads
-use Rattle.kinds.proofs.speaks.Reads as speaks-reads
 
--- src/lib.rt:104:5
 speaks-requires : tie.Need-speaks-requires
 speaks-requires c κs = search needs
 
--- src/lib.rt:104:50
 index-requires : tie.Need-index-requires
 index-requires c κs = let s = c .before .before in (s .pre .0, s .pre .1, true-T (sym (c .before .speaks .ensures) ∙ c .if1 .taken))
 
--- src/lib.rt:104:29
 at-most-requires : tie.Need-at-most-requires
 at-most-requires c κs = search needs
 
--- src/lib.rt:100:1
 returns : tie.Need-returns
 unfolding listed
 returns c = let x = c .before .index in
     and-second (c .before .before .before .speaks .ensures) (c .before .before .if1 .taken) (rw (passed w64 (x .ok) (x .ensures)) at (c .at-most .ensures))
 
--- src/lib.rt:100:1
 returns-2 : tie.Need-returns-2
 unfolding listed
 returns-2 c = and-first _ (c .before .speaks .ensures) (c .if1 .left)

@@ -1,26 +1,18 @@
 use mathlib.Core.Path.{_∙_, ap₂}
+use borrow.Author.Needs.{needs}
 use mir.Facts.{toZ-ofZ}
 use mir.Syntax.{w64}
 use Rattle.integers.specs.Integers.{eqZ}
 use Rattle.integers.proofs.Held.{passed}
-use native.Mathlib.Omega.{arith}
-use borrow.Author.Needs.{needs}
 use Rattle.kinds.proofs.is_number.Statement.{statement}
 use Rattle.kinds.proofs.is_number.Tie as tie
-use Rattle.kinds.proofs.is_number.Reads as reads
-use Rattle.kinds.proofs.is_number.Lts as lts
-use Rattle.integers.proofs.is_equal.Reads as is-equal-reads
-use Rattle.integers.proofs.wide.Reads as wide-reads
 
--- src/lib.rt:25:24
 wide-requires : tie.Need-wide-requires
 wide-requires c κs = search needs
 
--- src/lib.rt:25:5
 is-equal-requires : tie.Need-is-equal-requires
 is-equal-requires c κs = search needs
 
--- src/lib.rt:22:1
 returns : tie.Need-returns
 returns c = let s = c .before .before in let w = c .before .wide in
     c .is-equal .ensures ∙ ap₂ eqZ (passed w64 (w .ok) (w .ensures ∙ toZ-ofZ (s .fits .kind))) (toZ-ofZ (s .fits .number))

@@ -1,40 +1,30 @@
-use Rattle.kinds.proofs.Listed.{told-number}
-use lib.IntN.{pos}
 use mathlib.Core.Path.{refl}
-use Rattle.clusters.specs.Refusals.{wrongKind}
-use native.Mathlib.Omega.{arith}
 use borrow.Author.Needs.{needs}
+use lib.IntN.{pos}
+use Rattle.clusters.specs.Refusals.{wrongKind}
+use Rattle.kinds.proofs.Listed.{told-number}
 use Rattle.kinds.proofs.is_wrong.Statement.{statement}
 use Rattle.kinds.proofs.is_wrong.Tie as tie
-use Rattle.kinds.proofs.is_wrong.Reads as reads
-use Rattle.kinds.proofs.is_wrong.Lts as lts
-use Rattle.kinds.proofs.is_number.Reads as is-number-reads
 
--- src/lib.rt:32:8
 is-number-requires : tie.Need-is-number-requires
 is-number-requires c κs = search needs
 
--- src/lib.rt:33:9
 returns : tie.Need-returns
 unfolding wrongKind
 returns c = let e = told-number (pos 1) (c .before .before .fits .kind) (c .before .is-number .ensures) (c .if1 .taken) in rw e
 
--- src/lib.rt:35:8
 is-number-requires-2 : tie.Need-is-number-requires-2
 is-number-requires-2 c κs = search needs
 
--- src/lib.rt:36:9
 returns-2 : tie.Need-returns-2
 unfolding wrongKind
 returns-2 c = let s = c .before .before .before .before in
     let e = told-number (pos 1) (s .fits .kind) (c .before .before .before .is-number .ensures) (c .before .before .if1 .left) in
     let f = told-number (pos 2) (s .fits .kind) (c .before .is-number2 .ensures) (c .if2 .taken) in rw (e, f)
 
--- src/lib.rt:38:6
 is-number-requires-3 : tie.Need-is-number-requires-3
 is-number-requires-3 c κs = search needs
 
--- src/lib.rt:29:1
 returns-3 : tie.Need-returns-3
 unfolding wrongKind
 returns-3 c = let s = c .before .before .before .before .before in

@@ -1,61 +1,45 @@
-use mathlib.Core.Path.{sym, ap}
+use mathlib.Core.Path.{ap}
 use mathlib.Core.Bool.{not}
+use borrow.Author.Needs.{needs}
 use Rattle.integers.proofs.Tests.{and-second, and-first}
 use Rattle.clusters.specs.Groups.{speaksOf}
 use Rattle.kinds.specs.Kinds.{kindFor}
-use native.Mathlib.Omega.{arith}
-use borrow.Author.Needs.{needs}
 use Rattle.kinds.proofs.speaks.Statement.{statement}
 use Rattle.kinds.proofs.speaks.Tie as tie
-use Rattle.kinds.proofs.speaks.Reads as reads
-use Rattle.kinds.proofs.speaks.Lts as lts
-use Rattle.kinds.proofs.has_size.Reads as has-size-reads
-use Rattle.sets.proofs.has.Reads as has-reads
 
--- src/lib.rt:81:25
 enum-told : tie.Need-enum-told
 enum-told c = search needs
 
--- src/lib.rt:81:25
 has-size-requires : tie.Need-has-size-requires
 has-size-requires c κs = search needs
 
--- src/lib.rt:82:24
 enum-told-2 : tie.Need-enum-told-2
 enum-told-2 c = search needs
 
--- src/lib.rt:82:24
 has-size-requires-2 : tie.Need-has-size-requires-2
 has-size-requires-2 c κs = search needs
 
--- src/lib.rt:83:25
 enum-told-3 : tie.Need-enum-told-3
 enum-told-3 c = search needs
 
--- src/lib.rt:83:25
 has-size-requires-3 : tie.Need-has-size-requires-3
 has-size-requires-3 c κs = search needs
 
--- src/lib.rt:83:49
 has-requires : tie.Need-has-requires
 has-requires c κs = search needs
 
--- src/lib.rt:76:1
 returns : tie.Need-returns
 unfolding speaksOf kindFor
 returns c = rw (c .before .enum-told .given .1) (c .has-size .ensures)
 
--- src/lib.rt:76:1
 returns-2 : tie.Need-returns-2
 unfolding speaksOf kindFor
 returns-2 c = rw (c .before .enum-told2 .given .1) (c .has-size2 .ensures)
 
--- src/lib.rt:76:1
 returns-3 : tie.Need-returns-3
 unfolding speaksOf kindFor
 returns-3 c = rw (c .before .before .before .enum-told3 .given .1) (and-second (c .before .before .has-size3 .ensures) (c .before .if1 .taken) (ap not (c .has .ensures)))
 
--- src/lib.rt:76:1
 returns-4 : tie.Need-returns-4
 unfolding speaksOf kindFor
 returns-4 c = rw (c .before .before .enum-told3 .given .1) (and-first _ (c .before .has-size3 .ensures) (c .if1 .left))

@@ -1,42 +1,29 @@
-use Rattle.trees.proofs.Merging.{blocks-written}
-use native.Mathlib.Omega.{arith}
 use borrow.Author.Needs.{needs}
+use Rattle.trees.proofs.Merging.{blocks-written}
 use Rattle.trees.proofs.put_blocks.Statement.{statement}
 use Rattle.trees.proofs.put_blocks.Tie as tie
-use Rattle.trees.proofs.put_blocks.Reads as reads
-use Rattle.trees.proofs.put_blocks.Lts as lts
-use Rattle.trees.proofs.merge.Reads as merge-reads
-use Rattle.trees.proofs.put_singles.Reads as put-singles-reads
 
--- src/lib.rt:50:5
 put-singles-requires : tie.Need-put-singles-requires
 put-singles-requires c κs = search needs
 
--- src/lib.rt:51:27
 mul-merge : tie.Need-mul-merge
 mul-merge c = search needs
 
--- src/lib.rt:51:27
 sub-merge : tie.Need-sub-merge
 sub-merge c = search needs
 
--- src/lib.rt:51:27
 part-merge-start : tie.Need-part-merge-start
 part-merge-start c = search needs
 
--- src/lib.rt:51:27
 part-merge-end : tie.Need-part-merge-end
 part-merge-end c = search needs
 
--- src/lib.rt:51:5
 merge-requires : tie.Need-merge-requires
 merge-requires c κs = search needs
 
--- src/lib.rt:46:1
 same-length : tie.Need-same-length
 same-length c = search needs
 
--- src/lib.rt:46:1
 returns : tie.Need-returns
 returns c = blocks-written _ _ _ (c .before .before .before .before .before .before .put-singles .ensures) (c .before .before .merge .ensures)
 
