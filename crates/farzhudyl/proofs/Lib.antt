@@ -4,4 +4,5 @@ pub mod Room
 pub mod Numbers
 pub mod Found
 pub mod Pairs
+pub mod Sheets
 pub mod Demands

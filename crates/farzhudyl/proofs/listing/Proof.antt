@@ -1,61 +1,65 @@
-use native.Mathlib.Omega.{arith}
+use mathlib.Core.Path.{_≡_, refl, sym, _∙_}
+use mathlib.Core.Bool.{false}
+use lib.ListN.{take}
+use mir.Facts.{toZ-ofZ}
 use borrow.Author.Needs.{needs}
+use Rattle.clusters.specs.Refusals.{wrongKind}
+use Rattle.sheet.specs.Sheet.{pairs}
+use Rattle.reader.specs.declared.Reading.the-variants.{Entries}
+use Rattle.reader.specs.Answer.{reading}
+use Rattle.farzhudyl.proofs.Sheets.{few-entries, some-entries, pairs-read, pairs-long, pairs-fit, refused-kind, refused-sheet, read-sheet}
 use Rattle.farzhudyl.proofs.listing.Statement.{statement}
 use Rattle.farzhudyl.proofs.listing.Tie as tie
-use Rattle.farzhudyl.proofs.listing.Reads as reads
-use Rattle.farzhudyl.proofs.listing.Lts as lts
-use Rattle.farzhudyl.proofs.list_pairs.Reads as list-pairs-reads
-use Rattle.kinds.proofs.is_wrong.Reads as is-wrong-reads
-use Rattle.matrix.proofs.pair_count.Reads as pair-count-reads
-use Rattle.reader.proofs.read.Reads as read-reads
 
--- src/lib.rt:38:8
+-- what the code has after each call
+kind-is : (c : tie.After-is-wrong) → c .is-wrong .result ≡ wrongKind (c .before .before .before .args .kind)
+kind-is c = rw (toZ-ofZ (c .before .before .before .fits .kind)) at (c .is-wrong .ensures)
+
+right-kind : (c : tie.Else1) → wrongKind (c .before .before .before .before .args .kind) ≡ false
+right-kind c = sym (kind-is (c .before)) ∙ c .if1 .left
+
+was-read : (c : tie.After-reading2) → reading (c .before .before .before .before .before .before .before .before .args .sheet .now) ≡ Entries (c .reading2 .given .0 .0)
+was-read c = sym (c .before .before .read .ensures .0) ∙ c .reading2 .given .1
+
+pairs-are : (c : tie.After-pair-count) → take (c .pair-count .result) (c .before .before .before .before .read .last .1 .0) ≡ pairs (c .before .before .before .before .before .before .before .before .before .before .args .sheet .now)
+pairs-are c = pairs-read _ (was-read (c .before .before)) _ refl (c .before .before .before .before .read .ensures .1) (c .pair-count .ensures)
+
 is-wrong-requires : tie.Need-is-wrong-requires
 is-wrong-requires c κs = search needs
 
--- src/lib.rt:39:9
 returns : tie.Need-returns
-returns c = search needs
+returns c = refused-kind _ _ _ (sym (kind-is (c .before)) ∙ c .if1 .taken)
 
--- src/lib.rt:42:9
 read-requires : tie.Need-read-requires
 read-requires c κs = search needs
 
--- src/lib.rt:44:26
 enum-known-reading : tie.Need-enum-known-reading
 enum-known-reading c = search needs
 
--- src/lib.rt:45:26
 enum-known-reading-2 : tie.Need-enum-known-reading-2
 enum-known-reading-2 c = search needs
 
--- src/lib.rt:46:17
 pair-count-requires : tie.Need-pair-count-requires
-pair-count-requires c κs = search needs
+pair-count-requires c κs = few-entries _ (was-read (c .before))
 
--- src/lib.rt:47:33
 array-share-prefix-pairs : tie.Need-array-share-prefix-pairs
-array-share-prefix-pairs c = search needs
+array-share-prefix-pairs c = pairs-fit _ (was-read (c .before .before)) _ (c .pair-count .ensures) (pairs-are c)
 
--- src/lib.rt:47:33
 slice-aggregate-list-pairs : tie.Need-slice-aggregate-list-pairs
-slice-aggregate-list-pairs c = search needs
+slice-aggregate-list-pairs c = c .before .pair-count .ensures ∙ sym (pairs-long _ (was-read (c .before .before .before)) (pairs-are (c .before)))
 
--- src/lib.rt:47:13
 list-pairs-requires : tie.Need-list-pairs-requires
-list-pairs-requires c κs = search needs
+list-pairs-requires c κs = let f = was-read (c .before .before .before .before) in (some-entries _ f, few-entries _ f, pairs-long _ f (pairs-are (c .before .before)))
 
--- src/lib.rt:34:1
 returns-2 : tie.Need-returns-2
-returns-2 c = search needs
+returns-2 c = refused-sheet _ _ _ (right-kind (c .before .before .before .before .before)) (sym (c .before .before .before .read .ensures .0) ∙ c .before .reading .given .1)
 
--- src/lib.rt:34:1
 same-length : tie.Need-same-length
 same-length c = search needs
 
--- src/lib.rt:34:1
 returns-3 : tie.Need-returns-3
-returns-3 c = search needs
+returns-3 c = let f = c .before .before .before .before .before in let d = f .before .before in let k = d .before .before .before .before in let a = k .before .before .before .before in
+    read-sheet _ _ (a .args .out .now) (right-kind k) (was-read d) (pairs-are f) (rw (toZ-ofZ (a .fits .kind)) at (c .before .before .list-pairs .ensures))
 
 pub listing-spec : {M : Type 1} → statement M
 listing-spec =

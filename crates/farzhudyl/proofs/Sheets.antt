@@ -1,0 +1,95 @@
+-- The sheet call: its checks, what was read, and its ways out.
+use mathlib.Core.Path.{_≡_, refl, sym, ap, _∙_}
+use mathlib.Core.Bool.{Bool, true, false, not, cond}
+use mathlib.Core.List.{List, [], _∷_, _++_}
+use Prim.Native.Nat.{ℕ, _≤_}
+use native.Mathlib.Omega.{arith}
+use borrow.Author.Tests.{ne-eqb}
+use lib.Dec.{T, eqb}
+use lib.IntN.{ℤ}
+use lib.ListN.{length, take, length-take}
+use Rattle.lists.specs.Lists.{all}
+use Rattle.lists.proofs.Tests.{and-T, eqb-no}
+use Rattle.clusters.specs.PairList.{rowStart}
+use Rattle.clusters.specs.Refusals.{firstOf, wrongKind}
+use Rattle.answers.specs.declared.Answer.{Answer}
+use Rattle.answers.specs.declared.Answer.the-variants.{Refused}
+use Rattle.answers.specs.Answers.{answer, slots}
+use Rattle.answers.proofs.WaysOut.{refused}
+use Rattle.text.specs.Text.{space}
+use Rattle.text.proofs.Pieces.{some-piece}
+use Rattle.sheet.specs.Sheet.{names, entries, pairs, sheetChecks}
+use Rattle.reader.specs.declared.Reading.the-variants.{Entries}
+use Rattle.reader.specs.declared.Reading.the-variants as variants
+use Rattle.reader.specs.Answer.{reading}
+use Rattle.reader.specs.Answer as read
+use Rattle.reader.proofs.Answers.{hit, skip, number-is, entries-is, passes-few, pairs-length, slots-pairs}
+use Rattle.farzhudyl.specs.Calls.{sheetGroups, sheetListing, sheetCallChecks, sheetRefusal, pairsListing, pairsRefusal}
+
+-- no number is 0
+abbrev numbered : List (ℕ × Bool) → Bool
+numbered l = all (λ c. not (eqb (c .0) 0)) l
+
+-- two tables, one behind the other
+first-append : (l m : List (ℕ × Bool)) → T (numbered l) → firstOf (l ++ m) ≡ cond (eqb (firstOf l) 0) (firstOf m) (firstOf l)
+unfolding firstOf all
+first-append [] m t = refl
+first-append (c ∷ l) m t = go (c .0) (c .1) (and-T (not (eqb (c .0) 0)) (numbered l) t) (first-append l m)
+  where
+    go : (k : ℕ) (b : Bool) → T (not (eqb k 0)) × T (numbered l) → (T (numbered l) → firstOf (l ++ m) ≡ cond (eqb (firstOf l) 0) (firstOf m) (firstOf l))
+        → cond b k (firstOf (l ++ m)) ≡ cond (eqb (cond b k (firstOf l)) 0) (firstOf m) (cond b k (firstOf l))
+    go k true (h, t) ih = rw (ne-eqb k 0 (eqb-no k 0 h))
+    go k false (h, t) ih = ih t
+
+-- the call's checks: check 1, then the sheet's, then the pair list's
+module _ (kind : ℤ) (s : List ℕ) (room : ℕ) where
+  wrong-kind : wrongKind kind ≡ true → 1 ≡ sheetRefusal kind s room
+  unfolding sheetRefusal sheetCallChecks
+  wrong-kind e = sym (hit 1 _ e)
+
+  right-kind : wrongKind kind ≡ false → sheetRefusal kind s room ≡ cond (eqb (firstOf (sheetChecks s)) 0) (pairsRefusal kind (entries s) (pairs s) room) (firstOf (sheetChecks s))
+  unfolding sheetRefusal sheetCallChecks sheetListing sheetGroups pairsRefusal pairsListing sheetChecks all
+  right-kind e = skip 1 _ e ∙ first-append (sheetChecks s) _ tt
+
+-- a refusal's number is not 0
+number-some : (s : List ℕ) (k : ℕ) → reading s ≡ variants.Refused k → k ≡ 0 → ⊥
+unfolding reading
+number-some s k e z = let n = number-is s k e in
+    let p : variants.Refused k ≡ Entries (entries s) = sym e ∙ rw (sym n ∙ z) in
+    let o : _≡_ {A = ℕ} 0 1 = cc in
+    omega arith
+
+-- the entries and the pair list of a sheet that was read
+module _ (s : List ℕ) {n : ℕ} (e : reading s ≡ Entries n) where
+  pub few-entries : n ≤ 32
+  few-entries = rw (entries-is s n e .1) (passes-few s (entries-is s n e .0))
+
+  pub some-entries : 1 ≤ n
+  unfolding entries names
+  some-entries = rw (entries-is s n e .1) (some-piece space _)
+
+  pub pairs-read : (lent : List ℤ) {held : List ℤ} {count : ℕ} → length lent ≡ 528 → held ≡ read.slots s lent → count ≡ rowStart n → take count held ≡ pairs s
+  pairs-read lent long w c = rw (c, entries-is s n e .1, w) (slots-pairs s lent long (entries-is s n e .0))
+
+  pub pairs-long : {l : List ℤ} → l ≡ pairs s → length l ≡ rowStart n
+  pairs-long p = ap length p ∙ pairs-length s ∙ ap rowStart (sym (entries-is s n e .1))
+
+  pub pairs-fit : (held : List ℤ) {count : ℕ} → count ≡ rowStart n → take count held ≡ pairs s → count ≤ length held
+  pairs-fit held {count} c p = omega (arith, pairs-long p, length-take count held)
+
+-- the ways out
+module _ (kind : ℤ) (s lent : List ℕ) where
+  abbrev Answers : Answer → List ℕ → Type 0
+  Answers r o = (r ≡ answer (sheetRefusal kind s (length lent)) (length (sheetListing kind s))) × (o ≡ slots (sheetRefusal kind s (length lent)) (sheetListing kind s) lent)
+
+  pub refused-kind : wrongKind kind ≡ true → Answers (Refused 1) lent
+  refused-kind e = refused _ _ _ (wrong-kind kind s (length lent) e) (λ z. omega arith)
+
+  module _ (e : wrongKind kind ≡ false) where
+    pub refused-sheet : {k : ℕ} → reading s ≡ variants.Refused k → Answers (Refused k) lent
+    refused-sheet {k} r = refused _ _ _ (rw (right-kind kind s (length lent) e, sym (number-is s k r), ne-eqb k 0 (number-some s k r))) (number-some s k r)
+
+    pub read-sheet : {n : ℕ} {l : List ℤ} {r : Answer} {o : List ℕ} → reading s ≡ Entries n → l ≡ pairs s
+        → (r ≡ answer (pairsRefusal kind n l (length lent)) (length (pairsListing kind n l))) × (o ≡ slots (pairsRefusal kind n l (length lent)) (pairsListing kind n l) lent) → Answers r o
+    unfolding sheetListing sheetGroups pairsListing
+    read-sheet {n} d p h = let (z, m) = entries-is s n d in rw (right-kind kind s (length lent) e, z, sym m, sym p) h
