@@ -135,9 +135,7 @@ demand-3 kind = record {
         let k = numbersRefusal kind n l (length sets) (length indices) in
         let found = groupsFound kind n l in
         let none : k ≡ 0 = sym (ap numberOf (c .answered) ∙ number-answer k (length found)) ∙ z in
-        let d : countOf r ≡ length found = ap countOf (c .answered ∙ ap (λ (j : ℕ). answer j (length found)) none) ∙ count-answer (length found) in
-        (
+        let d : countOf r ≡ length found = ap countOf (c .answered ∙ ap (λ (j : ℕ). answer j (length found)) none) ∙ count-answer (length found) in (
           ap₂ take (d ∙ sym (length-map found (λ (g : ℕ × ℤ). g .0))) (c .setsWritten ∙ ap (λ (j : ℕ). filled 0 j (setsFound kind n l) sets) none) ∙ filled-written 0 (map (λ (g : ℕ × ℤ). g .0) found) sets,
           ap₂ take (d ∙ sym (length-map found (λ (g : ℕ × ℤ). g .1))) (c .indicesWritten ∙ ap (λ (j : ℕ). filled (pos 0) j (indicesFound kind n l) indices) none) ∙ filled-written (pos 0) (map (λ (g : ℕ × ℤ). g .1) found) indices,
         )
-
