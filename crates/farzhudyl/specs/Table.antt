@@ -67,7 +67,7 @@ makes (j ∷ l) k = eqb j k || makes l k
 unfoldable pub refusal : Call → Arguments → ℕ
 refusal call a = firstOf (keep (λ c. makes (checksOf call) (c .0)) (table a))
 
--- what each call is given
+-- what each call is given. A call on a pair list has no sheet and no buffer.
 unfoldable pub sheetArguments : ℤ → List ℕ → ℕ → Arguments
 sheetArguments kind s buffer = record {
   kind = kind;
@@ -84,8 +84,8 @@ sheetArguments kind s buffer = record {
   wayBack = false;
 }
 
-unfoldable pub numbersArguments : ℤ → ℕ → List ℤ → ℕ → ℕ → Arguments
-numbersArguments kind n l sets indices = record {
+unfoldable pub pairArguments : ℤ → ℕ → List ℤ → (sets indices : ℕ) → (takesAnchor : Bool) → (anchor room result : ℕ) → (wayBack : Bool) → Arguments
+pairArguments kind n l sets indices takesAnchor anchor room result wayBack = record {
   kind = kind;
   sheet = [];
   entries = n;
@@ -93,58 +93,22 @@ numbersArguments kind n l sets indices = record {
   sets = sets;
   indices = indices;
   buffer = 0;
-  takesAnchor = false;
-  anchor = 0;
-  room = 0;
-  result = 0;
-  wayBack = false;
+  takesAnchor = takesAnchor;
+  anchor = anchor;
+  room = room;
+  result = result;
+  wayBack = wayBack;
 }
 
+unfoldable pub numbersArguments : ℤ → ℕ → List ℤ → ℕ → ℕ → Arguments
+numbersArguments kind n l sets indices = pairArguments kind n l sets indices false 0 0 0 false
+
 unfoldable pub linkageArguments : ℕ → List ℤ → ℕ → Arguments
-linkageArguments n l room = record {
-  kind = pos 1;
-  sheet = [];
-  entries = n;
-  pairs = l;
-  sets = 0;
-  indices = 0;
-  buffer = 0;
-  takesAnchor = false;
-  anchor = 0;
-  room = room;
-  result = n - 1;
-  wayBack = false;
-}
+linkageArguments n l room = pairArguments (pos 1) n l 0 0 false 0 room (n - 1) false
 
 -- "judged as kind 3"
 unfoldable pub anchoredArguments : ℕ → ℕ → List ℤ → ℕ → Arguments
-anchoredArguments n x l room = record {
-  kind = pos 3;
-  sheet = [];
-  entries = n;
-  pairs = l;
-  sets = 0;
-  indices = 0;
-  buffer = 0;
-  takesAnchor = true;
-  anchor = x;
-  room = room;
-  result = rowStart n;
-  wayBack = false;
-}
+anchoredArguments n x l room = pairArguments (pos 3) n l 0 0 true x room (rowStart n) false
 
 unfoldable pub backArguments : ℕ → ℕ → List ℤ → ℕ → Arguments
-backArguments n x l room = record {
-  kind = pos 3;
-  sheet = [];
-  entries = n;
-  pairs = l;
-  sets = 0;
-  indices = 0;
-  buffer = 0;
-  takesAnchor = true;
-  anchor = x;
-  room = room;
-  result = rowStart n;
-  wayBack = true;
-}
+backArguments n x l room = pairArguments (pos 3) n l 0 0 true x room (rowStart n) true
