@@ -22,7 +22,7 @@ pub rowStart-suc : (i : ℕ) → rowStart (suc i) ≡ rowStart i + suc i
 rowStart-suc i = omega (arith, twice-rowStart i, twice-rowStart (suc i))
 
 -- the place of a pair with b ≤ a, and that it is in the list
-place-row : (a b : ℕ) → b ≤ a → place a b ≡ rowStart a + b
+pub place-row : (a b : ℕ) → b ≤ a → place a b ≡ rowStart a + b
 unfolding place
 place-row a b h = ap₂ _+_ (ap rowStart (max-eq-left h)) (min-eq-right h)
 
@@ -34,7 +34,7 @@ row-lt (suc n) a b h k = go (ℕ-discrete a n) (row-lt n a b)
     go (yes e) ih = omega (arith, ap rowStart e, rowStart-suc n)
     go (no f) ih = omega (arith, ih (omega arith) k, rowStart-suc n)
 
-place-comm : (a b : ℕ) → place a b ≡ place b a
+pub place-comm : (a b : ℕ) → place a b ≡ place b a
 unfolding place
 place-comm a b = ap₂ _+_ (ap rowStart (max-comm a b)) (min-comm a b)
 

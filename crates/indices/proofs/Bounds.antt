@@ -22,11 +22,11 @@ use Rattle.clusters.proofs.Strong.{of-strongValues, of-separationValues}
 use Rattle.indices.proofs.Smallest.{of-take}
 use Rattle.indices.proofs.Totals.{sum-within}
 
-zero-within : {k : ℕ} → Within k (pos 0)
+pub zero-within : {k : ℕ} → Within k (pos 0)
 unfolding up dn
 zero-within = within (omega arith) (omega arith)
 
-value-within : {k : ℕ} (l : List ℤ) (i : ℕ) → Bounded k l → Within k (getD l i (pos 0))
+pub value-within : {k : ℕ} (l : List ℤ) (i : ℕ) → Bounded k l → Within k (getD l i (pos 0))
 value-within [] i b = zero-within
 value-within (z ∷ l) zero b = b z (List·Memᴰ·head refl)
 value-within (z ∷ l) (suc i) b = value-within l i (λ y m. b y (List·Memᴰ·tail m))

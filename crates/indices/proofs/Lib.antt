@@ -3,4 +3,6 @@ pub mod Totals
 pub mod Bounds
 pub mod Margins
 pub mod Seen
+pub mod Values
+pub mod Parted
 pub mod Clean

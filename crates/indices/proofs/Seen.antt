@@ -1,122 +1,61 @@
--- A loop finds a margin; its values are bounded.
-use mathlib.Core.Path.{_≡_, refl, ap, ap₂, subst}
-use mathlib.Core.Bool.{true, false, not}
+-- The extremes that a loop has seen, and the spread that they give.
+use mathlib.Core.Path.{_≡_, sym, subst, ap, ap₂, _∙_}
 use mathlib.Core.List.{List, map}
 use Prim.Native.Nat.{ℕ, _+_, _^_, _<_}
-use lib.Dec.{lit<, lit≤}
-use lib.ListN.{length}
+use lib.Dec.{lit≤}
 use lib.IntN.{ℤ, pos, negℤ, _-ℤ_}
-use lib.Signed.{mag}
-use mir.Syntax.{w64}
-use mir.Val.{ofZ, toZ, hbits}
-use Rattle.lists.proofs.Lists.{in-map, of-map}
+use Rattle.lists.specs.Lists.{below}
+use Rattle.lists.proofs.Lists.{below-lt, lt-below, in-map, of-map}
 use Rattle.integers.specs.Integers.{minZ, maxZ, least, greatest}
-use Rattle.integers.specs.Range.{Within, Bounded}
+use Rattle.integers.specs.Range.{Within}
 use Rattle.integers.proofs.Least.{least-of, greatest-of}
 use Rattle.integers.proofs.Range.{within-grow, within-equal, within-difference}
-use Rattle.integers.proofs.Held.{Held, held-result}
-use Rattle.integers.proofs.Running.{Run, run-start, run-yes, run-no, run-least, run-greatest}
-use Rattle.sets.specs.Sets.{has, members, others}
-use Rattle.clusters.specs.PairList.{place, score}
-use Rattle.matrix.proofs.Places.{score-asks}
-use Rattle.indices.specs.Asked.{Scores, Proper}
-use Rattle.indices.specs.Margins.{margin, nearness, separationFrom}
-use Rattle.indices.proofs.Bounds.{score-within}
-use Rattle.indices.proofs.Margins.{a-member, an-other}
+use Rattle.integers.proofs.Running.{turn-all, running-least, running-greatest}
+use Rattle.indices.specs.Asked.{Table}
+use Rattle.indices.specs.Margins.{number, spread}
+use Rattle.indices.specs.Seen.{Seen}
+use Rattle.indices.specs.declared.Extremes.{Extremes}
 
--- values between −k and k, and a margin of them
-module _ {n A k : ℕ} (p : Proper n A) {f : ℕ → ℤ} (b : (y : ℕ) → Within k (f y)) where
-  map-bounded : (l : List ℕ) → Bounded k (map f l)
-  map-bounded l z m = let (y, _, e) = of-map f l m in within-equal e (b y)
+module _ {f : ℕ → ℤ} {inside outside : List ℤ} where
+  pub seen-none : {e : Extremes} → e .least ≡ pos (2 ^ 32) → e .greatest ≡ negℤ (pos (2 ^ 32)) → Seen f inside outside 0 e
+  unfolding below
+  seen-none p q = record { low = p; high = q }
 
-  least-in-within : Within k (least (map f (members n A)))
-  least-in-within = map-bounded (members n A) (least (map f (members n A))) (least-of (map f (members n A)) (in-map f (a-member p .1)))
+  pub seen-more : {k : ℕ} {e e′ : Extremes} {z : ℤ} → Seen f inside outside k e → z ≡ f k
+      → e′ .least ≡ minZ (e .least) (z -ℤ number inside k) → e′ .greatest ≡ maxZ (e .greatest) (z -ℤ number outside k) → Seen f inside outside (k + 1) e′
+  seen-more {k} s q l g = record {
+    low = l ∙ ap₂ minZ (s .low) (ap (λ w. w -ℤ number inside k) q) ∙ sym (turn-all (λ m y. minZ m (f y -ℤ number inside y)) (pos (2 ^ 32)) k);
+    high = g ∙ ap₂ maxZ (s .high) (ap (λ w. w -ℤ number outside k) q) ∙ sym (turn-all (λ m y. maxZ m (f y -ℤ number outside y)) (negℤ (pos (2 ^ 32))) k);
+  }
 
-  least-out-within : Within k (least (map f (others n A)))
-  least-out-within = map-bounded (others n A) (least (map f (others n A))) (least-of (map f (others n A)) (in-map f (an-other p .1)))
+  pub seen-end : {k n : ℕ} {e : Extremes} → k ≡ n → Seen f inside outside k e → Seen f inside outside n e
+  seen-end {e} = subst (λ k. Seen f inside outside k e)
 
-  greatest-out-within : Within k (greatest (map f (others n A)))
-  greatest-out-within = map-bounded (others n A) (greatest (map f (others n A))) (greatest-of (map f (others n A)) (in-map f (an-other p .1)))
+-- the values less the numbers of a table are bounded, and so are the least and the greatest of them
+module _ {n : ℕ} {f : ℕ → ℤ} (b : (y : ℕ) → Within (2 ^ 22) (f y)) (some : 0 < n) where
+  module _ {t : List ℤ} (u : Table n t) where
+    abbrev less : ℕ → ℤ
+    less y = f y -ℤ number t y
 
-  margin-within : Within (k + k) (margin n f A)
-  unfolding margin
-  margin-within = within-difference least-in-within greatest-out-within
+    less-within : (y : ℕ) → y < n → Within (2 ^ 32) (less y)
+    less-within y h = within-grow (lit≤ tt) (within-difference (b y) (u .small y h))
 
--- beyond every value: what a running least and a running greatest start from
-abbrev pub top : ℤ
-top = pos (2 ^ 30)
+    least-within : Within (2 ^ 32) (least (map less (below n)))
+    least-within = let (y, m, e) = of-map less (below n) (least-of (map less (below n)) (in-map less (lt-below n 0 some))) in within-equal e (less-within y (below-lt n m))
 
-abbrev pub bottom : ℤ
-bottom = negℤ (pos (2 ^ 30))
+    greatest-within : Within (2 ^ 32) (greatest (map less (below n)))
+    greatest-within = let (y, m, e) = of-map less (below n) (greatest-of (map less (below n)) (in-map less (lt-below n 0 some))) in within-equal e (less-within y (below-lt n m))
 
-pub top-held : Held w64 (ofZ w64 top) top
-top-held = held-result refl (lit< tt) refl
+  module _ {inside outside : List ℤ} (ti : Table n inside) (to : Table n outside) {e : Extremes} (s : Seen f inside outside n e) where
+    low-is : e .least ≡ least (map (less ti) (below n))
+    low-is = s .low ∙ running-least (less ti) (pos (2 ^ 32)) (below n) (lt-below n 0 some) (less-within ti 0 some .top)
 
--- the least and the greatest, once the loop is through
-module _ {n A : ℕ} (p : Proper n A) {f : ℕ → ℤ} (b : (y : ℕ) → Within (2 ^ 30) (f y)) {x i : ℕ} (e : x ≡ n) where
-  pub least-member : Run minZ top (has A) f x i → toZ w64 i ≡ least (map f (members n A))
-  unfolding members
-  least-member r = let (a, m) = a-member p in run-least m (subst (λ (y : ℕ). Run minZ top (has A) f y i) e r) (b a .top)
+    high-is : e .greatest ≡ greatest (map (less to) (below n))
+    high-is = s .high ∙ running-greatest (less to) (negℤ (pos (2 ^ 32))) (below n) (lt-below n 0 some) (less-within to 0 some .low)
 
-  pub least-other : Run minZ top (λ y. not (has A y)) f x i → toZ w64 i ≡ least (map f (others n A))
-  unfolding others
-  least-other r = let (y, m) = an-other p in run-least m (subst (λ (y : ℕ). Run minZ top (λ y. not (has A y)) f y i) e r) (b y .top)
+    pub seen-within : Within (2 ^ 61) (e .least) × Within (2 ^ 61) (e .greatest)
+    seen-within = (within-equal low-is (within-grow (lit≤ tt) (least-within ti)), within-equal high-is (within-grow (lit≤ tt) (greatest-within to)))
 
-  greatest-other : Run maxZ bottom (λ y. not (has A y)) f x i → toZ w64 i ≡ greatest (map f (others n A))
-  unfolding others
-  greatest-other r = let (y, m) = an-other p in run-greatest m (subst (λ (y : ℕ). Run maxZ bottom (λ y. not (has A y)) f y i) e r) (b y .low)
-
--- the two locals of a loop that has seen the entries before x
-pub record Seen (A : ℕ) (f : ℕ → ℤ) (x inside outside : ℕ) : Type 0 where
-  pub low : Run minZ top (has A) f x inside
-  pub high : Run maxZ bottom (λ y. not (has A y)) f x outside
-
-pub seen-none : {A : ℕ} {f : ℕ → ℤ} → Seen A f 0 (ofZ w64 top) (ofZ w64 bottom)
-seen-none = record { low = run-start top-held; high = run-start (held-result refl (lit< tt) refl) }
-
-module _ {A : ℕ} {f : ℕ → ℤ} {x i o i′ o′ : ℕ} (s : Seen A f x i o) {z : ℤ} (ok : mag z < 2 ^ hbits w64) where
-  pub seen-member : has A x ≡ true → i′ ≡ ofZ w64 z → o′ ≡ o → z ≡ minZ (toZ w64 i) (f x) → Seen A f (x + 1) i′ o′
-  seen-member t q r e = record { low = run-yes (s .low) t q ok e; high = run-no (s .high) (ap not t) r }
-
-  pub seen-other : has A x ≡ false → i′ ≡ i → o′ ≡ ofZ w64 z → z ≡ maxZ (toZ w64 o) (f x) → Seen A f (x + 1) i′ o′
-  seen-other t q r e = record { low = run-no (s .low) t q; high = run-yes (s .high) (ap not t) r ok e }
-
-module _ {n A : ℕ} (p : Proper n A) {f : ℕ → ℤ} (b : (y : ℕ) → Within (2 ^ 30) (f y)) {x i o : ℕ} (e : x ≡ n) (s : Seen A f x i o) where
-  pub seen-within : Within (2 ^ 61) (toZ w64 i) × Within (2 ^ 61) (toZ w64 o)
-  seen-within = (
-    within-equal (least-member p b e (s .low)) (within-grow (lit≤ tt) (least-in-within p b)),
-    within-equal (greatest-other p b e (s .high)) (within-grow (lit≤ tt) (greatest-out-within p b)),
-  )
-
-  pub seen-margin : toZ w64 i -ℤ toZ w64 o ≡ margin n f A
-  unfolding margin
-  seen-margin = ap₂ _-ℤ_ (least-member p b e (s .low)) (greatest-other p b e (s .high))
-
--- the values that the loops over a pair list see
-module _ {n : ℕ} {l : List ℤ} (s : Scores n l) where
-  pub score-asked : {a b : ℕ} → a < n → b < n → (a < 32) × (b < 32) × (place a b < length l)
-  score-asked h k = score-asks l (s .few) (s .long) h k
-
-  pub score-safe : (a b : ℕ) → Within (2 ^ 61) (score l a b)
-  score-safe a b = within-grow (lit≤ tt) (score-within (s .small) a b)
-
-  nearness-within : (a x y : ℕ) → Within (2 ^ 23) (nearness (score l) a x y)
-  unfolding nearness
-  nearness-within a x y = within-difference (score-within (s .small) y x) (score-within (s .small) a y)
-
-  pub score-beyond : (a y : ℕ) → Within (2 ^ 30) (score l a y)
-  score-beyond a y = within-grow (lit≤ tt) (score-within (s .small) a y)
-
-  pub nearness-beyond : (a x y : ℕ) → Within (2 ^ 30) (nearness (score l) a x y)
-  nearness-beyond a x y = within-grow (lit≤ tt) (nearness-within a x y)
-
-  module _ {A : ℕ} (p : Proper n A) where
-    pub strong-beyond : (a : ℕ) → Within (2 ^ 30) (margin n (score l a) A)
-    strong-beyond a = within-grow (lit≤ tt) (margin-within p (score-within (s .small) a))
-
-    pub split-beyond : (a x : ℕ) → Within (2 ^ 30) (margin n (nearness (score l) a x) A)
-    split-beyond a x = within-grow (lit≤ tt) (margin-within p (nearness-within a x))
-
-    pub separation-beyond : (a : ℕ) → Within (2 ^ 30) (separationFrom n (score l) A a)
-    unfolding separationFrom
-    separation-beyond a = least-out-within p (split-beyond a)
+    pub seen-spread : e .least -ℤ e .greatest ≡ spread n f inside outside
+    unfolding spread
+    seen-spread = ap₂ _-ℤ_ low-is high-is

@@ -2,9 +2,9 @@
 use mathlib.Core.Path.{_≡_}
 use mathlib.Core.List.{List}
 use Prim.Native.Nat.{ℕ, _^_, _≤_, _<_}
-use lib.IntN.{ℤ}
-use lib.ListN.{length}
-use Rattle.integers.specs.Range.{Bounded}
+use lib.IntN.{ℤ, pos}
+use lib.ListN.{length, getD}
+use Rattle.integers.specs.Range.{Within, Bounded}
 use Rattle.sets.specs.Sets.{size}
 use Rattle.clusters.specs.PairList.{rowStart}
 
@@ -19,3 +19,8 @@ pub record Proper (n A : ℕ) : Type 0 where
   pub fits : A < 2 ^ n
   pub some : 1 ≤ size n A
   pub rest : size n A < n
+
+-- a table of a number for each entry, none farther off than what is beyond every score
+pub record Table (n : ℕ) (t : List ℤ) : Type 0 where
+  pub long : n ≤ length t
+  pub small : (y : ℕ) → y < n → Within (2 ^ 30) (getD t y (pos 0))

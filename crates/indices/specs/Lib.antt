@@ -1,3 +1,4 @@
 pub mod Margins
+pub mod Seen
 pub mod Smallest
 pub mod Asked

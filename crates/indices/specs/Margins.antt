@@ -1,9 +1,13 @@
 -- The indices of differences (document 01, Definitions: strong index, separation index) by their margins.
-use mathlib.Core.List.{map}
-use Prim.Native.Nat.{ℕ}
-use lib.IntN.{ℤ, _-ℤ_}
+use mathlib.Core.Path.{_≡_}
+use mathlib.Core.Bool.{cond}
+use mathlib.Core.List.{List, map}
+use Prim.Native.Nat.{ℕ, _^_, _≤_, _<_}
+use lib.IntN.{ℤ, pos, negℤ, _-ℤ_}
+use lib.ListN.{length, getD}
+use Rattle.lists.specs.Lists.{below}
 use Rattle.integers.specs.Integers.{least, greatest}
-use Rattle.sets.specs.Sets.{members, others}
+use Rattle.sets.specs.Sets.{has, members, others}
 use Rattle.clusters.specs.PairList.{Similarity}
 
 -- by how much the least value in A exceeds the greatest value outside A
@@ -17,3 +21,20 @@ nearness d a x y = d y x -ℤ d a y
 -- the least margin over the entries x outside A
 unfoldable pub separationFrom : ℕ → Similarity → ℕ → ℕ → ℤ
 separationFrom n d A a = least (map (λ x. margin n (nearness d a x) A) (others n A))
+
+-- As the code finds a margin: by tables of a number for each entry
+abbrev pub number : List ℤ → ℕ → ℤ
+number t y = getD t y (pos 0)
+
+abbrev pub Row : ℕ → (ℕ → ℤ) → List ℤ → Type 0
+Row n f t = (y : ℕ) → y < n → number t y ≡ f y
+
+-- the values less the numbers of two tables: by how much the least for the first exceeds the greatest for the second
+unfoldable pub spread : ℕ → (ℕ → ℤ) → List ℤ → List ℤ → ℤ
+spread n f inside outside = least (map (λ y. f y -ℤ number inside y) (below n)) -ℤ greatest (map (λ y. f y -ℤ number outside y) (below n))
+
+-- the first table has the numbers of the members, the second those of the others, and else what is beyond every score
+pub record Parted (n : ℕ) (numbers : List ℤ) (A : ℕ) (inside outside : List ℤ) : Type 0 where
+  pub long : (n ≤ length inside) × (n ≤ length outside)
+  pub members : Row n (λ y. cond (has A y) (number numbers y) (negℤ (pos (2 ^ 30)))) inside
+  pub others : Row n (λ y. cond (has A y) (pos (2 ^ 30)) (number numbers y)) outside

@@ -16,7 +16,11 @@ use Rattle.integers.proofs.Linear.{zarith}
 use Rattle.integers.proofs.Held.{Held, held-value, held-result, held-equal}
 use Rattle.integers.proofs.Least.{min-left, min-right, max-left, max-right, least-le, greatest-ge}
 
--- one turn: x passes, or x is passed over
+-- one turn: x passes, or x is passed over; or there is no test
+pub turn-all {ℓ} : {S : Type ℓ} (op : S → ℕ → S) (z : S) (x : ℕ) → foldl op z (below (x + 1)) ≡ op (foldl op z (below x)) x
+unfolding below
+turn-all op z x = rw (add-one x) (foldl-append op z (below x) (x ∷ []))
+
 module _ {ℓ} {S : Type ℓ} (op : S → ℕ → S) (z : S) (p : ℕ → Bool) (x : ℕ) where
   turn : {l : List ℕ} → keep p (x ∷ []) ≡ l → foldl op z (keep p (below (x + 1))) ≡ foldl op (foldl op z (keep p (below x))) l
   unfolding below

@@ -3,9 +3,10 @@ use mathlib.Core.Path.{_≡_, refl, sym, ap, subst, _∙_}
 use mathlib.Core.List.{List, [], _∷_, _++_, map, append-assoc, append-nil, map-append}
 use Prim.Native.Nat.{ℕ, zero, suc, _+_, _-_, _≤_, _<_}
 use native.Mathlib.Numerals.{add-one}
+use native.Mathlib.Decide.{ℕ-discrete}
 use native.Mathlib.Omega.{arith}
 use lib.ListN.{length, drop, getD, set, replicate, length-map, length-set, length-append, length-replicate}
-use lib.Seq.{drop-cons, set-at, ext-getD}
+use lib.Seq.{drop-cons, set-at, ext-getD, getD-set-same, getD-set-other}
 use Rattle.lists.specs.Lists.{below}
 use Rattle.lists.proofs.Lists.{count-below, getD-below}
 
@@ -35,7 +36,7 @@ module _ {A : Type 0} {f : ℕ → A} {old : List A} where
 
 -- the elements of a list by their places, and the default where there are no more
 module _ {A : Type 0} (d : A) where
-  getD-default : (k i : ℕ) → getD (replicate k d) i d ≡ d
+  pub getD-default : (k i : ℕ) → getD (replicate k d) i d ≡ d
   getD-default zero i = refl
   getD-default (suc k) zero = refl
   getD-default (suc k) (suc i) = getD-default k i
@@ -57,3 +58,12 @@ module _ {A : Type 0} (d : A) where
 
   pub by-all-places : (l : List A) → map (λ i. getD l i d) (below (length l)) ≡ l
   by-all-places l = let e : length l - length l ≡ 0 = omega arith in by-places l (length l) (omega arith) ∙ ap (λ (k : ℕ). l ++ replicate k d) e ∙ append-nil l
+
+-- the value at each place below k, and one more
+pub place-more : {A : Type 0} (d : A) (f : ℕ → A) (l : List A) {k : ℕ} {x : A} → ((i : ℕ) → i < k → getD l i d ≡ f i) → k < length l → x ≡ f k
+    → (i : ℕ) → i < k + 1 → getD (set l k x) i d ≡ f i
+place-more d f l {k} {x} w h e i m = go (ℕ-discrete i k)
+  where
+    go : Dec (i ≡ k) → getD (set l k x) i d ≡ f i
+    go (yes q) = rw q (getD-set-same l k x d h ∙ e)
+    go (no q) = getD-set-other l k i x d q ∙ w i (omega arith)

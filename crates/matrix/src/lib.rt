@@ -1,7 +1,7 @@
 // The pair list as lent: scores looked up by two entries, and checks 10 to 12 (document 01, Where a call is turned away).
 ghost use mathlib.Core.Path.{_≡_};
 ghost use mathlib.Core.Bool.{_&&_};
-ghost use Prim.Native.Nat.{_<_, _≤_};
+ghost use Prim.Native.Nat.{_+_, _<_, _≤_};
 ghost use lib.IntN.{pos, negℤ};
 ghost use lib.ListN.{length, getD};
 ghost use lib.Signed.{leZ};
@@ -81,8 +81,16 @@ pub fn place_of(a: usize, b: usize) -> usize
     }
 }
 
+// Where the pair of a and the entry after b stands, from where that of a and b does.
+pub fn next_place(at: usize, a: usize, b: usize) -> usize
+    requires { ⌜ (at ≡ place a b) × (a < 32) × (b < 32) ⌝ }
+    ensures { λ r. ⌜ r ≡ place a (b + 1) ⌝ }
+{
+    if b < a { at + 1 } else { at + b + 1 }
+}
+
 // The value at a place.
-fn value(pairs: &[i32], i: usize) -> i64
+pub fn value(pairs: &[i32], i: usize) -> i64
     requires { ⌜ i < length (now pairs) ⌝ }
     ensures { λ r. ⌜ r ≡ getD (now (pairs .entry)) i (pos 0) ⌝ }
 {

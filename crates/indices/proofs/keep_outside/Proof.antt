@@ -13,7 +13,7 @@ use Rattle.sets.specs.Sets.{has, others}
 use Rattle.clusters.specs.PairList.{score}
 use Rattle.clusters.specs.Indices.{weight}
 use Rattle.indices.specs.Smallest.{keepSmallest, keepOutside}
-use Rattle.indices.proofs.Seen.{score-asked, score-safe}
+use Rattle.indices.proofs.Values.{score-asked, score-safe}
 use Rattle.indices.proofs.Smallest.{Kept, kept-start, kept-yes, kept-no, kept-sorted, kept-end, sorted-triple}
 use Rattle.indices.proofs.keep_outside.Statement.{statement}
 use Rattle.indices.proofs.keep_outside.Tie as tie

@@ -11,15 +11,22 @@ use Rattle.integers.proofs.Running.{Run, run-start, run-yes, run-no}
 use Rattle.sets.specs.Sets.{has}
 use Rattle.clusters.specs.PairList.{score}
 use Rattle.indices.specs.Margins.{margin, nearness, separationFrom}
-use Rattle.indices.proofs.Seen.{top, top-held, least-other, split-beyond}
+use Rattle.indices.proofs.Parted.{separation-tables, separation-spread}
+use Rattle.indices.proofs.Values.{top, top-held, least-other, split-beyond}
 use Rattle.indices.proofs.separation_from.Statement.{statement}
 use Rattle.indices.proofs.separation_from.Tie as tie
 
 abbrev Inv-loop : tie.InvT-loop
-Inv-loop n pairs set a least₀ x₀ least x = (x ≤ n) × Run minZ top (λ x. not (has set x)) (λ x. margin n (nearness (score pairs) a x) set) x least
+Inv-loop n pairs set a inside outside least₀ x₀ least x = (x ≤ n) × Run minZ top (λ x. not (has set x)) (λ x. margin n (nearness (score pairs) a x) set) x least
 
 abbrev μ-loop : tie.MeasureT-loop
-μ-loop n pairs set a least₀ x₀ least x = n - x
+μ-loop n pairs set a inside outside least₀ x₀ least x = n - x
+
+row-requires : tie.Need-row-requires Inv-loop μ-loop
+row-requires c κs = (c .pre .0, c .pre .2)
+
+part-requires : tie.Need-part-requires Inv-loop μ-loop
+part-requires c κs = c .before .pre .0 .few
 
 loop-holds : tie.Need-loop-holds Inv-loop μ-loop
 loop-holds c = (omega arith, run-start top-held)
@@ -27,8 +34,18 @@ loop-holds c = (omega arith, run-start top-held)
 has-requires : tie.Need-has-requires Inv-loop μ-loop
 has-requires c κs = search needs
 
-separation-margin-requires : tie.Need-separation-margin-requires Inv-loop μ-loop
-separation-margin-requires c κs = let g = c .before .before .before .before .pre in (g .0, g .1, g .2, omega arith)
+slice-aggregate-spread : tie.Need-slice-aggregate-spread Inv-loop μ-loop
+slice-aggregate-spread c = search needs
+
+slice-aggregate-spread-2 : tie.Need-slice-aggregate-spread-2 Inv-loop μ-loop
+slice-aggregate-spread-2 c = search needs
+
+spread-requires : tie.Need-spread-requires Inv-loop μ-loop
+spread-requires c κs = let h = c .before .before .before .before .before .before .before .before in
+    let r = h .before in
+    let g = r .before .pre in
+    let (inside, outside) = separation-tables (g .0) (g .1) (r .before .args .a) (r .row .ensures) (h .part .ensures) in
+    (g .0, omega arith, inside, outside)
 
 smaller-requires : tie.Need-smaller-requires Inv-loop μ-loop
 smaller-requires c κs = search needs
@@ -41,16 +58,23 @@ loop-less c = search needs
 
 loop-again : tie.Need-loop-again Inv-loop μ-loop
 loop-again c = let s = c .before .before .before in
+    let h = s .before .before .before in
+    let r = h .before in
+    let g = r .before in
     let t = ap not (c .before .has .ensures) in
     ⊎-elim
-    (λ w. (omega arith, run-yes (s .loop .inv .1) (sym t ∙ w .0 .taken) (w .3) (w .2 .ok) (w .2 .ensures ∙ ap (minZ _) (passed w64 (w .1 .ok) (w .1 .ensures)))))
+    (λ w. (
+      omega arith,
+      run-yes (s .loop .inv .1) (sym t ∙ w .0 .taken) (w .5) (w .4 .ok)
+          (w .4 .ensures ∙ ap (minZ _) (passed w64 (w .3 .ok) (w .3 .ensures ∙ separation-spread (g .pre .0) (g .pre .1) (g .args .a) (r .row .ensures) (h .part .ensures) (s .loop .x)))),
+    ))
     (λ w. (omega arith, run-no (s .loop .inv .1) (sym t ∙ w .0 .left) (w .1)))
     (c .if1 .came)
 
 returns : tie.Need-returns Inv-loop μ-loop
 unfolding separationFrom
 returns c = let s = c .before in
-    let g = s .before in
+    let g = s .before .before .before .before .before in
     least-other (g .pre .1) (split-beyond (g .pre .0) (g .pre .1) (g .args .a)) (omega arith) (s .loop .inv .1)
 
 pub separation-from-spec : {M : Type 1} → statement M
@@ -59,9 +83,13 @@ separation-from-spec =
     (tie.spec
     Inv-loop
     μ-loop
+    row-requires
+    part-requires
     loop-holds
     has-requires
-    separation-margin-requires
+    slice-aggregate-spread
+    slice-aggregate-spread-2
+    spread-requires
     smaller-requires
     add-x
     loop-less

@@ -11,7 +11,7 @@ use Rattle.sets.specs.Sets.{has}
 use Rattle.clusters.specs.PairList.{score}
 use Rattle.indices.specs.Margins.{separationFrom}
 use Rattle.indices.proofs.Margins.{separation-margins}
-use Rattle.indices.proofs.Seen.{top, top-held, least-member, separation-beyond}
+use Rattle.indices.proofs.Values.{top, top-held, least-member, separation-beyond}
 use Rattle.indices.proofs.separation_index.Statement.{statement}
 use Rattle.indices.proofs.separation_index.Tie as tie
 

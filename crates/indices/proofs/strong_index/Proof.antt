@@ -11,15 +11,19 @@ use Rattle.sets.specs.Sets.{has}
 use Rattle.clusters.specs.PairList.{score}
 use Rattle.indices.specs.Margins.{margin}
 use Rattle.indices.proofs.Margins.{strong-margins}
-use Rattle.indices.proofs.Seen.{top, top-held, least-member, strong-beyond}
+use Rattle.indices.proofs.Parted.{strong-tables, strong-spread}
+use Rattle.indices.proofs.Values.{top, top-held, least-member, strong-beyond}
 use Rattle.indices.proofs.strong_index.Statement.{statement}
 use Rattle.indices.proofs.strong_index.Tie as tie
 
 abbrev Inv-loop : tie.InvT-loop
-Inv-loop n pairs set least₀ a₀ least a = (a ≤ n) × Run minZ top (has set) (λ a. margin n (score pairs a) set) a least
+Inv-loop n pairs set inside outside least₀ a₀ least a = (a ≤ n) × Run minZ top (has set) (λ a. margin n (score pairs a) set) a least
 
 abbrev μ-loop : tie.MeasureT-loop
-μ-loop n pairs set least₀ a₀ least a = n - a
+μ-loop n pairs set inside outside least₀ a₀ least a = n - a
+
+part-requires : tie.Need-part-requires Inv-loop μ-loop
+part-requires c κs = c .pre .0 .few
 
 loop-holds : tie.Need-loop-holds Inv-loop μ-loop
 loop-holds c = (omega arith, run-start top-held)
@@ -27,8 +31,17 @@ loop-holds c = (omega arith, run-start top-held)
 has-requires : tie.Need-has-requires Inv-loop μ-loop
 has-requires c κs = search needs
 
-strong-margin-requires : tie.Need-strong-margin-requires Inv-loop μ-loop
-strong-margin-requires c κs = let g = c .before .before .before .before .pre in (g .0, g .1, omega arith)
+slice-aggregate-spread : tie.Need-slice-aggregate-spread Inv-loop μ-loop
+slice-aggregate-spread c = search needs
+
+slice-aggregate-spread-2 : tie.Need-slice-aggregate-spread-2 Inv-loop μ-loop
+slice-aggregate-spread-2 c = search needs
+
+spread-requires : tie.Need-spread-requires Inv-loop μ-loop
+spread-requires c κs = let h = c .before .before .before .before .before .before .before .before in
+    let g = h .before .pre in
+    let (inside, outside) = strong-tables (g .0) (g .1) (h .part .ensures) in
+    (g .0, omega arith, inside, outside)
 
 smaller-requires : tie.Need-smaller-requires Inv-loop μ-loop
 smaller-requires c κs = search needs
@@ -41,15 +54,20 @@ loop-less c = search needs
 
 loop-again : tie.Need-loop-again Inv-loop μ-loop
 loop-again c = let s = c .before .before .before in
+    let h = s .before .before .before in
     let t = c .before .has .ensures in
     ⊎-elim
-    (λ w. (omega arith, run-yes (s .loop .inv .1) (sym t ∙ w .0 .taken) (w .3) (w .2 .ok) (w .2 .ensures ∙ ap (minZ _) (passed w64 (w .1 .ok) (w .1 .ensures)))))
+    (λ w. (
+      omega arith,
+      run-yes (s .loop .inv .1) (sym t ∙ w .0 .taken) (w .5) (w .4 .ok)
+          (w .4 .ensures ∙ ap (minZ _) (passed w64 (w .3 .ok) (w .3 .ensures ∙ strong-spread (h .before .pre .0) (h .before .pre .1) (h .part .ensures) (s .loop .a)))),
+    ))
     (λ w. (omega arith, run-no (s .loop .inv .1) (sym t ∙ w .0 .left) (w .1)))
     (c .if1 .came)
 
 returns : tie.Need-returns Inv-loop μ-loop
 returns c = let s = c .before in
-    let g = s .before in
+    let g = s .before .before .before .before in
     least-member (g .pre .1) (strong-beyond (g .pre .0) (g .pre .1)) (omega arith) (s .loop .inv .1)
     ∙ strong-margins (g .args .n) (score (g .args .pairs .now)) (g .args .set) (g .pre .1)
 
@@ -59,9 +77,12 @@ strong-index-spec =
     (tie.spec
     Inv-loop
     μ-loop
+    part-requires
     loop-holds
     has-requires
-    strong-margin-requires
+    slice-aggregate-spread
+    slice-aggregate-spread-2
+    spread-requires
     smaller-requires
     add-a
     loop-less

@@ -1,0 +1,125 @@
+-- Values less the numbers of two tables, of which each has the numbers of one side of a set: the spread is the margin.
+use mathlib.Core.Path.{_≡_, sym, subst₂, ap, ap₂, _∙_}
+use mathlib.Core.Logic.{⊎-elim}
+use mathlib.Core.Bool.{Bool, cond}
+use mathlib.Core.List.{List, map}
+use Prim.Native.Nat.{ℕ, _+_, _^_, _<_}
+use native.Mathlib.Omega.{arith}
+use lib.Dec.{lit≤}
+use lib.IntN.{ℤ, pos, negℤ, _-ℤ_}
+use lib.ListN.{length, set, replicate, length-set}
+use lib.Signed.{_≤ℤ_}
+use Rattle.lists.specs.Lists.{below}
+use Rattle.lists.proofs.Lists.{below-lt, lt-below, in-map, of-map, map-cong}
+use Rattle.lists.proofs.Tests.{T-true, T-false, cond-elim}
+use Rattle.lists.proofs.Written.{place-more, getD-default}
+use Rattle.integers.specs.Integers.{least, greatest}
+use Rattle.integers.specs.Range.{Within, Bounded}
+use Rattle.integers.proofs.Linear.{zarith, up, dn, -at}
+use Rattle.integers.proofs.Range.{within, within-grow, within-equal, within-neg}
+use Rattle.integers.proofs.Least.{least-le, least-of, greatest-ge, greatest-of}
+use Rattle.sets.specs.Sets.{has, _∋_, _∌_, members, others}
+use Rattle.sets.proofs.Sets.{yes-has, no-has, in-or-out, in-members, of-members, in-others, of-others}
+use Rattle.clusters.specs.PairList.{score}
+use Rattle.clusters.proofs.PairList.{score-symm}
+use Rattle.indices.specs.Asked.{Scores, Proper, Table}
+use Rattle.indices.specs.Margins.{margin, nearness, number, spread, Row, Parted}
+use Rattle.indices.proofs.Bounds.{zero-within, score-within}
+use Rattle.indices.proofs.Margins.{a-member, an-other}
+
+far-within : {k : ℕ} → Within k (pos k)
+unfolding up dn
+far-within = within (omega arith) (omega arith)
+
+-- both tables filled from the front
+pub part-more : {numbers inside outside inside′ outside′ : List ℤ} {A k : ℕ} {x z : ℤ} {b : Bool} → Parted k numbers A inside outside → has A k ≡ b → k < length inside → k < length outside
+    → inside′ ≡ set inside k x → outside′ ≡ set outside k z → x ≡ cond b (number numbers k) (negℤ (pos (2 ^ 30))) → z ≡ cond b (pos (2 ^ 30)) (number numbers k)
+    → Parted (k + 1) numbers A inside′ outside′
+part-more {numbers} {inside} {outside} {A} {k} {x} {z} p t h m r s e q = subst₂ (λ (i o : List ℤ). Parted (k + 1) numbers A i o) (sym r) (sym s) (record {
+  long = (omega (arith, length-set inside k x), omega (arith, length-set outside k z));
+  members = place-more (pos 0) (λ y. cond (has A y) (number numbers y) (negℤ (pos (2 ^ 30)))) inside (p .members) h (e ∙ ap (λ (b : Bool). cond b (number numbers k) (negℤ (pos (2 ^ 30)))) (sym t));
+  others = place-more (pos 0) (λ y. cond (has A y) (pos (2 ^ 30)) (number numbers y)) outside (p .others) m (q ∙ ap (λ (b : Bool). cond b (pos (2 ^ 30)) (number numbers k)) (sym t));
+})
+
+-- f on one side of A, and on the other side no less than any f, or no greater
+module _ {n A : ℕ} (p : Proper n A) (f h : ℕ → ℤ) where
+  least-inside : ((y : ℕ) → y < n → A ∋ y → h y ≡ f y) → ((a y : ℕ) → a < n → y < n → A ∌ y → f a ≤ℤ h y) → least (map h (below n)) ≡ least (map f (members n A))
+  least-inside same beyond =
+      let (a, ma) = a-member p in
+      let (b, mb, e) = of-map f (members n A) (least-of (map f (members n A)) (in-map f ma)) in
+      let (hb, kb) = of-members n A mb in
+      let (c, mc, q) = of-map h (below n) (least-of (map h (below n)) (in-map h (lt-below n b hb))) in
+      let fore = least-le (map h (below n)) (in-map h (lt-below n b hb)) in
+      ⊎-elim
+      (λ k. omega (zarith, fore, same b hb kb, e, q, same c (below-lt n mc) k, least-le (map f (members n A)) (in-map f (in-members n A (below-lt n mc) k))))
+      (λ k. omega (zarith, fore, same b hb kb, e, q, beyond b c hb (below-lt n mc) k))
+      (in-or-out A c)
+
+  greatest-outside : ((y : ℕ) → y < n → A ∌ y → h y ≡ f y) → ((a y : ℕ) → a < n → y < n → A ∋ y → h y ≤ℤ f a) → greatest (map h (below n)) ≡ greatest (map f (others n A))
+  greatest-outside same beyond =
+      let (a, ma) = an-other p in
+      let (b, mb, e) = of-map f (others n A) (greatest-of (map f (others n A)) (in-map f ma)) in
+      let (hb, kb) = of-others n A {i = b} mb in
+      let (c, mc, q) = of-map h (below n) (greatest-of (map h (below n)) (in-map h (lt-below n b hb))) in
+      let fore = greatest-ge (map h (below n)) (in-map h (lt-below n b hb)) in
+      ⊎-elim
+      (λ k. omega (zarith, fore, same b hb kb, e, q, beyond b c hb (below-lt n mc) k))
+      (λ k. omega (zarith, fore, same b hb kb, e, q, same c (below-lt n mc) k, greatest-ge (map f (others n A)) (in-map f (in-others n A (below-lt n mc) k))))
+      (in-or-out A c)
+
+module _ {n A : ℕ} (p : Proper n A) {numbers inside outside : List ℤ} (t : Parted n numbers A inside outside) {f : ℕ → ℤ}
+    (b : (y : ℕ) → Within (2 ^ 22) (f y)) (c : (y : ℕ) → y < n → Within (2 ^ 22) (number numbers y)) where
+  at-member : (y : ℕ) → y < n → A ∋ y → (number inside y ≡ number numbers y) × (number outside y ≡ pos (2 ^ 30))
+  at-member y h k = let e = T-true {b = has A y} (yes-has A y k) in
+      (t .members y h ∙ ap (λ (b : Bool). cond b (number numbers y) (negℤ (pos (2 ^ 30)))) e, t .others y h ∙ ap (λ (b : Bool). cond b (pos (2 ^ 30)) (number numbers y)) e)
+
+  at-other : (y : ℕ) → y < n → A ∌ y → (number inside y ≡ negℤ (pos (2 ^ 30))) × (number outside y ≡ number numbers y)
+  at-other y h k = let e = T-false {b = has A y} (no-has A y k) in
+      (t .members y h ∙ ap (λ (b : Bool). cond b (number numbers y) (negℤ (pos (2 ^ 30)))) e, t .others y h ∙ ap (λ (b : Bool). cond b (pos (2 ^ 30)) (number numbers y)) e)
+
+  far-inside : (a y : ℕ) → a < n → y < n → A ∌ y → (f a -ℤ number numbers a) ≤ℤ (f y -ℤ number inside y)
+  unfolding up dn
+  far-inside a y j h k = omega (zarith, at-other y h k .0, -at (f a) (number numbers a), -at (f y) (number inside y), b a .top, b y .low, c a j .low)
+
+  far-outside : (a y : ℕ) → a < n → y < n → A ∋ y → (f y -ℤ number outside y) ≤ℤ (f a -ℤ number numbers a)
+  unfolding up dn
+  far-outside a y j h k = omega (zarith, at-member y h k .1, -at (f a) (number numbers a), -at (f y) (number outside y), b a .low, b y .top, c a j .top)
+
+  pub parted-spread : spread n f inside outside ≡ margin n (λ y. f y -ℤ number numbers y) A
+  unfolding spread margin
+  parted-spread = ap₂ _-ℤ_
+      (least-inside p (λ y. f y -ℤ number numbers y) (λ y. f y -ℤ number inside y) (λ y h k. ap (λ z. f y -ℤ z) (at-member y h k .0)) far-inside)
+      (greatest-outside p (λ y. f y -ℤ number numbers y) (λ y. f y -ℤ number outside y) (λ y h k. ap (λ z. f y -ℤ z) (at-other y h k .1)) far-outside)
+
+  -- the numbers of either table are small
+  pub parted-tables : Table n inside × Table n outside
+  parted-tables = (record { long = t .long .0; small = in-small }, record { long = t .long .1; small = out-small })
+    where
+      in-small : (y : ℕ) → y < n → Within (2 ^ 30) (number inside y)
+      in-small y h = within-equal (t .members y h) (cond-elim (has A y) (number numbers y) (negℤ (pos (2 ^ 30))) (Within (2 ^ 30)) (λ _. within-grow (lit≤ tt) (c y h)) (λ _. within-neg far-within))
+
+      out-small : (y : ℕ) → y < n → Within (2 ^ 30) (number outside y)
+      out-small y h = within-equal (t .others y h) (cond-elim (has A y) (pos (2 ^ 30)) (number numbers y) (Within (2 ^ 30)) (λ _. far-within) (λ _. within-grow (lit≤ tt) (c y h)))
+
+margin-cong : (n A : ℕ) {f g : ℕ → ℤ} → ((y : ℕ) → y < n → f y ≡ g y) → margin n f A ≡ margin n g A
+unfolding margin
+margin-cong n A {f} {g} e = ap₂ (λ (l m : List ℤ). least l -ℤ greatest m)
+    (map-cong f g (members n A) (λ y m. e y (of-members n A m .0))) (map-cong f g (others n A) (λ y m. e y (of-others n A {i = y} m .0)))
+
+module _ {n A : ℕ} {l inside outside : List ℤ} (s : Scores n l) (p : Proper n A) where
+  pub strong-tables : Parted n (replicate 32 (pos 0)) A inside outside → Table n inside × Table n outside
+  strong-tables t = parted-tables p t (score-within (s .small) 0) (λ y _. within-equal (getD-default (pos 0) 32 y) zero-within)
+
+  pub strong-spread : Parted n (replicate 32 (pos 0)) A inside outside → (a : ℕ) → spread n (score l a) inside outside ≡ margin n (score l a) A
+  unfolding up dn
+  strong-spread t a = parted-spread p t (score-within (s .small) a) (λ y _. within-equal (getD-default (pos 0) 32 y) zero-within)
+      ∙ margin-cong n A (λ y _. omega (zarith, -at (score l a y) (number (replicate 32 (pos 0)) y), getD-default (pos 0) 32 y))
+
+  pub separation-tables : {numbers : List ℤ} (a : ℕ) → Row n (score l a) numbers → Parted n numbers A inside outside → Table n inside × Table n outside
+  separation-tables a r t = parted-tables p t (score-within (s .small) 0) (λ y h. within-equal (r y h) (score-within (s .small) a y))
+
+  pub separation-spread : {numbers : List ℤ} (a : ℕ) → Row n (score l a) numbers → Parted n numbers A inside outside → (x : ℕ)
+      → spread n (score l x) inside outside ≡ margin n (nearness (score l) a x) A
+  unfolding nearness
+  separation-spread a r t x = parted-spread p t (score-within (s .small) x) (λ y h. within-equal (r y h) (score-within (s .small) a y))
+      ∙ margin-cong n A (λ y h. ap₂ _-ℤ_ (score-symm l x y) (r y h))

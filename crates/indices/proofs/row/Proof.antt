@@ -1,0 +1,80 @@
+use mathlib.Core.Path.{_≡_, refl, ap, _∙_}
+use Prim.Native.Nat.{_-_, _≤_}
+use native.Mathlib.Omega.{arith}
+use borrow.Author.Needs.{needs}
+use lib.IntN.{pos}
+use lib.ListN.{length, length-set}
+use mir.Syntax.{w64}
+use Rattle.lists.proofs.Written.{place-more}
+use Rattle.integers.proofs.Held.{passed}
+use Rattle.clusters.specs.PairList.{place, score}
+use Rattle.indices.specs.Margins.{number, Row}
+use Rattle.indices.proofs.Values.{score-asked}
+use Rattle.indices.proofs.row.Statement.{statement}
+use Rattle.indices.proofs.row.Tie as tie
+
+abbrev Inv-loop : tie.InvT-loop
+Inv-loop n pairs a found₀ at₀ y₀ found at y = (y ≤ n) × (at ≡ place a y) × (length found ≡ 32) × Row y (score pairs a) found
+
+abbrev μ-loop : tie.MeasureT-loop
+μ-loop n pairs a found₀ at₀ y₀ found at y = n - y
+
+place-of-requires : tie.Need-place-of-requires Inv-loop μ-loop
+place-of-requires c κs = (omega (arith, c .pre .0 .few), omega arith)
+
+loop-holds : tie.Need-loop-holds Inv-loop μ-loop
+loop-holds c = (omega arith, c .place-of .ensures, refl, λ y h. absurd (omega arith))
+
+value-requires : tie.Need-value-requires Inv-loop μ-loop
+value-requires c κs = let s = c .before in
+    let g = s .before .before in
+    omega (arith, score-asked (g .pre .0) {a = g .args .a} {b = s .loop .y} (omega arith) (omega arith) .2)
+
+mul-found : tie.Need-mul-found Inv-loop μ-loop
+mul-found c = search needs
+
+array-set-from-found : tie.Need-array-set-from-found Inv-loop μ-loop
+array-set-from-found c = search needs
+
+next-place-requires : tie.Need-next-place-requires Inv-loop μ-loop
+next-place-requires c κs = let s = c .before .before in
+    let g = s .before .before in
+    (s .loop .inv .1, omega (arith, g .pre .0 .few), omega (arith, g .pre .0 .few))
+
+add-y : tie.Need-add-y Inv-loop μ-loop
+add-y c = search needs
+
+loop-less : tie.Need-loop-less Inv-loop μ-loop
+loop-less c = omega arith
+
+loop-again : tie.Need-loop-again Inv-loop μ-loop
+unfolding score
+loop-again c = let s = c .before .before .before in
+    let l = s .loop in
+    let v = c .before .value in (
+      omega arith,
+      c .next-place .ensures,
+      length-set (l .found) (l .y) _ ∙ l .inv .2,
+      place-more (pos 0) (score (s .before .before .args .pairs .now) (s .before .before .args .a)) (l .found) (l .inv .3) (omega (arith, l .inv .2, s .before .before .pre .0 .few)) (passed w64 (v .ok) (v .ensures ∙ ap (number (s .before .before .args .pairs .now)) (l .inv .1))),
+    )
+
+returns : tie.Need-returns Inv-loop μ-loop
+returns c = let l = c .before .loop in
+    λ y h. l .inv .3 y (omega arith)
+
+pub row-spec : {M : Type 1} → statement M
+row-spec =
+    tie.close
+    (tie.spec
+    Inv-loop
+    μ-loop
+    place-of-requires
+    loop-holds
+    value-requires
+    mul-found
+    array-set-from-found
+    next-place-requires
+    add-y
+    loop-less
+    loop-again
+    returns)
