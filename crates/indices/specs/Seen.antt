@@ -1,7 +1,7 @@
 -- The least and the greatest, as a loop finds them.
 use mathlib.Core.Path.{_≡_}
 use mathlib.Core.List.{List, foldl}
-use Prim.Native.Nat.{ℕ, _^_}
+use Prim.Native.Nat.{ℕ, _-_, _^_}
 use lib.IntN.{ℤ, pos, negℤ, _-ℤ_}
 use Rattle.lists.specs.Lists.{below}
 use Rattle.integers.specs.Integers.{minZ, maxZ}
@@ -10,5 +10,5 @@ use Rattle.indices.specs.declared.Extremes.{Extremes}
 
 -- of the values of the entries below k, less the numbers of two tables; from what is beyond them all
 pub record Seen (f : ℕ → ℤ) (inside outside : List ℤ) (k : ℕ) (e : Extremes) : Type 0 where
-  pub low : e .least ≡ foldl (λ m y. minZ m (f y -ℤ number inside y)) (pos (2 ^ 32)) (below k)
-  pub high : e .greatest ≡ foldl (λ m y. maxZ m (f y -ℤ number outside y)) (negℤ (pos (2 ^ 32))) (below k)
+  pub low : e .least ≡ foldl (λ m y. minZ m (f y -ℤ number inside y)) (pos (2 ^ 31 - 1)) (below k)
+  pub high : e .greatest ≡ foldl (λ m y. maxZ m (f y -ℤ number outside y)) (negℤ (pos (2 ^ 31 - 1))) (below k)

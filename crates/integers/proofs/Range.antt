@@ -6,7 +6,7 @@ use native.Mathlib.Omega.{arith}
 use lib.Dec.{lit<}
 use lib.IntN.{ℤ, pos, negsuc, negℤ, _+ℤ_, _-ℤ_, _*ℤ_}
 use lib.Signed.{_≤ℤ_, leZ}
-use mir.Syntax.{Width, w64}
+use mir.Syntax.{Width, w32, w64}
 use mir.Val.{SFits, hbits}
 use Rattle.lists.proofs.Tests.{cond-elim}
 use Rattle.integers.specs.Integers.{minZ, maxZ}
@@ -90,6 +90,9 @@ sum-fits h l = within-fits w64 (lit< tt) (within-sum h l)
 
 pub difference-fits : {a b : ℤ} → Within (2 ^ 61) a → Within (2 ^ 61) b → SFits w64 (a -ℤ b)
 difference-fits h l = within-fits w64 (lit< tt) (within-difference h l)
+
+pub difference-fits-i32 : {a b : ℤ} → Within (2 ^ 22) a → Within (2 ^ 30) b → SFits w32 (a -ℤ b)
+difference-fits-i32 h l = within-fits w32 (lit< tt) (within-difference h l)
 
 pub times-fits : {z : ℤ} (m : ℕ) → m ≤ 1024 → Within (2 ^ 40) z → SFits w64 (pos m *ℤ z)
 times-fits m l h = within-fits w64 (lit< tt) (within-times m l h)

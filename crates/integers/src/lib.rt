@@ -43,6 +43,26 @@ pub fn larger(x: i64, y: i64) -> i64
     if x <= y { y } else { x }
 }
 
+// The same of 32-bit numbers, of which a processor compares several at once.
+pub fn smaller_i32(a: i32, b: i32) -> i32
+    ensures { λ r. ⌜ r ≡ minZ a b ⌝ }
+{
+    if a <= b { a } else { b }
+}
+
+pub fn larger_i32(a: i32, b: i32) -> i32
+    ensures { λ r. ⌜ r ≡ maxZ a b ⌝ }
+{
+    if a <= b { b } else { a }
+}
+
+pub fn difference_i32(a: i32, b: i32) -> i32
+    requires { ⌜ Within (2 ^ 22) a × Within (2 ^ 30) b ⌝ }
+    ensures { λ r. ⌜ r ≡ a -ℤ b ⌝ }
+{
+    a - b
+}
+
 pub fn sum(x: i64, y: i64) -> i64
     requires { ⌜ Within (2 ^ 61) x × Within (2 ^ 61) y ⌝ }
     ensures { λ r. ⌜ r ≡ x +ℤ y ⌝ }

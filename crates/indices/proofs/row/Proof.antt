@@ -1,13 +1,13 @@
 use mathlib.Core.Path.{_≡_, refl, ap, _∙_}
-use Prim.Native.Nat.{_-_, _≤_}
+use Prim.Native.Nat.{_-_, _<_, _≤_}
 use native.Mathlib.Omega.{arith}
-use borrow.Author.Needs.{needs}
+use borrow.Author.Needs.{needs, sfits-of}
 use lib.IntN.{pos}
 use lib.ListN.{length, length-set}
-use mir.Syntax.{w64}
+use mir.Facts.{toZ-ofZ}
 use Rattle.lists.proofs.Written.{place-more}
-use Rattle.integers.proofs.Held.{passed}
 use Rattle.clusters.specs.PairList.{place, score}
+use Rattle.matrix.proofs.Places.{place-few}
 use Rattle.indices.specs.Margins.{number, Row}
 use Rattle.indices.proofs.Values.{score-asked}
 use Rattle.indices.proofs.row.Statement.{statement}
@@ -25,13 +25,20 @@ place-of-requires c κs = (omega (arith, c .pre .0 .few), omega arith)
 loop-holds : tie.Need-loop-holds Inv-loop μ-loop
 loop-holds c = (omega arith, c .place-of .ensures, refl, λ y h. absurd (omega arith))
 
-value-requires : tie.Need-value-requires Inv-loop μ-loop
-value-requires c κs = let s = c .before in
+mul-found : tie.Need-mul-found Inv-loop μ-loop
+mul-found c = let s = c .before in
+    let g = s .before .before in
+    let h = place-few {a = g .args .a} {b = s .loop .y} (omega (arith, g .pre .0 .few)) (omega (arith, g .pre .0 .few)) in
+    let k : s .loop .at < 528 = omega (arith, h, s .loop .inv .1) in
+    search (needs, k)
+
+shared-slice-copy-out-found : tie.Need-shared-slice-copy-out-found Inv-loop μ-loop
+shared-slice-copy-out-found c = let s = c .before in
     let g = s .before .before in
     omega (arith, score-asked (g .pre .0) {a = g .args .a} {b = s .loop .y} (omega arith) (omega arith) .2)
 
-mul-found : tie.Need-mul-found Inv-loop μ-loop
-mul-found c = search needs
+mul-found-2 : tie.Need-mul-found-2 Inv-loop μ-loop
+mul-found-2 c = search needs
 
 array-set-from-found : tie.Need-array-set-from-found Inv-loop μ-loop
 array-set-from-found c = search needs
@@ -51,11 +58,11 @@ loop-again : tie.Need-loop-again Inv-loop μ-loop
 unfolding score
 loop-again c = let s = c .before .before .before in
     let l = s .loop in
-    let v = c .before .value in (
+    let a = s .before .before .args in (
       omega arith,
       c .next-place .ensures,
       length-set (l .found) (l .y) _ ∙ l .inv .2,
-      place-more (pos 0) (score (s .before .before .args .pairs .now) (s .before .before .args .a)) (l .found) (l .inv .3) (omega (arith, l .inv .2, s .before .before .pre .0 .few)) (passed w64 (v .ok) (v .ensures ∙ ap (number (s .before .before .args .pairs .now)) (l .inv .1))),
+      place-more (pos 0) (score (a .pairs .now) (a .a)) (l .found) (l .inv .3) (omega (arith, l .inv .2, s .before .before .pre .0 .few)) (toZ-ofZ (sfits-of (c .before .found .given)) ∙ ap (number (a .pairs .now)) (l .inv .1)),
     )
 
 returns : tie.Need-returns Inv-loop μ-loop
@@ -70,8 +77,9 @@ row-spec =
     μ-loop
     place-of-requires
     loop-holds
-    value-requires
     mul-found
+    shared-slice-copy-out-found
+    mul-found-2
     array-set-from-found
     next-place-requires
     add-y

@@ -1,81 +1,84 @@
-use mathlib.Core.Path.{ap₂, _∙_}
-use Prim.Native.Nat.{_^_}
+use mathlib.Core.Path.{_≡_, ap₂, _∙_}
 use native.Mathlib.Omega.{arith}
 use borrow.Author.Needs.{needs, sfits-of}
 use lib.IntN.{_-ℤ_}
-use lib.Dec.{lit≤}
-use mir.Syntax.{w64}
+use mir.Syntax.{w32}
+use mir.Val.{ofZ, toZ}
 use mir.Facts.{toZ-ofZ}
 use Rattle.integers.specs.Integers.{minZ, maxZ}
 use Rattle.integers.proofs.Held.{passed}
-use Rattle.integers.proofs.Range.{within-equal, within-grow}
+use Rattle.integers.proofs.Range.{within-equal}
 use Rattle.indices.specs.Margins.{number}
 use Rattle.indices.proofs.Bounds.{value-within}
 use Rattle.indices.proofs.with_value.Statement.{statement}
 use Rattle.indices.proofs.with_value.Tie as tie
 
-value-requires : tie.Need-value-requires
-value-requires c κs = search needs
+-- what is read from the pair list and from the two tables
+value-told : (c : tie.After-value) → toZ w32 (ofZ w32 (number (c .before .args .pairs .now) (c .before .args .at))) ≡ number (c .before .args .pairs .now) (c .before .args .at)
+value-told c = toZ-ofZ (sfits-of (c .value .given))
 
-mul-difference : tie.Need-mul-difference
-mul-difference c = search needs
+inside-told : (c : tie.After-difference-i32-arg) → let a = c .before .before .args in toZ w32 (ofZ w32 (number (a .inside .now) (a .y))) ≡ number (a .inside .now) (a .y)
+inside-told c = toZ-ofZ (sfits-of (c .difference-i32-arg .given))
 
-shared-slice-copy-out-difference : tie.Need-shared-slice-copy-out-difference
-shared-slice-copy-out-difference c = omega (arith, c .before .pre .2 .long)
+outside-told : (c : tie.After-difference-i32-arg2) → let a = c .before .before .before .before .before .before .args in toZ w32 (ofZ w32 (number (a .outside .now) (a .y))) ≡ number (a .outside .now) (a .y)
+outside-told c = toZ-ofZ (sfits-of (c .difference-i32-arg2 .given))
 
-difference-requires : tie.Need-difference-requires
-difference-requires c κs = let g = c .before .before in
-    let v = c .before .value in (
-      within-equal (passed w64 (v .ok) (v .ensures)) (within-grow (lit≤ tt) (value-within _ (g .args .at) (g .pre .0))),
-      within-equal (toZ-ofZ (sfits-of (c .difference-arg .given))) (within-grow (lit≤ tt) (g .pre .2 .small (g .args .y) (omega arith))),
-    )
+mul-value : tie.Need-mul-value
+mul-value c = search needs
 
-smaller-requires : tie.Need-smaller-requires
-smaller-requires c κs = search needs
+shared-slice-copy-out-value : tie.Need-shared-slice-copy-out-value
+shared-slice-copy-out-value c = search needs
 
-mul-difference-2 : tie.Need-mul-difference-2
-mul-difference-2 c = search needs
+mul-difference-i32 : tie.Need-mul-difference-i32
+mul-difference-i32 c = search needs
 
-shared-slice-copy-out-difference-2 : tie.Need-shared-slice-copy-out-difference-2
-shared-slice-copy-out-difference-2 c = omega (arith, c .before .before .before .before .before .pre .3 .long)
+shared-slice-copy-out-difference-i32 : tie.Need-shared-slice-copy-out-difference-i32
+shared-slice-copy-out-difference-i32 c = omega (arith, c .before .pre .2 .long)
 
-difference-requires-2 : tie.Need-difference-requires-2
-difference-requires-2 c κs = let s = c .before .before .before .before .before in
-    let g = s .before in
-    let v = s .value in (
-      within-equal (passed w64 (v .ok) (v .ensures)) (within-grow (lit≤ tt) (value-within _ (g .args .at) (g .pre .0))),
-      within-equal (toZ-ofZ (sfits-of (c .difference-arg2 .given))) (within-grow (lit≤ tt) (g .pre .3 .small (g .args .y) (omega arith))),
-    )
+difference-i32-requires : tie.Need-difference-i32-requires
+difference-i32-requires c κs = let g = c .before .before in
+    (within-equal (value-told (c .before)) (value-within _ (g .args .at) (g .pre .0)), within-equal (inside-told c) (g .pre .2 .small (g .args .y) (omega arith)))
 
-larger-requires : tie.Need-larger-requires
-larger-requires c κs = search needs
+smaller-i32-requires : tie.Need-smaller-i32-requires
+smaller-i32-requires c κs = search needs
+
+mul-difference-i32-2 : tie.Need-mul-difference-i32-2
+mul-difference-i32-2 c = search needs
+
+shared-slice-copy-out-difference-i32-2 : tie.Need-shared-slice-copy-out-difference-i32-2
+shared-slice-copy-out-difference-i32-2 c = omega (arith, c .before .before .before .before .before .pre .3 .long)
+
+difference-i32-requires-2 : tie.Need-difference-i32-requires-2
+difference-i32-requires-2 c κs = let v = c .before .before .before .before .before in
+    let g = v .before in
+    (within-equal (value-told v) (value-within _ (g .args .at) (g .pre .0)), within-equal (outside-told c) (g .pre .3 .small (g .args .y) (omega arith)))
+
+larger-i32-requires : tie.Need-larger-i32-requires
+larger-i32-requires c κs = search needs
 
 returns : tie.Need-returns
 returns c = let e = c .before .before in
     let s = e .before .before in
     let d = s .before .before in
-    let v = d .before .before in
-    let a = v .before .args in
-    let value = passed w64 (v .value .ok) (v .value .ensures) in
-    let in-told = toZ-ofZ {w = w64} {z = number (a .inside .now) (a .y)} (sfits-of (d .before .difference-arg .given)) in
-    let out-told = toZ-ofZ {w = w64} {z = number (a .outside .now) (a .y)} (sfits-of (e .before .difference-arg2 .given)) in (
-      passed w64 (s .smaller .ok) (s .smaller .ensures ∙ ap₂ minZ (toZ-ofZ (sfits-of (s .before .struct-told .given .0 .1)))
-          (passed w64 (d .difference .ok) (d .difference .ensures ∙ ap₂ _-ℤ_ value in-told))),
-      passed w64 (c .larger .ok) (c .larger .ensures ∙ ap₂ maxZ (toZ-ofZ (sfits-of (c .before .struct-told2 .given .1 .0 .1)))
-          (passed w64 (e .difference2 .ok) (e .difference2 .ensures ∙ ap₂ _-ℤ_ value out-told))),
+    let v = d .before .before in (
+      passed w32 (s .smaller-i32 .ok) (s .smaller-i32 .ensures ∙ ap₂ minZ (toZ-ofZ (sfits-of (s .before .struct-told .given .0 .1)))
+          (passed w32 (d .difference-i32 .ok) (d .difference-i32 .ensures ∙ ap₂ _-ℤ_ (value-told v) (inside-told (d .before))))),
+      passed w32 (c .larger-i32 .ok) (c .larger-i32 .ensures ∙ ap₂ maxZ (toZ-ofZ (sfits-of (c .before .struct-told2 .given .1 .0 .1)))
+          (passed w32 (e .difference-i322 .ok) (e .difference-i322 .ensures ∙ ap₂ _-ℤ_ (value-told v) (outside-told (e .before))))),
     )
 
 pub with-value-spec : {M : Type 1} → statement M
 with-value-spec =
     tie.close
     (tie.spec
-    value-requires
-    mul-difference
-    shared-slice-copy-out-difference
-    difference-requires
-    smaller-requires
-    mul-difference-2
-    shared-slice-copy-out-difference-2
-    difference-requires-2
-    larger-requires
+    mul-value
+    shared-slice-copy-out-value
+    mul-difference-i32
+    shared-slice-copy-out-difference-i32
+    difference-i32-requires
+    smaller-i32-requires
+    mul-difference-i32-2
+    shared-slice-copy-out-difference-i32-2
+    difference-i32-requires-2
+    larger-i32-requires
     returns)
