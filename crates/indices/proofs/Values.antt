@@ -4,7 +4,7 @@ use mathlib.Core.Bool.{not}
 use mathlib.Core.List.{List, map}
 use Prim.Native.Nat.{ℕ, _+_, _^_, _<_}
 use lib.Dec.{lit<, lit≤}
-use lib.ListN.{length}
+use lib.ListN.{length, getD}
 use lib.IntN.{ℤ, pos}
 use mir.Syntax.{w64}
 use mir.Val.{ofZ, toZ}
@@ -20,7 +20,7 @@ use Rattle.clusters.specs.PairList.{place, score}
 use Rattle.matrix.proofs.Places.{score-asks}
 use Rattle.indices.specs.Asked.{Scores, Proper}
 use Rattle.indices.specs.Margins.{margin, nearness, separationFrom}
-use Rattle.indices.proofs.Bounds.{score-within}
+use Rattle.indices.proofs.Bounds.{value-within, score-within}
 use Rattle.indices.proofs.Margins.{a-member, an-other}
 
 -- values between −k and k, and a margin of them
@@ -66,15 +66,12 @@ module _ {n : ℕ} {l : List ℤ} (s : Scores n l) where
   pub score-safe : (a b : ℕ) → Within (2 ^ 61) (score l a b)
   score-safe a b = within-grow (lit≤ tt) (score-within (s .small) a b)
 
+  pub value-safe : (i : ℕ) → Within (2 ^ 61) (getD l i (pos 0))
+  value-safe i = within-grow (lit≤ tt) (value-within l i (s .small))
+
   nearness-within : (a x y : ℕ) → Within (2 ^ 23) (nearness (score l) a x y)
   unfolding nearness
   nearness-within a x y = within-difference (score-within (s .small) y x) (score-within (s .small) a y)
-
-  pub score-beyond : (a y : ℕ) → Within (2 ^ 30) (score l a y)
-  score-beyond a y = within-grow (lit≤ tt) (score-within (s .small) a y)
-
-  pub nearness-beyond : (a x y : ℕ) → Within (2 ^ 30) (nearness (score l) a x y)
-  nearness-beyond a x y = within-grow (lit≤ tt) (nearness-within a x y)
 
   module _ {A : ℕ} (p : Proper n A) where
     pub strong-beyond : (a : ℕ) → Within (2 ^ 30) (margin n (score l a) A)
