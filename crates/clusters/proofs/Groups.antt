@@ -116,7 +116,7 @@ append-rise n (A ∷ l) m rl rm f = (λ B b. go B (List·Memᴰ·append-cases l 
     go B (inl b) = rl .0 B b
     go B (inr b) = f A B (List·Memᴰ·head refl) b
 
-keep-rise : (n : ℕ) (p : ℕ → Bool) (l : List ℕ) → Rising n l → Rising n (keep p l)
+pub keep-rise : (n : ℕ) (p : ℕ → Bool) (l : List ℕ) → Rising n l → Rising n (keep p l)
 unfolding keep
 keep-rise n p [] r = tt
 keep-rise n p (A ∷ l) r = cond-elim (p A) (A ∷ keep p l) (keep p l) (Rising n)
