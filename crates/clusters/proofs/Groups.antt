@@ -98,7 +98,7 @@ module _ (k : Kind) (n : ℕ) (s : Similarity) (A : ℕ) where
           (h, t, ap (λ (p : ℕ × ℤ). p .1) e ∙ ap (index k n s) (sym a))
 
 -- the written order
-pub before-apart : (n : ℕ) {A B : ℕ} → Before n A B → A ≢ B
+before-apart : (n : ℕ) {A B : ℕ} → Before n A B → A ≢ B
 before-apart n (inl h) e = omega (arith, ap (size n) e)
 before-apart n (inr h) e = omega arith
 
