@@ -98,7 +98,7 @@ module _ (k : Kind) (n : ℕ) (s : Similarity) (A : ℕ) where
           (h, t, ap (λ (p : ℕ × ℤ). p .1) e ∙ ap (index k n s) (sym a))
 
 -- the written order
-pub before-apart : (n : ℕ) {A B : ℕ} → Before n A B → A ≢ B
+before-apart : (n : ℕ) {A B : ℕ} → Before n A B → A ≢ B
 before-apart n (inl h) e = omega (arith, ap (size n) e)
 before-apart n (inr h) e = omega arith
 
@@ -116,7 +116,7 @@ append-rise n (A ∷ l) m rl rm f = (λ B b. go B (List·Memᴰ·append-cases l 
     go B (inl b) = rl .0 B b
     go B (inr b) = f A B (List·Memᴰ·head refl) b
 
-keep-rise : (n : ℕ) (p : ℕ → Bool) (l : List ℕ) → Rising n l → Rising n (keep p l)
+pub keep-rise : (n : ℕ) (p : ℕ → Bool) (l : List ℕ) → Rising n l → Rising n (keep p l)
 unfolding keep
 keep-rise n p [] r = tt
 keep-rise n p (A ∷ l) r = cond-elim (p A) (A ∷ keep p l) (keep p l) (Rising n)

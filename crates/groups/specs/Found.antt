@@ -4,7 +4,8 @@ use mathlib.Core.List.{List, map}
 use Prim.Native.Nat.{ℕ, _≤_}
 use lib.IntN.{ℤ}
 use lib.ListN.{length, take}
-use Rattle.clusters.specs.Groups.{Kind, index, groupSets}
+use Rattle.lists.specs.Lists.{keep}
+use Rattle.clusters.specs.Groups.{Kind, index, listed, groupSets}
 use Rattle.clusters.specs.PairList.{score}
 use Rattle.groups.specs.declared.Found.{Found}
 
@@ -13,6 +14,12 @@ setsOf f = take (f .count) (f .sets)
 
 abbrev pub indicesOf : Found → List ℤ
 indicesOf f = take (f .count) (f .indices)
+
+-- they are the listed ones of these sets, each with its index
+pub record Listed (kind : Kind) (n : ℕ) (l : List ℤ) (sets : List ℕ) (f : Found) : Type 0 where
+  pub are : setsOf f ≡ keep (listed kind n (score l)) sets
+  pub indices : indicesOf f ≡ map (index kind n (score l)) (keep (listed kind n (score l)) sets)
+  pub count : f .count ≡ length (keep (listed kind n (score l)) sets)
 
 -- they are the groups of a kind, each with its index: at most 2n − 2, so at most 62 of 32 entries
 pub record Groups (kind : Kind) (n : ℕ) (l : List ℤ) (f : Found) : Type 0 where

@@ -1,4 +1,4 @@
-// What each kind speaks of, and which sets it lists.
+// Kinds: what each speaks of, and its index.
 ghost use mathlib.Core.Path.{_≡_};
 ghost use mathlib.Core.Bool.{_&&_};
 ghost use Prim.Native.Nat.{_<_, _≤_, _^_};
@@ -7,7 +7,7 @@ ghost use lib.ListN.{length};
 ghost use Rattle.integers.specs.Integers.{eqZ};
 ghost use Rattle.sets.specs.Sets.{size};
 ghost use Rattle.clusters.specs.PairList.{rowStart, score};
-ghost use Rattle.clusters.specs.Groups.{index, proper, speaksOf, listed};
+ghost use Rattle.clusters.specs.Groups.{index, proper, speaksOf};
 ghost use Rattle.clusters.specs.Refusals.{wrongKind, kindOf, wrongDistances};
 ghost use Rattle.kinds.specs.Kinds.{kindFor};
 ghost use Rattle.kinds.specs.Checked.{Checked};
@@ -74,7 +74,8 @@ fn has_size(least: usize, n: usize, set: u32) -> bool
     size < n
 }
 
-fn speaks(kind: Kind, n: usize, set: u32) -> bool
+// The sets that a kind speaks of.
+pub fn speaks(kind: Kind, n: usize, set: u32) -> bool
     requires { ⌜ (n ≤ 32) × (set < 2 ^ n) ⌝ }
     ensures { λ r. ⌜ r ≡ speaksOf (kindFor kind) n set ⌝ }
 {
@@ -95,11 +96,4 @@ pub fn index(kind: Kind, n: usize, pairs: &[i32], set: u32) -> i64
         Kind::Clean => indices::clean_index(n, pairs, set),
         Kind::Splits => indices::separation_index(n, pairs, set),
     }
-}
-
-pub fn is_listed(kind: Kind, n: usize, pairs: &[i32], set: u32) -> bool
-    requires { ⌜ Checked n (now pairs) × (set < 2 ^ n) ⌝ }
-    ensures { λ r. ⌜ r ≡ listed (kindFor kind) n (score (now (pairs .entry))) set ⌝ }
-{
-    speaks(kind, n, set) && integers::at_most(1, index(kind, n, pairs, set))
 }

@@ -1,6 +1,6 @@
 -- A list written from the front: the value at each place before i is written, the rest is as it was.
 use mathlib.Core.Path.{_≡_, refl, sym, ap, subst, _∙_}
-use mathlib.Core.List.{List, [], _∷_, _++_, map, append-assoc, append-nil, map-append}
+use mathlib.Core.List.{List, [], _∷_, _++_, map, append-assoc, map-append}
 use Prim.Native.Nat.{ℕ, zero, suc, _+_, _-_, _≤_, _<_}
 use native.Mathlib.Numerals.{add-one}
 use native.Mathlib.Decide.{ℕ-discrete}
@@ -55,9 +55,6 @@ module _ {A : Type 0} (d : A) where
 
       long : length (map at (below n)) ≡ n
       long = length-map (below n) at ∙ count-below n
-
-  pub by-all-places : (l : List A) → map (λ i. getD l i d) (below (length l)) ≡ l
-  by-all-places l = let e : length l - length l ≡ 0 = omega arith in by-places l (length l) (omega arith) ∙ ap (λ (k : ℕ). l ++ replicate k d) e ∙ append-nil l
 
 -- the value at each place below k, and one more
 pub place-more : {A : Type 0} (d : A) (f : ℕ → A) (l : List A) {k : ℕ} {x : A} → ((i : ℕ) → i < k → getD l i d ≡ f i) → k < length l → x ≡ f k
