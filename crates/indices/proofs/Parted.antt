@@ -23,7 +23,7 @@ use Rattle.sets.proofs.Sets.{yes-has, no-has, in-or-out, in-members, of-members
 use Rattle.clusters.specs.PairList.{score}
 use Rattle.clusters.proofs.PairList.{score-symm}
 use Rattle.indices.specs.Asked.{Scores, Proper, Table}
-use Rattle.indices.specs.Margins.{margin, nearness, number, spread, Row, Parted}
+use Rattle.indices.specs.Margins.{margin, nearness, number, spread, Row, Parted, AtMost}
 use Rattle.indices.proofs.Bounds.{zero-within, score-within}
 use Rattle.indices.proofs.Margins.{a-member, an-other}
 
@@ -123,3 +123,12 @@ module _ {n A : ℕ} {l inside outside : List ℤ} (s : Scores n l) (p : Proper 
   unfolding nearness
   separation-spread a r t x = parted-spread p t (score-within (s .small) x) (λ y h. within-equal (r y h) (score-within (s .small) a y))
       ∙ margin-cong n A (λ y h. ap₂ _-ℤ_ (score-symm l x y) (r y h))
+
+  -- the scores of a member with the entries outside
+  pub near-most : Parted n (replicate 32 (pos 0)) A inside outside → (a : ℕ) {z : ℤ} → AtMost n (score l a) outside z → (c : ℕ) → c < n → A ∌ c → score l a c ≤ℤ z
+  unfolding up dn
+  near-most t a v c h k =
+      omega (zarith, v c h, -at (score l a c) (number outside c), at-other p t (score-within (s .small) a) zeros c h k .1, getD-default (pos 0) 32 c)
+    where
+      zeros : (y : ℕ) → y < n → Within (2 ^ 22) (number (replicate 32 (pos 0)) y)
+      zeros y _ = within-equal (getD-default (pos 0) 32 y) zero-within

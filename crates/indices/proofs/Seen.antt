@@ -8,11 +8,12 @@ use Rattle.lists.specs.Lists.{below}
 use Rattle.lists.proofs.Lists.{below-lt, lt-below, in-map, of-map}
 use Rattle.integers.specs.Integers.{minZ, maxZ, least, greatest}
 use Rattle.integers.specs.Range.{Within}
-use Rattle.integers.proofs.Least.{least-of, greatest-of}
+use Rattle.integers.proofs.Linear.{zarith}
+use Rattle.integers.proofs.Least.{least-of, greatest-of, greatest-ge}
 use Rattle.integers.proofs.Range.{within-grow, within-equal, within-difference}
 use Rattle.integers.proofs.Running.{turn-all, running-least, running-greatest}
 use Rattle.indices.specs.Asked.{Table}
-use Rattle.indices.specs.Margins.{number, spread}
+use Rattle.indices.specs.Margins.{number, spread, AtMost}
 use Rattle.indices.specs.Seen.{Seen}
 use Rattle.indices.specs.declared.Extremes.{Extremes}
 
@@ -59,3 +60,7 @@ module _ {n : ℕ} {f : ℕ → ℤ} (b : (y : ℕ) → Within (2 ^ 22) (f y)) (
     pub seen-spread : e .least -ℤ e .greatest ≡ spread n f inside outside
     unfolding spread
     seen-spread = ap₂ _-ℤ_ low-is high-is
+
+    -- a value of the second table is at most the greatest
+    pub seen-greatest : AtMost n f outside (e .greatest)
+    seen-greatest y h = omega (zarith, high-is, greatest-ge (map (less to) (below n)) (in-map (less to) (lt-below n y h)))

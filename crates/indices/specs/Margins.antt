@@ -4,6 +4,7 @@ use mathlib.Core.Bool.{cond}
 use mathlib.Core.List.{List, map}
 use Prim.Native.Nat.{ℕ, _^_, _≤_, _<_}
 use lib.IntN.{ℤ, pos, negℤ, _-ℤ_}
+use lib.Signed.{_≤ℤ_}
 use lib.ListN.{length, getD}
 use Rattle.lists.specs.Lists.{below}
 use Rattle.integers.specs.Integers.{least, greatest}
@@ -28,6 +29,10 @@ number t y = getD t y (pos 0)
 
 abbrev pub Row : ℕ → (ℕ → ℤ) → List ℤ → Type 0
 Row n f t = (y : ℕ) → y < n → number t y ≡ f y
+
+-- no value less the number of a table exceeds z
+abbrev pub AtMost : ℕ → (ℕ → ℤ) → List ℤ → ℤ → Type 0
+AtMost n f t z = (y : ℕ) → y < n → (f y -ℤ number t y) ≤ℤ z
 
 -- the values less the numbers of two tables: by how much the least for the first exceeds the greatest for the second
 unfoldable pub spread : ℕ → (ℕ → ℤ) → List ℤ → List ℤ → ℤ

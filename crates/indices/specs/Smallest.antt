@@ -1,12 +1,14 @@
 -- The smallest numbers of a list (document 01, Clean index: "the sum of the |A| − 1 smallest weights"), kept one by one.
 use mathlib.Core.List.{List, foldl}
-use Prim.Native.Nat.{ℕ}
+use Prim.Native.Nat.{ℕ, _<_}
 use lib.IntN.{ℤ}
+use lib.Signed.{_≤ℤ_}
 use lib.ListN.{take}
 use Rattle.integers.specs.Integers.{insert}
-use Rattle.sets.specs.Sets.{members, others}
+use Rattle.sets.specs.Sets.{_∋_, _∌_, members, others}
 use Rattle.clusters.specs.PairList.{Similarity}
 use Rattle.clusters.specs.Indices.{weight}
+use Rattle.indices.specs.Margins.{number}
 
 -- the k smallest of the numbers kept and w
 unfoldable pub keepSmallest : ℕ → List ℤ → ℤ → List ℤ
@@ -21,3 +23,7 @@ keepBefore n s A k a kept = foldl (λ l b. keepOutside n s A k a b l) kept (memb
 
 unfoldable pub keepAll : ℕ → Similarity → ℕ → ℕ → List ℤ → List ℤ
 keepAll n s A k kept = foldl (λ l a. keepBefore n s A k a l) kept (members n A)
+
+-- for each member a of A before i, a number that no score of a with an entry outside A exceeds
+abbrev pub Near : ℕ → Similarity → ℕ → ℕ → List ℤ → Type 0
+Near n s A i t = (a : ℕ) → a < i → A ∋ a → (c : ℕ) → c < n → A ∌ c → s a c ≤ℤ number t a

@@ -44,7 +44,7 @@ min-above : {a b c : ℤ} → c ≤ℤ a → c ≤ℤ b → c ≤ℤ minZ a b
 unfolding minZ
 min-above {a} {b} {c} h k = cond-elim (leZ a b) a b (λ z. c ≤ℤ z) (λ _. h) (λ _. k)
 
-max-below : {a b c : ℤ} → a ≤ℤ c → b ≤ℤ c → maxZ a b ≤ℤ c
+pub max-below : {a b c : ℤ} → a ≤ℤ c → b ≤ℤ c → maxZ a b ≤ℤ c
 unfolding maxZ
 max-below {a} {b} {c} h k = cond-elim (leZ a b) b a (λ z. z ≤ℤ c) (λ _. k) (λ _. h)
 

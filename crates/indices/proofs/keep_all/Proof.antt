@@ -3,7 +3,9 @@ use mathlib.Core.Logic.{⊎-elim}
 use Prim.Native.Nat.{_-_, _≤_}
 use native.Mathlib.Omega.{arith}
 use borrow.Author.Needs.{needs}
+use Rattle.lists.proofs.Tests.{true-T}
 use Rattle.sets.specs.Sets.{has, members}
+use Rattle.sets.proofs.Sets.{has-yes}
 use Rattle.clusters.specs.PairList.{score}
 use Rattle.indices.specs.Smallest.{keepBefore, keepAll}
 use Rattle.indices.proofs.Smallest.{Kept, kept-start, kept-yes, kept-no, kept-sorted, kept-end, sorted-before}
@@ -11,10 +13,10 @@ use Rattle.indices.proofs.keep_all.Statement.{statement}
 use Rattle.indices.proofs.keep_all.Tie as tie
 
 abbrev Inv-loop : tie.InvT-loop
-Inv-loop kept₀ k n pairs set a₀ kept a = (a ≤ n) × Kept (λ l a. keepBefore n (score pairs) set k a l) (has set) k kept₀ a kept
+Inv-loop kept₀ k n pairs set near a₀ kept a = (a ≤ n) × Kept (λ l a. keepBefore n (score pairs) set k a l) (has set) k kept₀ a kept
 
 abbrev μ-loop : tie.MeasureT-loop
-μ-loop kept₀ k n pairs set a₀ kept a = n - a
+μ-loop kept₀ k n pairs set near a₀ kept a = n - a
 
 loop-holds : tie.Need-loop-holds Inv-loop μ-loop
 loop-holds c = (omega arith, kept-start)
@@ -23,10 +25,14 @@ has-requires : tie.Need-has-requires Inv-loop μ-loop
 has-requires c κs = search needs
 
 keep-before-requires : tie.Need-keep-before-requires Inv-loop μ-loop
-keep-before-requires c κs = let s = c .before .before .before .before in
+keep-before-requires c κs = let t = c .before in
+    let s = t .before .before .before in
     let g = s .before in
     let r = s .loop .inv .1 in
-    (g .pre .0, omega arith, omega (arith, g .pre .1, r .long), kept-sorted r (sorted-before (g .args .n) (score (g .args .pairs .now)) (g .args .set) (g .args .k)) (g .pre .2))
+    let (scores, few, rise, long, near) = g .pre in (
+      (scores, omega arith, omega (arith, r .long), kept-sorted r (sorted-before (g .args .n) (score (g .args .pairs .now)) (g .args .set) (g .args .k)) rise),
+      (long, near, has-yes (g .args .set) (s .loop .a) (true-T (sym (t .before .has .ensures) ∙ t .if1 .taken))),
+    )
 
 add-a : tie.Need-add-a Inv-loop μ-loop
 add-a c = search needs

@@ -3,7 +3,9 @@ use mathlib.Core.Logic.{⊎-elim}
 use Prim.Native.Nat.{_-_, _≤_}
 use native.Mathlib.Omega.{arith}
 use borrow.Author.Needs.{needs}
+use Rattle.lists.proofs.Tests.{true-T}
 use Rattle.sets.specs.Sets.{has, members}
+use Rattle.sets.proofs.Sets.{has-yes}
 use Rattle.clusters.specs.PairList.{score}
 use Rattle.indices.specs.Smallest.{keepOutside, keepBefore}
 use Rattle.indices.proofs.Smallest.{Kept, kept-start, kept-yes, kept-no, kept-sorted, kept-end, sorted-outside}
@@ -11,10 +13,10 @@ use Rattle.indices.proofs.keep_before.Statement.{statement}
 use Rattle.indices.proofs.keep_before.Tie as tie
 
 abbrev Inv-loop : tie.InvT-loop
-Inv-loop kept₀ k n pairs set a b₀ kept b = (b ≤ a) × Kept (λ l b. keepOutside n (score pairs) set k a b l) (has set) k kept₀ b kept
+Inv-loop kept₀ k n pairs set near a b₀ kept b = (b ≤ a) × Kept (λ l b. keepOutside n (score pairs) set k a b l) (has set) k kept₀ b kept
 
 abbrev μ-loop : tie.MeasureT-loop
-μ-loop kept₀ k n pairs set a b₀ kept b = a - b
+μ-loop kept₀ k n pairs set near a b₀ kept b = a - b
 
 loop-holds : tie.Need-loop-holds Inv-loop μ-loop
 loop-holds c = (omega arith, kept-start)
@@ -22,11 +24,16 @@ loop-holds c = (omega arith, kept-start)
 has-requires : tie.Need-has-requires Inv-loop μ-loop
 has-requires c κs = search needs
 
-keep-outside-requires : tie.Need-keep-outside-requires Inv-loop μ-loop
-keep-outside-requires c κs = let s = c .before .before .before .before in
+keep-pair-requires : tie.Need-keep-pair-requires Inv-loop μ-loop
+keep-pair-requires c κs = let t = c .before in
+    let s = t .before .before .before in
     let g = s .before in
     let r = s .loop .inv .1 in
-    (g .pre .0, g .pre .1, omega arith, omega (arith, g .pre .2, r .long), kept-sorted r (sorted-outside (g .args .n) (score (g .args .pairs .now)) (g .args .set) (g .args .k) (g .args .a)) (g .pre .3))
+    let (scores, low, few, rise) = g .pre .0 in
+    let (long, near, member) = g .pre .1 in (
+      (scores, low, omega arith, omega (arith, r .long), kept-sorted r (sorted-outside (g .args .n) (score (g .args .pairs .now)) (g .args .set) (g .args .k) (g .args .a)) rise),
+      (long, near, member, has-yes (g .args .set) (s .loop .b) (true-T (sym (t .before .has .ensures) ∙ t .if1 .taken))),
+    )
 
 add-b : tie.Need-add-b Inv-loop μ-loop
 add-b c = search needs
@@ -57,7 +64,7 @@ keep-before-spec =
     μ-loop
     loop-holds
     has-requires
-    keep-outside-requires
+    keep-pair-requires
     add-b
     loop-less
     loop-again
