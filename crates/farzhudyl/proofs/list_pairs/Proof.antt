@@ -3,7 +3,6 @@ use mathlib.Core.Bool.{Bool, true, false}
 use mathlib.Core.List.{List}
 use Prim.Native.Nat.{ℕ, _<_, _≤_}
 use borrow.Author.Tests.{not-true, not-false}
-use lib.Dec.{T}
 use lib.IntN.{ℤ}
 use lib.ListN.{length, take, length-take}
 use mir.Syntax.{w32}
@@ -13,23 +12,14 @@ use Rattle.lists.proofs.Tests.{true-T}
 use Rattle.clusters.specs.PairList.{inRange}
 use Rattle.clusters.specs.Refusals.{kindOf, wrongDistances}
 use Rattle.answers.proofs.WaysOut.{refused, counted}
-use Rattle.kinds.specs.Checked.{Checked}
 use Rattle.groups.specs.Found.{Groups}
-use Rattle.listing.specs.Listing.{listing}
-use Rattle.listing.specs.Slots.{groupsOf}
-use Rattle.farzhudyl.specs.Calls.{pairsListing, pairsRefusal}
+use Rattle.farzhudyl.specs.Calls.{pairsListing}
 use Rattle.farzhudyl.proofs.Found.{found-slots, found-listing}
 use Rattle.farzhudyl.proofs.Pairs.{refused-11, refused-12, refused-14, passed, written, copied}
 use native.Mathlib.Omega.{arith}
 use borrow.Author.Needs.{needs}
 use Rattle.farzhudyl.proofs.list_pairs.Statement.{statement}
 use Rattle.farzhudyl.proofs.list_pairs.Tie as tie
-use Rattle.farzhudyl.proofs.list_pairs.Reads as reads
-use Rattle.farzhudyl.proofs.list_pairs.Lts as lts
-use Rattle.groups.proofs.find.Reads as find-reads
-use Rattle.kinds.proofs.are_wrong_distances.Reads as are-wrong-distances-reads
-use Rattle.listing.proofs.write.Reads as write-reads
-use Rattle.matrix.proofs.in_range.Reads as in-range-reads
 
 -- the arguments, and the listing that is to be written
 abbrev text : tie.Start → List ℕ
@@ -65,31 +55,25 @@ unfolding pairsListing
 wrote c = let f = c .before .before .before .before .before .before in let s = f .before .before .before .before .before .before in
     written _ (found-listing (kindOf (s .args .kind)) (s .args .n) (s .args .pairs .now) (f .find .result) (these f) (s .pre .1)) (c .write .ensures .0) (c .write .ensures .1)
 
-fits : (c : tie.After-write) → c .write .result ≤ length (c .write .last .0)
-fits c = omega (arith, wrote c .0, ap length (wrote c .1), length-take (c .write .result) (c .write .last .0))
+long : (c : tie.After-write) → length (take (c .write .result) (c .write .last .0)) ≡ c .write .result
+long c = ap length (wrote c .1) ∙ sym (wrote c .0)
 
--- src/lib.rt:17:9
 in-range-requires : tie.Need-in-range-requires
 in-range-requires c κs = search needs
 
--- src/lib.rt:18:9
 returns : tie.Need-returns
 returns c = let s = c .before .before .before in refused (length (text s)) (text s) (s .args .out .now) (refused-11 (s .args .kind) (s .args .n) (s .args .pairs .now) (length (s .args .out .now)) (in-range-false c)) (λ z. omega arith)
 
--- src/lib.rt:20:8
 are-wrong-distances-requires : tie.Need-are-wrong-distances-requires
 are-wrong-distances-requires c κs = search needs
 
--- src/lib.rt:21:9
 returns-2 : tie.Need-returns-2
 returns-2 c = let s = c .before .before .before .before .before in
     refused (length (text s)) (text s) (s .args .out .now) (refused-12 (s .args .kind) (s .args .n) (s .args .pairs .now) (length (s .args .out .now)) (in-range-true (c .before .before)) (distances-wrong c)) (λ z. omega arith)
 
--- src/lib.rt:23:9
 find-requires : tie.Need-find-requires
 find-requires c κs = let s = c .before .before .before .before .before in record { some = s .pre .0; few = s .pre .1; long = s .pre .2; range = true-T (in-range-true (c .before .before)) }
 
--- src/lib.rt:27:36
 slice-aggregate-write : tie.Need-slice-aggregate-write
 slice-aggregate-write c = search needs
 
@@ -108,13 +92,13 @@ returns-3 c = let w = c .before .before in let f = w .before .before .before .be
     refused (length (text s)) (text s) (s .args .out .now) (refused-14 (s .args .kind) (s .args .n) (s .args .pairs .now) (length (s .args .out .now)) (in-range-true (f .before .before .before)) (distances-right (f .before)) h) (λ z. omega arith)
 
 array-share-prefix-text : tie.Need-array-share-prefix-text
-array-share-prefix-text c = omega (arith, fits (c .before .before))
+array-share-prefix-text c = let w = c .before .before in omega (arith, long w, length-take (w .write .result) (w .write .last .0))
 
 slice-aggregate-copy : tie.Need-slice-aggregate-copy
-slice-aggregate-copy c = let w = c .before .before .before in omega (arith, fits w, length-take (w .write .result) (w .write .last .0))
+slice-aggregate-copy c = omega (arith, long (c .before .before .before))
 
 copy-requires : tie.Need-copy-requires
-copy-requires c κs = let w = c .before .before .before .before in omega (arith, fits w, length-take (w .write .result) (w .write .last .0))
+copy-requires c κs = omega (arith, long (c .before .before .before .before))
 
 same-length : tie.Need-same-length
 same-length c = search needs

@@ -29,7 +29,6 @@ shared-slice-read-put-line c = search needs
 
 index-at-requires : tie.Need-index-at-requires Inv-loop μ-loop
 index-at-requires c κs =
-    let l = c .before .before .before .loop in
     let s = c .before .before .before .before .before .before .pre .0 in
     (omega (arith, s .indices-hold), index-natural s _ (omega arith))
 

@@ -6,6 +6,7 @@ use Rattle.listing.proofs.Puts.{then-byte}
 use Rattle.listing.proofs.put_number.Statement.{statement}
 use Rattle.listing.proofs.put_number.Tie as tie
 
+-- a number has at most 20 digits
 few : (c : tie.After-decimal-length) → c .decimal-length .result ≤ 20
 few c = omega (arith, length-decimal 19 (c .before .before .before .args .n) (search needs))
 

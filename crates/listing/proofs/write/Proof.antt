@@ -1,11 +1,6 @@
-use Prim.Native.Nat.{_+_, _≤_}
 use native.Mathlib.Omega.{arith}
 use borrow.Author.Needs.{needs}
-use lib.ListN.{length}
-use Rattle.lists.specs.Lists.{each}
-use Rattle.listing.specs.Listing.{firstText, firstLine, line, listing}
-use Rattle.listing.specs.Slots.{groupsOf}
-use Rattle.listing.proofs.Lines.{length-listing}
+use Rattle.listing.specs.Listing.{firstText, firstLine, listing}
 use Rattle.listing.proofs.Puts.{then, put-start, start-put}
 use Rattle.listing.proofs.write.Statement.{statement}
 use Rattle.listing.proofs.write.Tie as tie
@@ -29,7 +24,7 @@ returns c =
     let first = lines .before .before .before .before in
     let s = first .before .before .before .before .before in
     let r = lines .put-lines .ensures in
-    let text = then (put-start {l = first .before .before .before .before .before .args .out .now} {xs = firstLine} (first .copy .ensures .0) (omega arith) (first .copy .ensures .1)) (r .1) in
+    let text = then (put-start {l = s .args .out .now} {xs = firstLine} (first .copy .ensures .0) (omega arith) (first .copy .ensures .1)) (r .1) in
     start-put text (omega (arith, r .0, text .place))
 
 pub write-spec : {M : Type 1} → statement M
