@@ -66,7 +66,6 @@ module _ (kind : Kind) (n : ℕ) (l : List ℤ) where
     pub found-slots : Slots (f .count) (f .sets) (f .indices)
     unfolding found
     found-slots = record {
-      few = omega (arith, g .few);
       sets-hold = omega (arith, length-take (f .count) (f .sets), ap length (g .sets), g .count);
       indices-hold = omega (arith, length-take (f .count) (f .indices), ap length (g .indices), length-map (groupSets kind n (score l)) (index kind n (score l)), g .count);
       natural = λ h m. natural h (subst (λ (s : List (ℕ × ℤ)). h ∈ s) found-groups m);

@@ -79,7 +79,7 @@ module _ (s : List ℕ) {n : ℕ} (e : reading s ≡ Entries n) where
 
 -- the ways out
 module _ (kind : ℤ) (s lent : List ℕ) where
-  abbrev Answers : Answer → List ℕ → Type 0
+  abbrev pub Answers : Answer → List ℕ → Type 0
   Answers r o = (r ≡ answer (sheetRefusal kind s (length lent)) (length (sheetListing kind s))) × (o ≡ slots (sheetRefusal kind s (length lent)) (sheetListing kind s) lent)
 
   pub refused-kind : wrongKind kind ≡ true → Answers (Refused 1) lent

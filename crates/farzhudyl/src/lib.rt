@@ -25,10 +25,14 @@ fn list_pairs(kind: i32, n: usize, pairs: &[i32], out: &mut [u8]) -> Answer
     let sets = found.sets;
     let indices = found.indices;
     let count = found.count;
-    if out.len() < listing::length(&sets, &indices, count) {
+    // room for the first line and 64 of the longest lines
+    let mut text = [0u8; 2127];
+    let written = listing::write(&mut text, &sets, &indices, count);
+    if out.len() < written {
         return Answer::Refused(14);
     }
-    Answer::Count(listing::write(out, &sets, &indices, count))
+    bytes::copy(&text[..written], out);
+    Answer::Count(written)
 }
 
 // The sheet call: the listing's length, and the listing in the first bytes; or the refusal, and nothing is written.

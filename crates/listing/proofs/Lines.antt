@@ -1,5 +1,5 @@
 -- Laws of lines: their fields, their lengths, and the lines of the groups in two slices, one by one.
-use mathlib.Core.Path.{_≡_, refl, sym, ap, _∙_}
+use mathlib.Core.Path.{_≡_, refl, sym}
 use mathlib.Core.List.{List, [], _∷_, _++_, append-assoc, append-nil, List·Memᴰ·head, List·Memᴰ·tail}
 use Prim.Native.Nat.{ℕ, zero, suc, _+_, _^_, _<_, _≤_}
 use native.Mathlib.Numerals.{add-one}
@@ -15,9 +15,9 @@ use Rattle.listing.specs.Slots.{groupsOf, Slots}
 use Rattle.listing.proofs.Numbers.{length-hexadecimal, length-decimal}
 
 -- the three fields, each with the byte after it
-pub line-fields : (n A k : ℕ) → line n (A, pos k) ≡ (hexadecimal A ++ (32 ∷ [])) ++ (decimal (size n A) ++ (32 ∷ [])) ++ (decimal k ++ (10 ∷ []))
+pub line-fields : (n A k : ℕ) {s : ℕ} → s ≡ size n A → line n (A, pos k) ≡ (hexadecimal A ++ (32 ∷ [])) ++ (decimal s ++ (32 ∷ [])) ++ (decimal k ++ (10 ∷ []))
 unfolding line lineText signedDecimal
-line-fields n A k = simp append-assoc
+line-fields n A k e = rw e (simp append-assoc)
 
 pub length-line : (n A k : ℕ) {s : ℕ} → s ≡ size n A → length (line n (A, pos k)) ≡ length (decimal s) + length (decimal k) + 11
 unfolding line lineText signedDecimal
@@ -42,20 +42,6 @@ one-more i (A ∷ sets) [] f h k = absurd (omega arith)
 one-more zero (A ∷ sets) (z ∷ indices) f h k = append-nil (f (A, z))
 one-more (suc i) (A ∷ sets) (z ∷ indices) f h k = rw (one-more i sets indices f (omega arith) (omega arith)) (sym (append-assoc (f (A, z)) (each (groupsOf i sets indices) f) (f (getD sets i 0, getD indices i (pos 0)))))
 
-fewer : (i count : ℕ) (sets : List ℕ) (indices : List ℤ) (f : ℕ × ℤ → List ℕ) → i ≤ count → length (each (groupsOf i sets indices) f) ≤ length (each (groupsOf count sets indices) f)
-unfolding each groupsOf
-fewer zero count sets indices f h = omega arith
-fewer (suc i) zero sets indices f h = absurd (omega arith)
-fewer (suc i) (suc count) [] indices f h = omega arith
-fewer (suc i) (suc count) (A ∷ sets) [] f h = omega arith
-fewer (suc i) (suc count) (A ∷ sets) (z ∷ indices) f h =
-    omega (
-      arith,
-      length-append (f (A, z)) (each (groupsOf i sets indices) f),
-      length-append (f (A, z)) (each (groupsOf count sets indices) f),
-      fewer i count sets indices f (omega arith),
-    )
-
 in-groups : (count : ℕ) (sets : List ℕ) (indices : List ℤ) (i : ℕ) → i < count → count ≤ length sets → count ≤ length indices → (getD sets i 0, getD indices i (pos 0)) ∈ groupsOf count sets indices
 unfolding groupsOf
 in-groups zero sets indices i h hs hi = absurd (omega arith)
@@ -74,10 +60,3 @@ module _ {count : ℕ} {sets : List ℕ} {indices : List ℤ} (s : Slots count s
       let hs : i < length sets = omega (arith, s .sets-hold) in
       let hi : i < length indices = omega (arith, s .indices-hold) in
       rw (add-one i, e) (one-more i sets indices (line 32) hs hi)
-
-  pub length-next : (k : ℕ) → pos k ≡ getD indices i (pos 0) → length (each (groupsOf (i + 1) sets indices) (line 32)) ≡ length (each (groupsOf i sets indices) (line 32)) + length (line 32 (getD sets i 0, pos k))
-  length-next k e = ap length (lines-next k e) ∙ length-append (each (groupsOf i sets indices) (line 32)) (line 32 (getD sets i 0, pos k))
-
-  -- there is room for its line
-  pub lines-room : length (each (groupsOf (i + 1) sets indices) (line 32)) ≤ length (each (groupsOf count sets indices) (line 32))
-  lines-room = fewer (i + 1) count sets indices (line 32) (omega arith)

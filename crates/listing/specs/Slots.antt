@@ -13,10 +13,8 @@ groupsOf (suc count) [] indices = []
 groupsOf (suc count) (A ∷ sets) [] = []
 groupsOf (suc count) (A ∷ sets) (z ∷ indices) = (A, z) ∷ groupsOf count sets indices
 
--- what the writer is lent: two slices that hold count groups, not too many ("Strong listings have at most 2n − 2 lines", n at most 32),
--- and no negative index ("A group or split is listed if its index is 1 or more")
+-- what the writer is lent: two slices that hold count groups, and no negative index ("A group or split is listed if its index is 1 or more")
 pub record Slots (count : ℕ) (sets : List ℕ) (indices : List ℤ) : Type 0 where
-  pub few : count ≤ 64
   pub sets-hold : count ≤ length sets
   pub indices-hold : count ≤ length indices
   pub natural : (g : ℕ × ℤ) → g ∈ groupsOf count sets indices → pos 0 ≤ℤ g .1

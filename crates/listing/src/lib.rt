@@ -1,7 +1,7 @@
 // The listing writer.
 ghost use mathlib.Core.Path.{_≡_};
 ghost use mathlib.Core.List.{_++_, _∷_, []};
-ghost use Prim.Native.Nat.{_+_, _≤_, _<_};
+ghost use Prim.Native.Nat.{_+_, _*_, _≤_, _<_};
 ghost use lib.IntN.{pos};
 ghost use lib.ListN.{length, drop, getD};
 ghost use lib.Seq.{sets};
@@ -49,16 +49,16 @@ fn decimal_length(n: usize) -> usize
 // Puts a set and a space.
 fn put_set(out: &mut [u8], at: usize, set: u32) -> usize
     requires { ⌜ at + 9 ≤ length (now out) ⌝ }
-    ensures { λ r. ⌜ Put (now (out .entry)) at (hexadecimal set ++ (32 ∷ [])) (now (out .exit)) r ⌝ }
+    ensures { λ r. ⌜ (r ≡ at + 9) × Put (now (out .entry)) at (hexadecimal set ++ (32 ∷ [])) (now (out .exit)) r ⌝ }
 {
     let end = put_digits(out, at, 16, 8, set as usize);
     out[end] = b' ';
     end + 1
 }
 
-// Puts a number and the byte after it.
+// Puts a number and the byte after it, 21 bytes at most.
 fn put_number(out: &mut [u8], at: usize, n: usize, after: u8) -> usize
-    requires { ⌜ at + length (decimal n) < length (now out) ⌝ }
+    requires { ⌜ at + 21 ≤ length (now out) ⌝ }
     ensures { λ r. ⌜ Put (now (out .entry)) at (decimal n ++ (after ∷ [])) (now (out .exit)) r ⌝ }
 {
     let end = put_digits(out, at, 10, decimal_length(n), n);
@@ -66,14 +66,9 @@ fn put_number(out: &mut [u8], at: usize, n: usize, after: u8) -> usize
     end + 1
 }
 
-fn line_length(set: u32, index: usize) -> usize
-    ensures { λ r. ⌜ r ≡ length (line 32 (set, pos index)) ⌝ }
-{
-    decimal_length(sets::size(set)) + decimal_length(index) + 11
-}
-
+// Puts a line, 33 bytes at most.
 fn put_line(out: &mut [u8], at: usize, set: u32, index: usize) -> usize
-    requires { ⌜ at + length (line 32 (set, pos index)) ≤ length (now out) ⌝ }
+    requires { ⌜ at + 33 ≤ length (now out) ⌝ }
     ensures { λ r. ⌜ Put (now (out .entry)) at (line 32 (set, pos index)) (now (out .exit)) r ⌝ }
 {
     let a = put_set(out, at, set);
@@ -88,25 +83,11 @@ fn index_at(indices: &[i64], i: usize) -> usize
     indices[i] as usize
 }
 
-// The length of the listing of the first count groups.
-pub fn length(sets: &[u32], indices: &[i64], count: usize) -> usize
-    requires { ⌜ Slots count (now sets) (now indices) ⌝ }
-    ensures { λ r. ⌜ r ≡ length (listing 32 (groupsOf count (now (sets .entry)) (now (indices .entry)))) ⌝ }
-{
-    let mut total: usize = 15;
-    let mut i: usize = 0;
-    while i < count {
-        total += line_length(sets[i], index_at(indices, i));
-        i += 1;
-    }
-    total
-}
-
 // Puts the lines of the first count groups.
 fn put_lines(out: &mut [u8], at: usize, sets: &[u32], indices: &[i64], count: usize) -> usize
     requires { ⌜ Slots count (now sets) (now indices) ⌝ }
-    requires { ⌜ at + length (each (groupsOf count (now sets) (now indices)) (line 32)) ≤ length (now out) ⌝ }
-    ensures { λ r. ⌜ Put (now (out .entry)) at (each (groupsOf count (now (sets .entry)) (now (indices .entry))) (line 32)) (now (out .exit)) r ⌝ }
+    requires { ⌜ at + 33 * count ≤ length (now out) ⌝ }
+    ensures { λ r. ⌜ (r ≤ at + 33 * count) × Put (now (out .entry)) at (each (groupsOf count (now (sets .entry)) (now (indices .entry))) (line 32)) (now (out .exit)) r ⌝ }
 {
     let mut end = at;
     let mut i: usize = 0;
@@ -120,7 +101,7 @@ fn put_lines(out: &mut [u8], at: usize, sets: &[u32], indices: &[i64], count: us
 // Writes the listing of the first count groups to the start of out, and answers its length.
 pub fn write(out: &mut [u8], sets: &[u32], indices: &[i64], count: usize) -> usize
     requires { ⌜ Slots count (now sets) (now indices) ⌝ }
-    requires { ⌜ length (listing 32 (groupsOf count (now sets) (now indices))) ≤ length (now out) ⌝ }
+    requires { ⌜ 15 + 33 * count ≤ length (now out) ⌝ }
     ensures { λ r. ⌜ r ≡ length (listing 32 (groupsOf count (now (sets .entry)) (now (indices .entry)))) ⌝ }
     ensures { λ r. ⌜ now (out .exit) ≡ listing 32 (groupsOf count (now (sets .entry)) (now (indices .entry))) ++ drop r (now (out .entry)) ⌝ }
 {

@@ -1,16 +1,21 @@
-use mathlib.Core.Path.{ap, _∙_}
+use mathlib.Core.Path.{ap, _∙_, subst}
 use native.Mathlib.Omega.{arith}
 use borrow.Author.Needs.{needs}
 use lib.ListN.{length}
-use mir.Syntax.{w32, w64}
-use mir.Val.{ofZ, toZ}
+use mir.Syntax.{w64}
 use mir.Facts.{toZ-ofZ}
 use Rattle.integers.proofs.Held.{passed}
 use Rattle.answers.specs.Answers.{numberOf, countOf}
 use Rattle.farzhudyl.specs.Calls.{cNumber}
 use Rattle.farzhudyl.proofs.Numbers.{number-le, count-le}
+use Rattle.farzhudyl.proofs.Sheets.{Answers}
 use Rattle.farzhudyl.proofs.farzhudyl_listing.Statement.{statement}
 use Rattle.farzhudyl.proofs.farzhudyl_listing.Tie as tie
+
+-- the sheet call was asked for this kind
+asked : (c : tie.After-listing) → let a = c .before .before .before .before .args in Answers (a .kind) (a .sheet .now) (a .out .now) (c .listing .result) (c .listing .last .1 .1 .0)
+asked c = let s = c .before .before .before .before in
+    subst (λ k. Answers k (s .args .sheet .now) (s .args .out .now) (c .listing .result) (c .listing .last .1 .1 .0)) (toZ-ofZ (s .fits .kind)) (c .listing .ensures)
 
 listing-requires : tie.Need-listing-requires
 listing-requires c κs = search needs
@@ -18,18 +23,16 @@ listing-requires c κs = search needs
 as-number-requires : tie.Need-as-number-requires
 as-number-requires c κs =
     let a = c .before .before .before .before .before .before .args in
-    let e = c .before .before .listing .ensures .0 in
-    let k = toZ w32 (ofZ w32 (a .kind)) in
-    (omega (arith, ap numberOf e, number-le k (a .sheet .now) (length (a .out .now))), omega (arith, ap countOf e, count-le k (a .sheet .now) (length (a .out .now))))
+    let (e, _) = asked (c .before .before) in
+    (omega (arith, ap numberOf e, number-le (a .kind) (a .sheet .now) (length (a .out .now))), omega (arith, ap countOf e, count-le (a .kind) (a .sheet .now) (length (a .out .now))))
 
 same-length : tie.Need-same-length
 same-length c = search needs
 
 returns : tie.Need-returns
 returns c =
-    let l = c .before .before .before .listing .ensures in
-    let k = toZ-ofZ (c .before .before .before .before .before .before .before .fits .kind) in
-    (passed w64 (c .as-number .ok) (c .as-number .ensures ∙ ap cNumber (rw k at (l .0))), rw k at (l .1))
+    let (e, o) = asked (c .before .before .before) in
+    (passed w64 (c .as-number .ok) (c .as-number .ensures ∙ ap cNumber e), o)
 
 pub farzhudyl-listing-spec : {M : Type 1} → statement M
 farzhudyl-listing-spec = tie.close (tie.spec listing-requires as-number-requires same-length returns)

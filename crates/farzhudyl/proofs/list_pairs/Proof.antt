@@ -3,9 +3,8 @@ use mathlib.Core.Bool.{Bool, true, false}
 use mathlib.Core.List.{List}
 use Prim.Native.Nat.{ℕ, _<_, _≤_}
 use borrow.Author.Tests.{not-true, not-false}
-use lib.Dec.{T}
 use lib.IntN.{ℤ}
-use lib.ListN.{length}
+use lib.ListN.{length, take, length-take}
 use mir.Syntax.{w32}
 use mir.Val.{SFits, ofZ, toZ}
 use mir.Facts.{toZ-ofZ}
@@ -13,24 +12,14 @@ use Rattle.lists.proofs.Tests.{true-T}
 use Rattle.clusters.specs.PairList.{inRange}
 use Rattle.clusters.specs.Refusals.{kindOf, wrongDistances}
 use Rattle.answers.proofs.WaysOut.{refused, counted}
-use Rattle.kinds.specs.Checked.{Checked}
 use Rattle.groups.specs.Found.{Groups}
-use Rattle.listing.specs.Listing.{listing}
-use Rattle.listing.specs.Slots.{groupsOf}
-use Rattle.farzhudyl.specs.Calls.{pairsListing, pairsRefusal}
+use Rattle.farzhudyl.specs.Calls.{pairsListing}
 use Rattle.farzhudyl.proofs.Found.{found-slots, found-listing}
-use Rattle.farzhudyl.proofs.Pairs.{refused-11, refused-12, refused-14, passed, same-text}
+use Rattle.farzhudyl.proofs.Pairs.{refused-11, refused-12, refused-14, passed, written, copied}
 use native.Mathlib.Omega.{arith}
 use borrow.Author.Needs.{needs}
 use Rattle.farzhudyl.proofs.list_pairs.Statement.{statement}
 use Rattle.farzhudyl.proofs.list_pairs.Tie as tie
-use Rattle.farzhudyl.proofs.list_pairs.Reads as reads
-use Rattle.farzhudyl.proofs.list_pairs.Lts as lts
-use Rattle.groups.proofs.find.Reads as find-reads
-use Rattle.kinds.proofs.are_wrong_distances.Reads as are-wrong-distances-reads
-use Rattle.listing.proofs.length.Reads as length-reads
-use Rattle.listing.proofs.write.Reads as write-reads
-use Rattle.matrix.proofs.in_range.Reads as in-range-reads
 
 -- the arguments, and the listing that is to be written
 abbrev text : tie.Start → List ℕ
@@ -59,72 +48,66 @@ these : (c : tie.After-find) → let s = c .before .before .before .before .befo
 these c = let s = c .before .before .before .before .before .before in
     subst (λ k. Groups (kindOf k) (s .args .n) (s .args .pairs .now) (c .find .result)) (toZ-ofZ (s .fits .kind)) (c .find .ensures)
 
--- the text that the writer is given is the listing
-wide : (c : tie.After-find) → let s = c .before .before .before .before .before .before in listing 32 (groupsOf (c .find .result .count) (c .find .result .sets) (c .find .result .indices)) ≡ text s
+-- the writer wrote the listing
+wrote : (c : tie.After-write) → let s = c .before .before .before .before .before .before .before .before .before .before .before .before in
+    (c .write .result ≡ length (text s)) × (take (c .write .result) (c .write .last .0) ≡ text s)
 unfolding pairsListing
-wide c = let s = c .before .before .before .before .before .before in found-listing (kindOf (s .args .kind)) (s .args .n) (s .args .pairs .now) (c .find .result) (these c) (s .pre .1)
+wrote c = let f = c .before .before .before .before .before .before in let s = f .before .before .before .before .before .before in
+    written _ (found-listing (kindOf (s .args .kind)) (s .args .n) (s .args .pairs .now) (f .find .result) (these f) (s .pre .1)) (c .write .ensures .0) (c .write .ensures .1)
 
--- src/lib.rt:17:9
+long : (c : tie.After-write) → length (take (c .write .result) (c .write .last .0)) ≡ c .write .result
+long c = ap length (wrote c .1) ∙ sym (wrote c .0)
+
 in-range-requires : tie.Need-in-range-requires
 in-range-requires c κs = search needs
 
--- src/lib.rt:18:9
 returns : tie.Need-returns
 returns c = let s = c .before .before .before in refused (length (text s)) (text s) (s .args .out .now) (refused-11 (s .args .kind) (s .args .n) (s .args .pairs .now) (length (s .args .out .now)) (in-range-false c)) (λ z. omega arith)
 
--- src/lib.rt:20:8
 are-wrong-distances-requires : tie.Need-are-wrong-distances-requires
 are-wrong-distances-requires c κs = search needs
 
--- src/lib.rt:21:9
 returns-2 : tie.Need-returns-2
 returns-2 c = let s = c .before .before .before .before .before in
     refused (length (text s)) (text s) (s .args .out .now) (refused-12 (s .args .kind) (s .args .n) (s .args .pairs .now) (length (s .args .out .now)) (in-range-true (c .before .before)) (distances-wrong c)) (λ z. omega arith)
 
--- src/lib.rt:23:9
 find-requires : tie.Need-find-requires
 find-requires c κs = let s = c .before .before .before .before .before in record { some = s .pre .0; few = s .pre .1; long = s .pre .2; range = true-T (in-range-true (c .before .before)) }
 
--- src/lib.rt:27:36
-slice-aggregate-length : tie.Need-slice-aggregate-length
-slice-aggregate-length c = search needs
-
--- src/lib.rt:27:43
-slice-aggregate-length-2 : tie.Need-slice-aggregate-length-2
-slice-aggregate-length-2 c = search needs
-
--- src/lib.rt:27:20
-length-requires : tie.Need-length-requires
-length-requires c κs = found-slots _ _ _ _ (these (c .before .before .before .before))
-
--- src/lib.rt:28:9
-returns-3 : tie.Need-returns-3
-returns-3 c = let s = c .before .before .before .before .before .before .before .before .before .before .before .before in let f = c .before .before .before .before .before .before in
-    let h : length (s .args .out .now) < length (text s) = omega (arith, c .before .length .ensures, ap length (wide f), c .if3 .taken) in
-    refused (length (text s)) (text s) (s .args .out .now) (refused-14 (s .args .kind) (s .args .n) (s .args .pairs .now) (length (s .args .out .now)) (in-range-true (f .before .before .before)) (distances-right (f .before)) h) (λ z. omega arith)
-
--- src/lib.rt:30:39
 slice-aggregate-write : tie.Need-slice-aggregate-write
 slice-aggregate-write c = search needs
 
--- src/lib.rt:30:46
 slice-aggregate-write-2 : tie.Need-slice-aggregate-write-2
 slice-aggregate-write-2 c = search needs
 
--- src/lib.rt:30:19
-write-requires : tie.Need-write-requires
-write-requires c κs = let f = c .before .before .before .before .before .before .before .before .before in (found-slots _ _ _ _ (these f), omega (arith, c .before .before .before .before .length .ensures, c .before .before .before .if3 .left))
+slice-aggregate-write-3 : tie.Need-slice-aggregate-write-3
+slice-aggregate-write-3 c = search needs
 
--- src/lib.rt:12:1
+write-requires : tie.Need-write-requires
+write-requires c κs = let g = these (c .before .before .before .before .before) in (found-slots _ _ _ _ g, omega (arith, g .few))
+
+returns-3 : tie.Need-returns-3
+returns-3 c = let w = c .before .before in let f = w .before .before .before .before .before .before in let s = f .before .before .before .before .before .before in
+    let h : length (s .args .out .now) < length (text s) = omega (arith, wrote w .0, c .if3 .taken) in
+    refused (length (text s)) (text s) (s .args .out .now) (refused-14 (s .args .kind) (s .args .n) (s .args .pairs .now) (length (s .args .out .now)) (in-range-true (f .before .before .before)) (distances-right (f .before)) h) (λ z. omega arith)
+
+array-share-prefix-text : tie.Need-array-share-prefix-text
+array-share-prefix-text c = let w = c .before .before in omega (arith, long w, length-take (w .write .result) (w .write .last .0))
+
+slice-aggregate-copy : tie.Need-slice-aggregate-copy
+slice-aggregate-copy c = omega (arith, long (c .before .before .before))
+
+copy-requires : tie.Need-copy-requires
+copy-requires c κs = omega (arith, long (c .before .before .before .before))
+
 same-length : tie.Need-same-length
 same-length c = search needs
 
--- src/lib.rt:12:1
 returns-4 : tie.Need-returns-4
-returns-4 c = let s = c .before .before .before .before .before .before .before .before .before .before .before .before .before .before .before .before .before .before in let f = c .before .before .before .before .before .before .before .before .before .before .before .before in let w = c .before .before .write in
-    let (m, o) = same-text (s .args .out .now) (wide f) (w .ensures .0) (w .ensures .1) in
-    let h : length (text s) ≤ length (s .args .out .now) = omega (arith, c .before .before .before .before .before .before .before .length .ensures, ap length (wide f), c .before .before .before .before .before .before .if3 .left) in
-    counted (length (text s)) (text s) (s .args .out .now) (passed (s .args .kind) (s .args .n) (s .args .pairs .now) (length (s .args .out .now)) (in-range-true (f .before .before .before)) (distances-right (f .before)) h) refl m refl o
+returns-4 c = let o = c .before .before in let w = o .before .before .before .before .before in let f = w .before .before .before .before .before .before in let s = f .before .before .before .before .before .before in
+    let h : length (text s) ≤ length (s .args .out .now) = omega (arith, wrote w .0, o .before .before .before .if3 .left) in
+    counted (length (text s)) (text s) (s .args .out .now) (passed (s .args .kind) (s .args .n) (s .args .pairs .now) (length (s .args .out .now)) (in-range-true (f .before .before .before)) (distances-right (f .before)) h) refl (wrote w .0) refl
+    (copied (s .args .out .now) (wrote w .1) (o .copy .ensures .1))
 
 pub list-pairs-spec : {M : Type 1} → statement M
 list-pairs-spec =
@@ -135,12 +118,13 @@ list-pairs-spec =
     are-wrong-distances-requires
     returns-2
     find-requires
-    slice-aggregate-length
-    slice-aggregate-length-2
-    length-requires
-    returns-3
     slice-aggregate-write
     slice-aggregate-write-2
+    slice-aggregate-write-3
     write-requires
+    returns-3
+    array-share-prefix-text
+    slice-aggregate-copy
+    copy-requires
     same-length
     returns-4)

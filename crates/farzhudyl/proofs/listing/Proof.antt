@@ -1,4 +1,4 @@
-use mathlib.Core.Path.{_≡_, refl, sym, _∙_}
+use mathlib.Core.Path.{_≡_, refl, sym, _∙_, subst}
 use mathlib.Core.Bool.{false}
 use lib.ListN.{take}
 use mir.Facts.{toZ-ofZ}
@@ -13,7 +13,7 @@ use Rattle.farzhudyl.proofs.listing.Tie as tie
 
 -- what the code has after each call
 kind-is : (c : tie.After-is-wrong) → c .is-wrong .result ≡ wrongKind (c .before .before .before .args .kind)
-kind-is c = rw (toZ-ofZ (c .before .before .before .fits .kind)) at (c .is-wrong .ensures)
+kind-is c = subst (λ k. c .is-wrong .result ≡ wrongKind k) (toZ-ofZ (c .before .before .before .fits .kind)) (c .is-wrong .ensures)
 
 right-kind : (c : tie.Else1) → wrongKind (c .before .before .before .before .args .kind) ≡ false
 right-kind c = sym (kind-is (c .before)) ∙ c .if1 .left

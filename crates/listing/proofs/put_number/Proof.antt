@@ -1,20 +1,26 @@
+use Prim.Native.Nat.{_≤_}
+use native.Mathlib.Omega.{arith}
 use borrow.Author.Needs.{needs}
-use Rattle.listing.proofs.Numbers.{decimal-digits, digits-put}
+use Rattle.listing.proofs.Numbers.{decimal-digits, digits-put, length-decimal}
 use Rattle.listing.proofs.Puts.{then-byte}
 use Rattle.listing.proofs.put_number.Statement.{statement}
 use Rattle.listing.proofs.put_number.Tie as tie
+
+-- a number has at most 20 digits
+few : (c : tie.After-decimal-length) → c .decimal-length .result ≤ 20
+few c = omega (arith, length-decimal 19 (c .before .before .before .args .n) (search needs))
 
 decimal-length-requires : tie.Need-decimal-length-requires
 decimal-length-requires c κs = search needs
 
 put-digits-requires : tie.Need-put-digits-requires
-put-digits-requires c κs = search needs
+put-digits-requires c κs = (omega arith, omega arith, omega (arith, few c))
 
 slice-write-out : tie.Need-slice-write-out
-slice-write-out c = search needs
+slice-write-out c = omega (arith, few (c .before .before .before))
 
 add-result : tie.Need-add-result
-add-result c = search needs
+add-result c = omega (arith, few (c .before .before .before))
 
 same-length : tie.Need-same-length
 same-length c = search needs

@@ -1,3 +1,4 @@
+use native.Mathlib.Omega.{arith}
 use borrow.Author.Needs.{needs}
 use Rattle.listing.specs.Listing.{hexadecimal}
 use Rattle.listing.proofs.Numbers.{digits-put}
@@ -21,7 +22,7 @@ returns : tie.Need-returns
 unfolding hexadecimal
 returns c =
     let e = c .before .before .put-digits .ensures in
-    then-byte (digits-put 16 8 _ (e .0) (e .1)) 32
+    (omega (arith, e .0), then-byte (digits-put 16 8 _ (e .0) (e .1)) 32)
 
 pub put-set-spec : {M : Type 1} → statement M
 put-set-spec =
