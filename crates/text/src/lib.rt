@@ -1,8 +1,9 @@
 ghost use mathlib.Core.Path.{_≡_};
 ghost use Prim.Native.Nat.{_+_, _≤_};
+ghost use lib.Dec.{ltb};
 ghost use lib.ListN.{length, drop};
 ghost use Rattle.lists.specs.Lists.{all};
-ghost use Rattle.text.specs.Text.{space, isUpper, isDigit, cut, isName, isNumeral};
+ghost use Rattle.text.specs.Text.{lineFeed, space, isUpper, isDigit, cut, isName, isNumeral};
 ghost use Rattle.text.specs.Reading.{inClass, pieceAt, digits, readOn, isEnd, valueAt};
 
 // Classes of bytes.
@@ -89,6 +90,42 @@ pub fn piece_end(s: &[u8], c: u8, from: usize) -> usize
         at += 1;
     }
     at
+}
+
+// A byte c stands among the 16 from a place on.
+fn is_near(s: &[u8], c: u8, from: usize) -> bool
+    requires { ⌜ from + 16 ≤ length (now s) ⌝ }
+    ensures { λ r. ⌜ r ≡ ltb (length (pieceAt c (now (s .entry)) from)) 16 ⌝ }
+{
+    let mut near = false;
+    for k in 0..16 {
+        near = near | (s[from + k] == c);
+    }
+    near
+}
+
+// A place of the piece that starts at from, less than 16 bytes from the end of the piece or of the list.
+fn skip(s: &[u8], c: u8, from: usize) -> usize
+    requires { ⌜ from ≤ length (now s) ⌝ }
+    ensures { λ r. ⌜ (r ≤ length (now (s .entry))) × (r + length (pieceAt c (now (s .entry)) r) ≡ from + length (pieceAt c (now (s .entry)) from)) ⌝ }
+{
+    let mut at = from;
+    while s.len() - at >= 16 {
+        if is_near(s, c, at) {
+            return at;
+        }
+        at += 16;
+    }
+    at
+}
+
+// The end of the line that starts at from.
+pub fn line_end(s: &[u8], from: usize) -> usize
+    requires { ⌜ from ≤ length (now s) ⌝ }
+    ensures { λ r. ⌜ r ≡ from + length (pieceAt lineFeed (now (s .entry)) from) ⌝ }
+{
+    let at = skip(s, b'\n', from);
+    piece_end(s, b'\n', at)
 }
 
 // The number of pieces between the bytes c.
