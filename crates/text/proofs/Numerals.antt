@@ -15,7 +15,7 @@ use mir.Val.{SFits, toZ, boolByte}
 use mir.Syntax.{w32}
 use mir.Facts.{toZ-pos}
 use Rattle.lists.specs.Lists.{all}
-use Rattle.text.specs.Text.{longer, cut, isDigit, isNumeral, isValue, numberFrom, valueOf}
+use Rattle.text.specs.Text.{isDigit, isNumeral, isValue, numberFrom, valueOf}
 use Rattle.text.specs.Reading.{pieceAt, digits, readOn, isEnd, valueAt}
 use Rattle.text.specs.declared.Digits.{Digits}
 use Rattle.text.specs.declared.ValueRead.the-variants.{Value, Refused}
@@ -77,9 +77,9 @@ unfolding readOn
 digits-read r v at ds e = (ap (λ (d : Digits). d .number) e, ap (λ (d : Digits). d .end) e)
 
 -- the first piece of a list that does not start with its end, and of one that does
-first-on : (b : ℕ) (t : List ℕ) → eqb b 32 ≡ false → pieceAt 32 (b ∷ t) 0 ≡ b ∷ pieceAt 32 t 0
+first-step : (b : ℕ) (t : List ℕ) → eqb b 32 ≡ false → pieceAt 32 (b ∷ t) 0 ≡ b ∷ pieceAt 32 t 0
 unfolding pieceAt
-first-on b t e = piece-step 32 (b ∷ t) 0 (omega arith) (eqb-false b 32 e)
+first-step b t e = piece-step 32 (b ∷ t) 0 (omega arith) (eqb-false b 32 e)
 
 first-end : (t : List ℕ) → isEnd t ≡ true → pieceAt 32 t 0 ≡ []
 unfolding isEnd
@@ -105,7 +105,7 @@ nothing k t f = record { run = le-leb 0 k (omega arith); inside = omega arith; f
 digits-start : (k : ℕ) (t : List ℕ) → Start k t (digits k t)
 unfolding digits isEnd all
 digits-start zero [] = nothing 0 [] (λ e. absurd (true≢false e))
-digits-start zero (b ∷ t) = nothing 0 (b ∷ t) (λ e. rw (first-on b t e) (rw (lt-leb (suc (length (pieceAt 32 t 0))) 0 (omega arith)) (and-false (all isDigit (b ∷ pieceAt 32 t 0)))))
+digits-start zero (b ∷ t) = nothing 0 (b ∷ t) (λ e. rw (first-step b t e) (rw (lt-leb (suc (length (pieceAt 32 t 0))) 0 (omega arith)) (and-false (all isDigit (b ∷ pieceAt 32 t 0)))))
 digits-start (suc k) [] = nothing (suc k) [] (λ e. absurd (true≢false e))
 digits-start (suc k) (b ∷ t) = go (isDigit b) refl (digits-start k t)
   where
@@ -116,10 +116,10 @@ digits-start (suc k) (b ∷ t) = go (isDigit b) refl (digits-start k t)
           run = rw (d, leb·suc-suc (length (digits k t)) k) (r .run);
           inside = omega (arith, r .inside);
           first = λ h. refl;
-          whole = λ e. first-on b t n ∙ ap (λ (l : List ℕ). b ∷ l) (r .whole e);
-          part = λ e. rw (first-on b t n, d, leb·suc-suc (length (pieceAt 32 t 0)) k) (r .part e);
+          whole = λ e. first-step b t n ∙ ap (λ (l : List ℕ). b ∷ l) (r .whole e);
+          part = λ e. rw (first-step b t n, d, leb·suc-suc (length (pieceAt 32 t 0)) k) (r .part e);
         }
-    go false d r = nothing (suc k) (b ∷ t) (λ e. rw (first-on b t e, d))
+    go false d r = nothing (suc k) (b ∷ t) (λ e. rw (first-step b t e, d))
 
 -- a numeral by its first byte and its length
 numeral-is : (w : List ℕ) → 0 < length w → isNumeral w ≡ (isRun 7 w && (not (eqb (getD w 0 0) 48) || eqb (length w) 1))

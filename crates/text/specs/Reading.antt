@@ -6,14 +6,13 @@ use lib.Dec.{eqb}
 use lib.ListN.{length, getD, drop}
 use Rattle.text.specs.Text.{space, isUpper, isDigit, isAllowed, cut, isValue, numberFrom, valueOf}
 use Rattle.text.specs.declared.Class.{Class}
-use Rattle.text.specs.declared.Class.the-variants.{Digit, NameByte, Allowed}
+use Rattle.text.specs.declared.Class.the-variants.{NameByte, Allowed}
 use Rattle.text.specs.declared.Digits.{Digits}
 use Rattle.text.specs.declared.ValueRead.{ValueRead}
 use Rattle.text.specs.declared.ValueRead.the-variants.{Value, Refused}
 
 -- the bytes of a class
 abbrev pub inClass : Class → ℕ → Bool
-inClass Digit b = isDigit b
 inClass NameByte b = isUpper b || isDigit b
 inClass Allowed b = isAllowed b
 

@@ -8,7 +8,6 @@ ghost use Rattle.text.specs.Reading.{inClass, pieceAt, digits, readOn, i
 
 // Classes of bytes.
 pub enum Class {
-    Digit,
     NameByte,
     Allowed,
 }
@@ -58,13 +57,12 @@ fn in_class(class: Class, b: u8) -> bool
     ensures { λ r. ⌜ r ≡ inClass class b ⌝ }
 {
     match class {
-        Class::Digit => is_digit(b),
         Class::NameByte => is_name_byte(b),
         Class::Allowed => is_allowed(b),
     }
 }
 
-// Every byte is of the class.
+// Every byte is of the class. Without an early exit the loop becomes vector code; so it does in is_near and piece_count.
 pub fn all_in(class: Class, s: &[u8]) -> bool
     ensures { λ r. ⌜ r ≡ all (inClass class) (now (s .entry)) ⌝ }
 {
@@ -104,7 +102,7 @@ fn is_near(s: &[u8], c: u8, from: usize) -> bool
     near
 }
 
-// A place of the piece that starts at from, less than 16 bytes from the end of the piece or of the list.
+// Passes over 16 bytes of the piece that starts at from as long as none of them is c.
 fn skip(s: &[u8], c: u8, from: usize) -> usize
     requires { ⌜ from ≤ length (now s) ⌝ }
     ensures { λ r. ⌜ (r ≤ length (now (s .entry))) × (r + length (pieceAt c (now (s .entry)) r) ≡ from + length (pieceAt c (now (s .entry)) from)) ⌝ }
@@ -128,7 +126,7 @@ pub fn line_end(s: &[u8], from: usize) -> usize
     piece_end(s, b'\n', at)
 }
 
-// The number of pieces between the bytes c.
+// The number of pieces between the bytes c. A count of 16 bits is enough, and the narrower the faster.
 pub fn piece_count(s: &[u8], c: u8) -> usize
     requires { ⌜ length (now s) ≤ 12288 ⌝ }
     ensures { λ r. ⌜ r ≡ length (cut c (now (s .entry))) ⌝ }
@@ -167,21 +165,21 @@ fn read_digits(line: &[u8], from: usize) -> Digits
     ensures { λ r. ⌜ r ≡ readOn 0 from (digits 7 (drop from (now (line .entry)))) ⌝ }
 {
     let mut number: u32 = 0;
-    let mut at = from;
+    let mut end = from;
     let mut left: u32 = 7;
     while left > 0 {
-        if at >= line.len() {
-            return Digits { number: number, end: at };
+        if end >= line.len() {
+            return Digits { number, end };
         }
-        let b = line[at];
+        let b = line[end];
         if !is_digit(b) {
-            return Digits { number: number, end: at };
+            return Digits { number, end };
         }
         number = number * 10 + (b - b'0') as u32;
-        at += 1;
+        end += 1;
         left -= 1;
     }
-    Digits { number: number, end: at }
+    Digits { number, end }
 }
 
 // No piece goes on at the place: the line ends, or a space stands there.

@@ -13,14 +13,14 @@ use Rattle.text.proofs.read_digits.Statement.{statement}
 use Rattle.text.proofs.read_digits.Tie as tie
 
 abbrev Inv-loop : tie.InvT-loop
-Inv-loop line from number₀ at₀ left₀ number at left =
-    (at ≤ length line)
+Inv-loop line from number₀ end₀ left₀ number end left =
+    (end ≤ length line)
     × (left ≤ 7)
     × (number < 10 ^ (7 - left))
-    × (readOn number at (digits left (drop at line)) ≡ readOn 0 from (digits 7 (drop from line)))
+    × (readOn number end (digits left (drop end line)) ≡ readOn 0 from (digits 7 (drop from line)))
 
 abbrev μ-loop : tie.MeasureT-loop
-μ-loop line from number₀ at₀ left₀ number at left = left
+μ-loop line from number₀ end₀ left₀ number end left = left
 
 loop-holds : tie.Need-loop-holds Inv-loop μ-loop
 loop-holds c = (omega arith, omega arith, lit< tt, refl)
@@ -29,7 +29,7 @@ returns : tie.Need-returns Inv-loop μ-loop
 returns c =
     let s = c .before .before .before .before .args .line .now in
     let l = c .before .before .loop in
-    read-nothing (l .number) (l .at) (l .left) s (no-byte (l .left) s (l .at) (c .if1 .taken)) ∙ l .inv .3
+    read-nothing (l .number) (l .end) (l .left) s (no-byte (l .left) s (l .end) (c .if1 .taken)) ∙ l .inv .3
 
 shared-slice-read-b : tie.Need-shared-slice-read-b Inv-loop μ-loop
 shared-slice-read-b c = search needs
@@ -41,11 +41,11 @@ returns-2 : tie.Need-returns-2 Inv-loop μ-loop
 returns-2 c =
     let s = c .before .before .before .before .before .before .before .args .line .now in
     let l = c .before .before .before .before .before .loop in
-    let e : isDigit (getD s (l .at) 0) ≡ false = sym (c .before .is-digit .ensures) ∙ not-true _ (c .if2 .taken) in
-    read-nothing (l .number) (l .at) (l .left) s (no-digit (l .left) s (l .at) (c .before .before .before .if1 .left) e) ∙ l .inv .3
+    let e : isDigit (getD s (l .end) 0) ≡ false = sym (c .before .is-digit .ensures) ∙ not-true _ (c .if2 .taken) in
+    read-nothing (l .number) (l .end) (l .left) s (no-digit (l .left) s (l .end) (c .before .before .before .if1 .left) e) ∙ l .inv .3
 
 -- a digit stands here, and at most 6 were read
-digit : (c : tie.Else2 Inv-loop μ-loop) → isDigit (getD (c .before .before .before .before .before .before .before .args .line .now) (c .before .before .before .before .before .loop .at) 0) ≡ true
+digit : (c : tie.Else2 Inv-loop μ-loop) → isDigit (getD (c .before .before .before .before .before .before .before .args .line .now) (c .before .before .before .before .before .loop .end) 0) ≡ true
 digit c = sym (c .before .is-digit .ensures) ∙ not-false _ (c .if2 .left)
 
 small : (c : tie.In-loop Inv-loop μ-loop) → c .before .loop .number < 1000000
@@ -66,8 +66,8 @@ cast-number c = omega (arith, digit-high _ (digit c))
 add-number : tie.Need-add-number Inv-loop μ-loop
 add-number c = omega (arith, digit-high _ (digit c), small (c .before .before .before .before))
 
-add-at : tie.Need-add-at Inv-loop μ-loop
-add-at c = search needs
+add-end : tie.Need-add-end Inv-loop μ-loop
+add-end c = search needs
 
 sub-left : tie.Need-sub-left Inv-loop μ-loop
 sub-left c = search needs
@@ -82,8 +82,8 @@ loop-again c =
     let e : 7 - l .left + 1 ≡ 7 - (l .left - 1) = omega arith in (
       omega arith,
       omega arith,
-      rw e at (ten-step (7 - l .left) (l .number) (getD s (l .at) 0 - 48) (l .inv .2) (omega (arith, digit-high _ (digit c)))),
-      sym (read-digit (l .number) (l .left) (l .at) s (omega arith) (omega arith) (digit c)) ∙ l .inv .3,
+      rw e at (ten-step (7 - l .left) (l .number) (getD s (l .end) 0 - 48) (l .inv .2) (omega (arith, digit-high _ (digit c)))),
+      sym (read-digit (l .number) (l .left) (l .end) s (omega arith) (omega arith) (digit c)) ∙ l .inv .3,
     )
 
 returns-3 : tie.Need-returns-3 Inv-loop μ-loop
@@ -91,7 +91,7 @@ returns-3 c =
     let s = c .before .before .before .args .line .now in
     let l = c .before .loop in
     let z : l .left ≡ 0 = omega arith in
-    read-nothing (l .number) (l .at) (l .left) s (rw z (no-more (drop (l .at) s))) ∙ l .inv .3
+    read-nothing (l .number) (l .end) (l .left) s (rw z (no-more (drop (l .end) s))) ∙ l .inv .3
 
 pub read-digits-spec : {M : Type 1} → statement M
 read-digits-spec =
@@ -108,7 +108,7 @@ read-digits-spec =
     sub-number
     cast-number
     add-number
-    add-at
+    add-end
     sub-left
     loop-less
     loop-again

@@ -1,5 +1,6 @@
 use mathlib.Core.Path.{_≡_, refl, sym, ap, _∙_}
-use mathlib.Core.Bool.{Bool, true, false, not, cond, _&&_}
+use mathlib.Core.Bool.{Bool, true, not, cond, _&&_}
+use mathlib.Core.List.{List}
 use Prim.Native.Nat.{ℕ, _+_, _≤_, _<_}
 use native.Mathlib.Omega.{arith}
 use borrow.Author.Tests.{not-true, not-false, eq-eqb, ne-eqb}
@@ -40,8 +41,12 @@ add-from c = omega (arith, inside c)
 read-digits-requires : tie.Need-read-digits-requires
 read-digits-requires c κs = inside c
 
-found : (c : tie.After-read-digits) → (c .read-digits .result .number ≡ numberFrom 0 (digits 7 (drop (from (c .before)) (c .before .before .before .before .args .line .now)))) × (c .read-digits .result .end ≡ from (c .before) + length (digits 7 (drop (from (c .before)) (c .before .before .before .before .args .line .now))))
-found c = digits-read (c .read-digits .result) 0 (from (c .before)) (digits 7 (drop (from (c .before)) (c .before .before .before .before .args .line .now))) (c .read-digits .ensures)
+-- the digits that are read
+abbrev run : tie.After-read-digits → List ℕ
+run c = digits 7 (drop (from (c .before)) (c .before .before .before .before .args .line .now))
+
+found : (c : tie.After-read-digits) → (c .read-digits .result .number ≡ numberFrom 0 (run c)) × (c .read-digits .result .end ≡ from (c .before) + length (run c))
+found c = digits-read (c .read-digits .result) 0 (from (c .before)) (run c) (c .read-digits .ensures)
 
 small : (c : tie.After-read-digits) → c .read-digits .result .number < 10000000
 small c = rw (found c .0) (digits-small _)
