@@ -52,9 +52,9 @@ fn read_rows(sheet: &[u8], n: usize, values: &mut [i32]) -> usize
     ensures { λ r. ⌜ r ≡ cond (wrongValues (now (sheet .entry))) 8 0 ⌝ }
     ensures { λ r. ⌜ (r ≡ 0 → Holds (now (values .exit)) n (value (now (sheet .entry)))) ⌝ }
 {
-    let mut at = text::piece_end(sheet, b'\n', 0) + 1;
+    let mut at = text::line_end(sheet, 0) + 1;
     for i in 0..n {
-        let end = text::piece_end(sheet, b'\n', at);
+        let end = text::line_end(sheet, at);
         if read_row(&sheet[at..end], n, i * 32, values) != 0 {
             return 8;
         }
@@ -186,7 +186,7 @@ pub fn name(sheet: &[u8], entry: usize) -> &[u8]
     if entry >= n {
         return &sheet[..0];
     }
-    let end = text::piece_end(sheet, b'\n', 0);
+    let end = text::line_end(sheet, 0);
     let from = piece_start(&sheet[..end], entry);
     let to = text::piece_end(&sheet[..end], b' ', from);
     &sheet[from..to]

@@ -45,7 +45,7 @@ fn are_names(line: &[u8]) -> bool
 pub fn wrong_names(sheet: &[u8]) -> bool
     ensures { λ r. ⌜ r ≡ wrongNames (now (sheet .entry)) ⌝ }
 {
-    let end = text::piece_end(sheet, b'\n', 0);
+    let end = text::line_end(sheet, 0);
     if end >= sheet.len() {
         return true;
     }
@@ -107,7 +107,7 @@ fn has_equal(line: &[u8]) -> bool
 pub fn equal_names(sheet: &[u8]) -> bool
     ensures { λ r. ⌜ r ≡ equalNames (now (sheet .entry)) ⌝ }
 {
-    let end = text::piece_end(sheet, b'\n', 0);
+    let end = text::line_end(sheet, 0);
     has_equal(&sheet[..end])
 }
 
@@ -116,7 +116,7 @@ pub fn entry_count(sheet: &[u8]) -> usize
     requires { ⌜ length (now sheet) ≤ 12288 ⌝ }
     ensures { λ r. ⌜ r ≡ entries (now (sheet .entry)) ⌝ }
 {
-    let end = text::piece_end(sheet, b'\n', 0);
+    let end = text::line_end(sheet, 0);
     text::piece_count(&sheet[..end], b' ')
 }
 

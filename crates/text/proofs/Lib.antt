@@ -1,3 +1,4 @@
 pub mod Pieces
 pub mod Bytes
 pub mod Words
+pub mod Numerals

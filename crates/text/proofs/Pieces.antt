@@ -1,13 +1,13 @@
 -- The pieces of a list from a place on, one after the other.
-use mathlib.Core.Path.{_≡_, refl, ap, _∙_}
-use mathlib.Core.Bool.{Bool, true, false, cond}
+use mathlib.Core.Path.{_≡_, refl, sym, ap, _∙_}
+use mathlib.Core.Bool.{Bool, true, false, cond, _||_}
 use mathlib.Core.List.{List, [], _∷_}
-use Prim.Native.Nat.{ℕ, suc, _+_, _-_, _≤_, _<_}
+use Prim.Native.Nat.{ℕ, zero, suc, _+_, _-_, _≤_, _<_}
 use native.Mathlib.Numerals.{add-one}
 use native.Mathlib.Nat.{add-sub-cancel-left}
 use native.Mathlib.Omega.{arith}
-use borrow.Author.Tests.{eq-eqb, ne-eqb}
-use lib.Dec.{eqb}
+use borrow.Author.Tests.{eq-eqb, ne-eqb, eqb-true, eqb-false, ltb-true, ltb-false, lt-ltb, le-ltb}
+use lib.Dec.{eqb, ltb}
 use lib.ListN.{length, getD, take, drop, length-drop, drop-of-length-le}
 use lib.Seq.{drop-cons, drop-drop, take-all}
 use Rattle.text.specs.Text.{longer, cut}
@@ -45,6 +45,19 @@ module _ (c : ℕ) where
       go : (x : Bool) → take (length (getD (cut c t) 0 [])) t ≡ getD (cut c t) 0 [] → take (length (getD (cond x ([] ∷ cut c t) (longer b (cut c t))) 0 [])) (b ∷ t) ≡ getD (cond x ([] ∷ cut c t) (longer b (cut c t))) 0 []
       go true e = refl
       go false e = rw (longer-first b (cut c t)) (ap (λ (l : List ℕ). b ∷ l) e)
+
+  -- the first piece without its first k bytes
+  first-on : (k : ℕ) (t : List ℕ) → k ≤ length (getD (cut c t) 0 []) → length (getD (cut c t) 0 []) ≡ k + length (getD (cut c (drop k t)) 0 [])
+  unfolding cut
+  first-on zero t h = omega arith
+  first-on (suc k) [] h = absurd (omega arith)
+  first-on (suc k) (b ∷ t) h = go (eqb b c) (first-on k t) h
+    where
+      go : (x : Bool) → (k ≤ length (getD (cut c t) 0 []) → length (getD (cut c t) 0 []) ≡ k + length (getD (cut c (drop k t)) 0 [])) → suc k ≤ length (getD (cond x ([] ∷ cut c t) (longer b (cut c t))) 0 []) → length (getD (cond x ([] ∷ cut c t) (longer b (cut c t))) 0 []) ≡ suc k + length (getD (cut c (drop k t)) 0 [])
+      go true ih p = absurd (omega arith)
+      go false ih p =
+          let e = ap length (longer-first b (cut c t)) in
+          omega (arith, e, ih (omega (arith, e)))
 
   -- a piece that c ends, and the last
   first-more : (t : List ℕ) → length (getD (cut c t) 0 []) < length t → cut c t ≡ getD (cut c t) 0 [] ∷ cut c (drop (suc (length (getD (cut c t) 0 []))) t)
@@ -134,3 +147,20 @@ module _ (c : ℕ) (s : List ℕ) (from end : ℕ) (inside : from ≤ length s) 
   pub pieces-last : length s ≤ end → cut c (drop from s) ≡ pieceAt c s from ∷ []
   unfolding pieceAt
   pieces-last h = first-last c (drop from s) (omega (arith, length-drop from s))
+
+-- k bytes of a piece, and whether it is shorter than one byte more
+module _ (c : ℕ) (s : List ℕ) (from k : ℕ) where
+  pub piece-on : k ≤ length (pieceAt c s from) → length (pieceAt c s from) ≡ k + length (pieceAt c s (from + k))
+  unfolding pieceAt
+  piece-on h = first-on c k (drop from s) h ∙ ap (λ (l : List ℕ). k + length (getD (cut c l) 0 [])) (drop-drop k from s)
+
+  pub piece-near : from + k < length s → (ltb (length (pieceAt c s from)) k || eqb (getD s (from + k) 0) c) ≡ ltb (length (pieceAt c s from)) (k + 1)
+  piece-near h = go (ltb L k) (eqb (getD s (from + k) 0) c) refl refl
+    where
+      L : ℕ
+      L = length (pieceAt c s from)
+
+      go : (x y : Bool) → ltb L k ≡ x → eqb (getD s (from + k) 0) c ≡ y → (x || y) ≡ ltb L (k + 1)
+      go true y e u = sym (lt-ltb L (k + 1) (omega (arith, ltb-true L k e)))
+      go false true e u = sym (lt-ltb L (k + 1) (omega (arith, piece-on (ltb-false L k e), ap length (piece-stop c s (from + k) h (eqb-true (getD s (from + k) 0) c u)))))
+      go false false e u = sym (le-ltb L (k + 1) (omega (arith, piece-on (ltb-false L k e), ap length (piece-step c s (from + k) h (eqb-false (getD s (from + k) 0) c u)))))

@@ -1,23 +1,39 @@
 -- What the functions on bytes answer.
-use mathlib.Core.Bool.{Bool, cond, _||_}
-use mathlib.Core.List.{List, []}
-use Prim.Native.Nat.{ℕ, _+_}
+use mathlib.Core.Bool.{Bool, true, cond, _||_}
+use mathlib.Core.List.{List, [], _∷_}
+use Prim.Native.Nat.{ℕ, zero, suc, _+_}
+use lib.Dec.{eqb}
 use lib.ListN.{length, getD, drop}
-use Rattle.text.specs.Text.{space, isUpper, isDigit, isAllowed, cut, isValue, valueOf}
+use Rattle.text.specs.Text.{space, isUpper, isDigit, isAllowed, cut, isValue, numberFrom, valueOf}
 use Rattle.text.specs.declared.Class.{Class}
-use Rattle.text.specs.declared.Class.the-variants.{Digit, NameByte, Allowed}
+use Rattle.text.specs.declared.Class.the-variants.{NameByte, Allowed}
+use Rattle.text.specs.declared.Digits.{Digits}
 use Rattle.text.specs.declared.ValueRead.{ValueRead}
 use Rattle.text.specs.declared.ValueRead.the-variants.{Value, Refused}
 
 -- the bytes of a class
 abbrev pub inClass : Class → ℕ → Bool
-inClass Digit b = isDigit b
 inClass NameByte b = isUpper b || isDigit b
 inClass Allowed b = isAllowed b
 
 -- the piece of s that starts at a place
 unfoldable pub pieceAt : ℕ → List ℕ → ℕ → List ℕ
 pieceAt c s at = getD (cut c (drop at s)) 0 []
+
+-- the digits that a list starts with, at most k
+unfoldable pub digits : ℕ → List ℕ → List ℕ
+digits zero s = []
+digits (suc k) [] = []
+digits (suc k) (b ∷ s) = cond (isDigit b) (b ∷ digits k s) []
+
+-- the number v read on by digits that start at a place
+unfoldable pub readOn : ℕ → ℕ → List ℕ → Digits
+readOn v at ds = record { number = numberFrom v ds; end = at + length ds }
+
+-- what stands behind a piece
+unfoldable pub isEnd : List ℕ → Bool
+isEnd [] = true
+isEnd (b ∷ s) = eqb b space
 
 -- "In reading, a value is read with the place after it, or the line is refused."
 unfoldable pub valueAt : List ℕ → ℕ → ValueRead

@@ -1,14 +1,13 @@
 ghost use mathlib.Core.Path.{_≡_};
-ghost use mathlib.Core.Bool.{true};
-ghost use Prim.Native.Nat.{_+_, _≤_, _<_};
-ghost use lib.ListN.{length};
+ghost use Prim.Native.Nat.{_+_, _≤_};
+ghost use lib.Dec.{ltb};
+ghost use lib.ListN.{length, drop};
 ghost use Rattle.lists.specs.Lists.{all};
-ghost use Rattle.text.specs.Text.{isUpper, isDigit, cut, isName, isNumeral, isValue, numberFrom, valueOf};
-ghost use Rattle.text.specs.Reading.{inClass, pieceAt, valueAt};
+ghost use Rattle.text.specs.Text.{lineFeed, space, isUpper, isDigit, cut, isName, isNumeral};
+ghost use Rattle.text.specs.Reading.{inClass, pieceAt, digits, readOn, isEnd, valueAt};
 
 // Classes of bytes.
 pub enum Class {
-    Digit,
     NameByte,
     Allowed,
 }
@@ -24,70 +23,56 @@ pub enum ValueRead {
     Refused,
 }
 
+// Digits as a number, and the place after them.
+struct Digits {
+    number: u32,
+    end: usize,
+}
+
 fn is_upper(b: u8) -> bool
     ensures { λ r. ⌜ r ≡ isUpper b ⌝ }
 {
-    if b < b'A' {
-        return false;
-    }
-    b <= b'Z'
+    (b'A' <= b) & (b <= b'Z')
 }
 
 fn is_digit(b: u8) -> bool
     ensures { λ r. ⌜ r ≡ isDigit b ⌝ }
 {
-    if b < b'0' {
-        return false;
-    }
-    b <= b'9'
+    (b'0' <= b) & (b <= b'9')
 }
 
 fn is_name_byte(b: u8) -> bool
     ensures { λ r. ⌜ r ≡ inClass Class.NameByte b ⌝ }
 {
-    if is_upper(b) {
-        return true;
-    }
-    is_digit(b)
+    is_upper(b) | is_digit(b)
 }
 
 fn is_allowed(b: u8) -> bool
     ensures { λ r. ⌜ r ≡ inClass Class.Allowed b ⌝ }
 {
-    if is_name_byte(b) {
-        return true;
-    }
-    if b == b'-' {
-        return true;
-    }
-    if b == b' ' {
-        return true;
-    }
-    b == b'\n'
+    is_name_byte(b) | (b == b'-') | (b == b' ') | (b == b'\n')
 }
 
 fn in_class(class: Class, b: u8) -> bool
     ensures { λ r. ⌜ r ≡ inClass class b ⌝ }
 {
     match class {
-        Class::Digit => is_digit(b),
         Class::NameByte => is_name_byte(b),
         Class::Allowed => is_allowed(b),
     }
 }
 
-// Every byte is of the class.
+// Every byte is of the class. Without an early exit the loop becomes vector code; so it does in is_near and piece_count.
 pub fn all_in(class: Class, s: &[u8]) -> bool
     ensures { λ r. ⌜ r ≡ all (inClass class) (now (s .entry)) ⌝ }
 {
+    let mut good = true;
     let mut i: usize = 0;
     while i < s.len() {
-        if !in_class(class, s[i]) {
-            return false;
-        }
+        good = good & in_class(class, s[i]);
         i += 1;
     }
-    true
+    good
 }
 
 // The end of the piece that starts at from: the place of the next c, or the length.
@@ -105,12 +90,48 @@ pub fn piece_end(s: &[u8], c: u8, from: usize) -> usize
     at
 }
 
-// The number of pieces between the bytes c.
+// A byte c stands among the 16 from a place on.
+fn is_near(s: &[u8], c: u8, from: usize) -> bool
+    requires { ⌜ from + 16 ≤ length (now s) ⌝ }
+    ensures { λ r. ⌜ r ≡ ltb (length (pieceAt c (now (s .entry)) from)) 16 ⌝ }
+{
+    let mut near = false;
+    for k in 0..16 {
+        near = near | (s[from + k] == c);
+    }
+    near
+}
+
+// Passes over 16 bytes of the piece that starts at from as long as none of them is c.
+fn skip(s: &[u8], c: u8, from: usize) -> usize
+    requires { ⌜ from ≤ length (now s) ⌝ }
+    ensures { λ r. ⌜ (r ≤ length (now (s .entry))) × (r + length (pieceAt c (now (s .entry)) r) ≡ from + length (pieceAt c (now (s .entry)) from)) ⌝ }
+{
+    let mut at = from;
+    while s.len() - at >= 16 {
+        if is_near(s, c, at) {
+            return at;
+        }
+        at += 16;
+    }
+    at
+}
+
+// The end of the line that starts at from.
+pub fn line_end(s: &[u8], from: usize) -> usize
+    requires { ⌜ from ≤ length (now s) ⌝ }
+    ensures { λ r. ⌜ r ≡ from + length (pieceAt lineFeed (now (s .entry)) from) ⌝ }
+{
+    let at = skip(s, b'\n', from);
+    piece_end(s, b'\n', at)
+}
+
+// The number of pieces between the bytes c. A count of 16 bits is enough, and the narrower the faster.
 pub fn piece_count(s: &[u8], c: u8) -> usize
     requires { ⌜ length (now s) ≤ 12288 ⌝ }
     ensures { λ r. ⌜ r ≡ length (cut c (now (s .entry))) ⌝ }
 {
-    let mut n: usize = 1;
+    let mut n: u16 = 1;
     let mut i: usize = 0;
     while i < s.len() {
         if s[i] == c {
@@ -118,7 +139,7 @@ pub fn piece_count(s: &[u8], c: u8) -> usize
         }
         i += 1;
     }
-    n
+    n as usize
 }
 
 // A name: 1 to 8 bytes, first A to Z, then A to Z or 0 to 9.
@@ -138,79 +159,74 @@ pub fn is_name(word: &[u8]) -> bool
     all_in(Class::NameByte, &word[1..])
 }
 
-// 1 to 7 digits without a leading zero, or 0.
-fn is_numeral(word: &[u8]) -> bool
-    ensures { λ r. ⌜ r ≡ isNumeral (now (word .entry)) ⌝ }
+// The digits from a place on, at most 7, and the place after them.
+fn read_digits(line: &[u8], from: usize) -> Digits
+    requires { ⌜ from ≤ length (now line) ⌝ }
+    ensures { λ r. ⌜ r ≡ readOn 0 from (digits 7 (drop from (now (line .entry)))) ⌝ }
 {
-    let size = word.len();
-    if size == 0 {
-        return false;
+    let mut number: u32 = 0;
+    let mut end = from;
+    let mut left: u32 = 7;
+    while left > 0 {
+        if end >= line.len() {
+            return Digits { number, end };
+        }
+        let b = line[end];
+        if !is_digit(b) {
+            return Digits { number, end };
+        }
+        number = number * 10 + (b - b'0') as u32;
+        end += 1;
+        left -= 1;
     }
-    if size > 7 {
-        return false;
-    }
-    if !all_in(Class::Digit, word) {
-        return false;
-    }
-    if word[0] != b'0' {
+    Digits { number, end }
+}
+
+// No piece goes on at the place: the line ends, or a space stands there.
+fn is_end(line: &[u8], at: usize) -> bool
+    ensures { λ r. ⌜ r ≡ isEnd (drop at (now (line .entry))) ⌝ }
+{
+    if at >= line.len() {
         return true;
     }
-    size == 1
+    line[at] == b' '
 }
 
-// A numeral, or a minus and a numeral that is not 0.
-fn is_value(word: &[u8]) -> bool
-    ensures { λ r. ⌜ r ≡ isValue (now (word .entry)) ⌝ }
+// From a place to the end of the digits there stands a numeral: 1 to 7 digits without a leading zero, or 0.
+fn is_numeral(line: &[u8], from: usize, end: usize) -> bool
+    requires { ⌜ (from ≤ length (now line)) × (end ≡ from + length (digits 7 (drop from (now line)))) ⌝ }
+    ensures { λ r. ⌜ r ≡ isNumeral (pieceAt space (now (line .entry)) from) ⌝ }
 {
-    let size = word.len();
-    if size == 0 {
+    if !is_end(line, end) {
         return false;
     }
-    if word[0] != b'-' {
-        return is_numeral(word);
-    }
-    if size == 1 {
+    if end == from {
         return false;
     }
-    if word[1] == b'0' {
-        return false;
-    }
-    is_numeral(&word[1..])
+    (line[from] != b'0') | (end - from == 1)
 }
 
-// The number that at most 7 digits stand for.
-fn number(digits: &[u8]) -> u32
-    requires { ⌜ (length (now digits) ≤ 7) × (all isDigit (now digits) ≡ true) ⌝ }
-    ensures { λ r. ⌜ (r ≡ numberFrom 0 (now (digits .entry))) × (r < 10000000) ⌝ }
-{
-    let mut v: u32 = 0;
-    let mut i: usize = 0;
-    while i < digits.len() {
-        v = v * 10 + (digits[i] - b'0') as u32;
-        i += 1;
-    }
-    v
-}
-
-// The number that a value stands for.
-fn value_of(word: &[u8]) -> i32
-    requires { ⌜ isValue (now word) ≡ true ⌝ }
-    ensures { λ r. ⌜ r ≡ valueOf (now (word .entry)) ⌝ }
-{
-    if word[0] == b'-' {
-        return 0 - number(&word[1..]) as i32;
-    }
-    number(word) as i32
-}
-
-// The value that stands at a place of a line, with the place after it.
+// The value that stands at a place of a line, with the place after it: a numeral, or a minus and a numeral that is not 0.
 pub fn read_value(line: &[u8], at: usize) -> ValueRead
     requires { ⌜ at ≤ length (now line) ⌝ }
     ensures { λ r. ⌜ r ≡ valueAt (now (line .entry)) at ⌝ }
 {
-    let end = piece_end(line, b' ', at);
-    if !is_value(&line[at..end]) {
+    if at >= line.len() {
         return ValueRead::Refused;
     }
-    ValueRead::Value(value_of(&line[at..end]), Cursor { at: end })
+    let negative = line[at] == b'-';
+    let from = at + negative as usize;
+    let digits = read_digits(line, from);
+    let number = digits.number;
+    let end = digits.end;
+    if !is_numeral(line, from, end) {
+        return ValueRead::Refused;
+    }
+    if !negative {
+        return ValueRead::Value(number as i32, Cursor { at: end });
+    }
+    if number == 0 {
+        return ValueRead::Refused;
+    }
+    ValueRead::Value(0 - number as i32, Cursor { at: end })
 }

@@ -29,14 +29,14 @@ Inv-loop sheet n values₀ at₀ i₀ values at i =
 abbrev μ-loop : tie.MeasureT-loop
 μ-loop sheet n values₀ at₀ i₀ values at i = n - i
 
-piece-end-requires : tie.Need-piece-end-requires Inv-loop μ-loop
-piece-end-requires c κs = search needs
+line-end-requires : tie.Need-line-end-requires Inv-loop μ-loop
+line-end-requires c κs = search needs
 
 -- line 1 ends within the sheet
-first : (c : tie.After-piece-end Inv-loop μ-loop) → Line (c .before .before .args .sheet .now) 0 (c .piece-end .result) 0
+first : (c : tie.After-line-end Inv-loop μ-loop) → Line (c .before .before .args .sheet .now) 0 (c .line-end .result) 0
 first c =
     let s = c .before .before .args .sheet .now in
-    line-at s 0 _ 0 (omega arith) (c .piece-end .ensures) (first-at s) (omega (arith, line-count s (c .before .before .pre .2)))
+    line-at s 0 _ 0 (omega arith) (c .line-end .ensures) (first-at s) (omega (arith, line-count s (c .before .before .pre .2)))
 
 add-at : tie.Need-add-at Inv-loop μ-loop
 add-at c = omega (arith, first c .inside)
@@ -46,15 +46,15 @@ loop-holds c =
     let s = c .before .before .args .sheet .now in
     (omega arith, omega (arith, first c .inside), first c .next, below-none _, λ a b p q. absurd (omega arith), c .before .before .pre .3)
 
-piece-end-requires-2 : tie.Need-piece-end-requires-2 Inv-loop μ-loop
-piece-end-requires-2 c κs = search needs
+line-end-requires-2 : tie.Need-line-end-requires-2 Inv-loop μ-loop
+line-end-requires-2 c κs = search needs
 
 -- the line of a turn
-line : (c : tie.After-piece-end2 Inv-loop μ-loop) → Line (c .before .before .before .before .before .args .sheet .now) (c .before .before .loop .at) (c .piece-end2 .result) (c .before .before .loop .i + 1)
+line : (c : tie.After-line-end2 Inv-loop μ-loop) → Line (c .before .before .before .before .before .args .sheet .now) (c .before .before .loop .at) (c .line-end2 .result) (c .before .before .loop .i + 1)
 line c =
     let s = c .before .before .before .before .before .args .sheet .now in
     let l = c .before .before .loop in
-    line-at s (l .at) _ (l .i + 1) (l .inv .1) (c .piece-end2 .ensures) (l .inv .2) (omega (arith, line-count s (c .before .before .before .before .before .pre .2)))
+    line-at s (l .at) _ (l .i + 1) (l .inv .1) (c .line-end2 .ensures) (l .inv .2) (omega (arith, line-count s (c .before .before .before .before .before .pre .2)))
 
 sub-read-row : tie.Need-sub-read-row Inv-loop μ-loop
 sub-read-row c = search needs
@@ -125,10 +125,10 @@ read-rows-spec =
     (tie.spec
     Inv-loop
     μ-loop
-    piece-end-requires
+    line-end-requires
     add-at
     loop-holds
-    piece-end-requires-2
+    line-end-requires-2
     sub-read-row
     part-read-row-start
     part-read-row-end

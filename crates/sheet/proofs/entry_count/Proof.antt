@@ -10,24 +10,24 @@ use Rattle.sheet.proofs.Lines.{line-inside, line-length, first-line}
 use Rattle.sheet.proofs.entry_count.Statement.{statement}
 use Rattle.sheet.proofs.entry_count.Tie as tie
 
-piece-end-requires : tie.Need-piece-end-requires
-piece-end-requires c κs = search needs
+line-end-requires : tie.Need-line-end-requires
+line-end-requires c κs = search needs
 
 slice-aggregate-piece-count : tie.Need-slice-aggregate-piece-count
-slice-aggregate-piece-count c = line-length (c .before .before .before .args .sheet .now) (c .before .piece-end .result) (c .before .piece-end .ensures)
+slice-aggregate-piece-count c = line-length (c .before .before .before .args .sheet .now) (c .before .line-end .result) (c .before .line-end .ensures)
 
 piece-count-requires : tie.Need-piece-count-requires
 piece-count-requires c κs =
     let s = c .before .before .before .args .sheet .now in
-    let e = c .before .piece-end .result in
-    omega (arith, line-length s e (c .before .piece-end .ensures), line-inside s e (c .before .piece-end .ensures))
+    let e = c .before .line-end .result in
+    omega (arith, line-length s e (c .before .line-end .ensures), line-inside s e (c .before .line-end .ensures))
 
 returns : tie.Need-returns
 unfolding entries names
 returns c =
-    c .piece-count .ensures ∙ ap (λ (l : List ℕ). length (cut 32 l)) (first-line (c .before .before .before .before .args .sheet .now) (c .before .before .piece-end .result) (c .before .before .piece-end .ensures))
+    c .piece-count .ensures ∙ ap (λ (l : List ℕ). length (cut 32 l)) (first-line (c .before .before .before .before .args .sheet .now) (c .before .before .line-end .result) (c .before .before .line-end .ensures))
 
 pub entry-count-spec : {M : Type 1} → statement M
 entry-count-spec =
     tie.close
-    (tie.spec piece-end-requires slice-aggregate-piece-count piece-count-requires returns)
+    (tie.spec line-end-requires slice-aggregate-piece-count piece-count-requires returns)

@@ -1,15 +1,11 @@
-use borrow.Author.Tests.{le-leb, lt-leb}
+use mathlib.Core.Path.{refl}
 use Rattle.text.specs.Text.{isDigit}
 use Rattle.text.proofs.is_digit.Statement.{statement}
 use Rattle.text.proofs.is_digit.Tie as tie
 
 returns : tie.Need-returns
 unfolding isDigit
-returns c = simp (lt-leb _ _ (c .if1 .taken))
-
-returns-2 : tie.Need-returns-2
-unfolding isDigit
-returns-2 c = simp (le-leb _ _ (c .if1 .left))
+returns c = refl
 
 pub is-digit-spec : {M : Type 1} → statement M
-is-digit-spec = tie.close (tie.spec returns returns-2)
+is-digit-spec = tie.close (tie.spec returns)

@@ -1,64 +1,45 @@
-use mathlib.Core.Path.{_≡_, refl, sym, _∙_}
-use mathlib.Core.Bool.{true, false, and-false}
-use Prim.Native.Nat.{_≤_, _<_}
+use mathlib.Core.Path.{_≡_, sym, _∙_}
+use mathlib.Core.Bool.{true}
 use native.Mathlib.Omega.{arith}
-use borrow.Author.Tests.{lt-leb, le-leb, eq-eqb, ne-eqb, not-true, not-false}
+use borrow.Author.Tests.{not-true, not-false}
 use borrow.Author.Needs.{needs}
-use lib.ListN.{length}
-use Rattle.lists.specs.Lists.{all}
-use Rattle.text.specs.Text.{isDigit, isNumeral}
-use Rattle.text.proofs.Words.{numeral-is, empty}
+use lib.ListN.{drop}
+use Rattle.text.specs.Reading.{isEnd}
+use Rattle.text.proofs.Numerals.{digits-inside, numeral-part, numeral-none, numeral-test}
 use Rattle.text.proofs.is_numeral.Statement.{statement}
 use Rattle.text.proofs.is_numeral.Tie as tie
 
+is-end-requires : tie.Need-is-end-requires
+is-end-requires c κs = search needs
+
 returns : tie.Need-returns
-unfolding isNumeral
-returns c = sym (empty isNumeral (c .before .before .args .word .now) (c .if1 .taken) refl)
+returns c =
+    let a = c .before .before .before .args in
+    sym (numeral-part (a .line .now) (a .from) (a .end) (c .before .before .before .pre .1) (sym (c .before .is-end .ensures) ∙ not-true _ (c .if1 .taken)))
+
+ended : (c : tie.Else1) → isEnd (drop (c .before .before .before .args .end) (c .before .before .before .args .line .now)) ≡ true
+ended c = sym (c .before .is-end .ensures) ∙ not-false _ (c .if1 .left)
 
 returns-2 : tie.Need-returns-2
 returns-2 c =
-    let s = c .before .before .before .args .word .now in
-    let h : 0 < length s = omega arith in
-    let l : 7 < length s = omega arith in
-    sym (numeral-is s h ∙ simp (lt-leb _ _ l, and-false))
+    let a = c .before .before .before .before .args in
+    sym (numeral-none (a .line .now) (a .from) (a .end) (c .before .before .before .before .pre .1) (ended (c .before)) (c .if2 .taken))
 
-all-in-requires : tie.Need-all-in-requires
-all-in-requires c κs = search needs
+shared-slice-read-result : tie.Need-shared-slice-read-result
+shared-slice-read-result c =
+    let a = c .before .before .before .before .before .args in
+    let p = c .before .before .before .before .before .pre in
+    omega (arith, digits-inside (a .line .now) (a .from) (a .end) (p .1) (p .0))
+
+sub-result : tie.Need-sub-result
+sub-result c = search needs
 
 returns-3 : tie.Need-returns-3
 returns-3 c =
-    let s = c .before .before .before .before .before .args .word .now in
-    let h : 0 < length s = omega arith in
-    let e : all isDigit s ≡ false = sym (c .before .all-in .ensures) ∙ not-true _ (c .if3 .taken) in
-    sym (numeral-is s h ∙ simp e)
-
-shared-slice-read-if4 : tie.Need-shared-slice-read-if4
-shared-slice-read-if4 c = search needs
-
-returns-4 : tie.Need-returns-4
-returns-4 c =
-    let s = c .before .before .before .before .before .before .before .args .word .now in
-    let h : 0 < length s = omega arith in
-    let l : length s ≤ 7 = omega arith in
-    let e : all isDigit s ≡ true = sym (c .before .before .before .all-in .ensures) ∙ not-false _ (c .before .before .if3 .left) in
-    sym (numeral-is s h ∙ simp (e, le-leb _ _ l, ne-eqb _ _ (c .if4 .taken)))
-
-returns-5 : tie.Need-returns-5
-returns-5 c =
-    let s = c .before .before .before .before .before .before .before .args .word .now in
-    let h : 0 < length s = omega arith in
-    let l : length s ≤ 7 = omega arith in
-    let e : all isDigit s ≡ true = sym (c .before .before .before .all-in .ensures) ∙ not-false _ (c .before .before .if3 .left) in
-    sym (numeral-is s h ∙ simp (e, le-leb _ _ l, eq-eqb _ _ (c .if4 .left)))
+    let a = c .before .before .before .before .before .args in
+    sym (numeral-test (a .line .now) (a .from) (a .end) (c .before .before .before .before .before .pre .1) (ended (c .before .before)) (c .before .if2 .left))
 
 pub is-numeral-spec : {M : Type 1} → statement M
 is-numeral-spec =
     tie.close
-    (tie.spec
-    returns
-    returns-2
-    all-in-requires
-    returns-3
-    shared-slice-read-if4
-    returns-4
-    returns-5)
+    (tie.spec is-end-requires returns returns-2 shared-slice-read-result sub-result returns-3)

@@ -40,6 +40,9 @@ loop-again c =
     (λ w. omega (arith, count-step (a .c) (a .s .now) (l .i) h (w .0 .left)))
     (c .if1 .came)
 
+cast-result : tie.Need-cast-result Inv-loop μ-loop
+cast-result c = search needs
+
 returns : tie.Need-returns Inv-loop μ-loop
 returns c =
     let a = c .before .before .args in
@@ -59,4 +62,5 @@ piece-count-spec =
     add-i
     loop-less
     loop-again
+    cast-result
     returns)
