@@ -18,6 +18,8 @@ use Rattle.linkage.specs.Calls.{linkageChecks, linkageRefusal}
 use Rattle.farris.specs.Calls.{anchoredChecks, anchoredRefusal, backChecks, backRefusal}
 use Rattle.farris.proofs.Refusals.{no-first, right-count}
 use Rattle.groups.specs.Calls.{numbersChecks, numbersRefusal, groupsFound}
+use Rattle.sheet.specs.Sheet.{entries, sheetChecks}
+use Rattle.reader.proofs.Answers.{passes-few}
 use Rattle.farzhudyl.proofs.Numbers.{first-le, count-most}
 use Rattle.farzhudyl.proofs.Room.{groups-few}
 
@@ -50,3 +52,7 @@ module _ {a : Answer} (n : ℕ) (l : List ℤ) where
   unfolding numbersRefusal numbersChecks groupsFound all
   numbers-small kind sets indices e = small (numbersChecks kind n l sets indices) tt e
       (λ z. let h = groups-few (kindOf kind) n l (few n _ (no-first 1 (wrongKind kind) _ (lit< tt) z .1)) in omega arith)
+
+pub read-small : {a : Answer} (s : List ℕ) → a ≡ answer (firstOf (sheetChecks s)) (entries s) → Small a
+unfolding sheetChecks all
+read-small s e = small (sheetChecks s) tt e (λ z. let h = passes-few s z in omega arith)

@@ -10,12 +10,21 @@ ghost use Rattle.triangle.specs.Triangle.{scoreAmong};
 ghost use Rattle.linkage.specs.Calls.{Linked};
 ghost use Rattle.farris.specs.Calls.{anchoredRefusal, backRefusal};
 ghost use Rattle.groups.specs.Calls.{Numbered};
-ghost use Rattle.sheet.specs.Sheet.{sheetChecks, nameOf};
+ghost use Rattle.sheet.specs.Sheet.{entries, sheetChecks, nameOf};
+ghost use Rattle.reader.specs.Answer as read;
 ghost use Rattle.farzhudyl.specs.Calls.{cNumber};
 ghost use Rattle.exported.specs.Calls.{NumberOf, copied};
+use answers::Answer;
+use reader::Reading;
 
 #[no_mangle]
-pub extern "C" fn exported_numbers(kind: i32, n: usize, pairs: &[i32], sets: &mut [u32], indices: &mut [i64]) -> i64
+pub extern "C" fn exported_numbers(
+    kind: i32,
+    n: usize,
+    pairs: &[i32],
+    sets: &mut [u32],
+    indices: &mut [i64],
+) -> i64
     ensures { λ r. ⌜ NumberOf (λ a. Numbered kind n (now (pairs .entry)) (now (sets .entry)) (now (indices .entry)) a (now (sets .exit)) (now (indices .exit))) r ⌝ }
 {
     farzhudyl::as_number(groups::numbers(kind, n, pairs, sets, indices))
@@ -36,7 +45,12 @@ pub extern "C" fn exported_average_linkage(n: usize, pairs: &[i32], blocks: &mut
 }
 
 #[no_mangle]
-pub extern "C" fn exported_anchored_scores(n: usize, x: usize, pairs: &[i32], out: &mut [i32]) -> i64
+pub extern "C" fn exported_anchored_scores(
+    n: usize,
+    x: usize,
+    pairs: &[i32],
+    out: &mut [i32],
+) -> i64
     ensures { λ r. ⌜ r ≡ cNumber (answer (anchoredRefusal n x (now (pairs .entry)) (length (now (out .entry)))) (rowStart n)) ⌝ }
     ensures { λ _. ⌜ now (out .exit) ≡ slots (anchoredRefusal n x (now (pairs .entry)) (length (now (out .entry)))) (anchoredScores n x (now (pairs .entry))) (now (out .entry)) ⌝ }
 {
@@ -44,7 +58,12 @@ pub extern "C" fn exported_anchored_scores(n: usize, x: usize, pairs: &[i32], ou
 }
 
 #[no_mangle]
-pub extern "C" fn exported_distances_back(n: usize, x: usize, scores: &[i32], out: &mut [i32]) -> i64
+pub extern "C" fn exported_distances_back(
+    n: usize,
+    x: usize,
+    scores: &[i32],
+    out: &mut [i32],
+) -> i64
     ensures { λ r. ⌜ r ≡ cNumber (answer (backRefusal n x (now (scores .entry)) (length (now (out .entry)))) (rowStart n)) ⌝ }
     ensures { λ _. ⌜ now (out .exit) ≡ slots (backRefusal n x (now (scores .entry)) (length (now (out .entry)))) (distancesBack n (now (scores .entry))) (now (out .entry)) ⌝ }
 {
@@ -56,6 +75,18 @@ pub extern "C" fn exported_score(pairs: &[i32], n: usize, a: usize, b: usize) ->
     ensures { λ r. ⌜ r ≡ scoreAmong n (now (pairs .entry)) a b ⌝ }
 {
     triangle::score_of(pairs, n, a, b)
+}
+
+#[no_mangle]
+pub extern "C" fn exported_read(sheet: &[u8], pairs: &mut [i32; 528]) -> i64
+    ensures { λ r. ⌜ r ≡ cNumber (answer (firstOf (sheetChecks (now (sheet .entry)))) (entries (now (sheet .entry)))) ⌝ }
+    ensures { λ _. ⌜ now (pairs .exit) ≡ read.slots (now (sheet .entry)) (now (pairs .entry)) ⌝ }
+{
+    let reading = reader::read(sheet, pairs);
+    match reading {
+        Reading::Refused(number) => farzhudyl::as_number(Answer::Refused(number)),
+        Reading::Entries(n) => farzhudyl::as_number(Answer::Count(n)),
+    }
 }
 
 #[no_mangle]

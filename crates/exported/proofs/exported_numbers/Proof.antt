@@ -25,7 +25,7 @@ returns : tie.Need-returns
 returns c = record {
   given = c .before .before .before .before .numbers .result;
   number = passed w64 (c .as-number .ok) (c .as-number .ensures);
-  holds = rw (toZ-ofZ (c .before .before .before .before .before .before .before .before .fits .kind)) at (c .before .before .before .before .numbers .ensures)
+  holds = rw (toZ-ofZ (c .before .before .before .before .before .before .before .before .fits .kind)) at (c .before .before .before .before .numbers .ensures);
 }
 
 pub exported-numbers-spec : {M : Type 1} → statement M
