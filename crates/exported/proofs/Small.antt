@@ -1,6 +1,6 @@
 -- What each call can answer: a refusal's number is at most 15, and the count is bounded where no check refuses.
 use mathlib.Core.Path.{_≡_, ap}
-use mathlib.Core.Bool.{Bool, not}
+use mathlib.Core.Bool.{Bool}
 use mathlib.Core.List.{List, _∷_}
 use Prim.Native.Nat.{ℕ, _-_, _^_, _<_, _≤_}
 use native.Mathlib.Omega.{arith}
@@ -8,7 +8,7 @@ use lib.Dec.{T, leb, lit<}
 use lib.IntN.{ℤ}
 use lib.ListN.{length}
 use Rattle.lists.specs.Lists.{all}
-use Rattle.clusters.specs.PairList.{rowStart, score}
+use Rattle.clusters.specs.PairList.{rowStart}
 use Rattle.clusters.specs.Refusals.{firstOf, wrongKind, kindOf, wrongCount}
 use Rattle.answers.specs.declared.Answer.{Answer}
 use Rattle.answers.specs.Answers.{numberOf, countOf, answer}

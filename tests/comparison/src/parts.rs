@@ -42,8 +42,11 @@ impl Parts {
             tally.count((call.generated)(&mut random)?);
             Ok(())
         });
+        let ended = outcome.is_ok();
         self.add(&format!("{}, generated calls", call.name), outcome);
-        self.add_refusals(call.name, &tally, call.refusals);
+        if ended {
+            self.add_refusals(call.name, &tally, call.refusals);
+        }
     }
 
     /// How often each refusal was met; none may be missing.
@@ -53,9 +56,9 @@ impl Parts {
             .map(|&number| format!("refused {number}: {}", tally.refusals[number]))
             .collect();
         let outcome = match tally.missed(refusals) {
-            missed if tally.listings == 0 => Err(format!("all refused; never met: {missed:?}")),
-            missed if missed.is_empty() => Ok(()),
-            missed => Err(format!("never met: {missed:?}")),
+            missed if !missed.is_empty() => Err(format!("never met: {missed:?}")),
+            _ if tally.listings == 0 => Err("no call was answered".into()),
+            _ => Ok(()),
         };
         println!("{name}, answered: {}; {}", tally.listings, met.join(", "));
         self.add(&format!("{name}, every refusal is met"), outcome);
