@@ -19,8 +19,7 @@ same-length : tie.Need-same-length
 same-length c = search needs
 
 returns : tie.Need-returns
-returns c = let e = c .before .before .anchored-scores .ensures in
-    (passed w64 (c .as-number .ok) (c .as-number .ensures ∙ ap cNumber (e .0)), e .1)
+returns c = (passed w64 (c .as-number .ok) (c .as-number .ensures ∙ ap cNumber (c .before .before .anchored-scores .ensures .0)), c .before .before .anchored-scores .ensures .1)
 
 pub exported-anchored-scores-spec : {M : Type 1} → statement M
 exported-anchored-scores-spec = tie.close (tie.spec anchored-scores-requires as-number-requires same-length returns)

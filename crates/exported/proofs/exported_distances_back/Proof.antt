@@ -19,8 +19,7 @@ same-length : tie.Need-same-length
 same-length c = search needs
 
 returns : tie.Need-returns
-returns c = let e = c .before .before .distances-back .ensures in
-    (passed w64 (c .as-number .ok) (c .as-number .ensures ∙ ap cNumber (e .0)), e .1)
+returns c = (passed w64 (c .as-number .ok) (c .as-number .ensures ∙ ap cNumber (c .before .before .distances-back .ensures .0)), c .before .before .distances-back .ensures .1)
 
 pub exported-distances-back-spec : {M : Type 1} → statement M
 exported-distances-back-spec = tie.close (tie.spec distances-back-requires as-number-requires same-length returns)
