@@ -1,22 +1,25 @@
 # shellcheck shell=bash
-# Sourced, after tools.sh, by the commands that link the engine: finds its library.
-# usage: find_library ROOT
-# FARZHUDYL_LIB_DIR is the folder of a libfarzhudyl.a to take as it is. Without it the library is target/staticlib's, made anew if the
-# crates have changed since; FARZHUDYL_LIB_DIR is then set.
+# Sourced, after tools.sh, by the commands that link the engine: finds its libraries.
+# usage: find_libraries ROOT NAME ..     NAME is farzhudyl (the C call) or exported (the calls that have no C face, for tests)
+# FARZHUDYL_LIB_DIR is the folder of the libraries lib$NAME.a to take as they are. Without it they are target/staticlib's, made anew if
+# the crates have changed since; FARZHUDYL_LIB_DIR is then set.
 
-find_library() {
-    if [ -z "${FARZHUDYL_LIB_DIR:-}" ]; then
-        FARZHUDYL_LIB_DIR=$1/target/staticlib
-        if [ ! -f "$FARZHUDYL_LIB_DIR/libfarzhudyl.a" ] ||
-            [ -n "$(find "$1/crates" "$1/crates.txt" -newer "$FARZHUDYL_LIB_DIR/libfarzhudyl.a" -print -quit)" ]; then
+find_libraries() {
+    local root=$1 given=${FARZHUDYL_LIB_DIR:-} folder name library
+    shift
+    folder=${given:-$root/target/staticlib}
+    for name; do
+        library=$folder/lib$name.a
+        if [ -z "$given" ] && { [ ! -f "$library" ] ||
+            [ -n "$(find "$root/crates" "$root/crates.txt" -newer "$library" -print -quit)" ]; }; then
             need_rattle
-            (cd "$1" && rt staticlib farzhudyl) || exit 2
+            (cd "$root" && rt staticlib "$name") || exit 2
         fi
-    fi
-    if [ ! -f "$FARZHUDYL_LIB_DIR/libfarzhudyl.a" ]; then
-        echo "missing: $FARZHUDYL_LIB_DIR/libfarzhudyl.a, which \`rt staticlib farzhudyl\` makes" >&2
-        exit 2
-    fi
-    FARZHUDYL_LIB_DIR=$(cd "$FARZHUDYL_LIB_DIR" && pwd) || exit 2
+        if [ ! -f "$library" ]; then
+            echo "missing: $library, which \`rt staticlib $name\` makes" >&2
+            exit 2
+        fi
+    done
+    FARZHUDYL_LIB_DIR=$(cd "$folder" && pwd) || exit 2
     export FARZHUDYL_LIB_DIR
 }

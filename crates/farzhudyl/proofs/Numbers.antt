@@ -23,12 +23,18 @@ use Rattle.farzhudyl.specs.Calls.{sheetListing, sheetGroups, sheetCallCh
 use Rattle.farzhudyl.proofs.Room.{listing-room}
 
 -- the first number whose condition holds is one of the list's, or 0
-first-le : (k : ℕ) (checks : List (ℕ × Bool)) → T (all (λ c. leb (c .0) k) checks) → firstOf checks ≤ k
+pub first-le : (k : ℕ) (checks : List (ℕ × Bool)) → T (all (λ c. leb (c .0) k) checks) → firstOf checks ≤ k
 unfolding firstOf all
 first-le k [] t = omega arith
 first-le k (c ∷ checks) t =
     let (h, r) = and-T (leb (c .0) k) (all (λ c. leb (c .0) k) checks) t in
     cond-elim (c .1) (c .0) (firstOf checks) (λ (j : ℕ). j ≤ k) (λ _. leb→le (c .0) k h) (λ _. first-le k checks r)
+
+-- the count is 0 on refusal
+pub count-most : (k : ℕ) {c most : ℕ} → (k ≡ 0 → c ≤ most) → countOf (answer k c) ≤ most
+unfolding countOf answer
+count-most zero h = h refl
+count-most (suc k) h = omega arith
 
 module _ (kind : ℤ) (s : List ℕ) (room : ℕ) where
   pub number-le : numberOf (answer (sheetRefusal kind s room) (length (sheetListing kind s))) ≤ 14
@@ -47,9 +53,4 @@ module _ (kind : ℤ) (s : List ℕ) (room : ℕ) where
       (in-range-bounded (pairs s) (not-false (inRange (pairs s)) (T-false (passes e {c = (11, not (inRange (pairs s)))} (List·Memᴰ·tail (List·Memᴰ·tail (List·Memᴰ·tail (List·Memᴰ·tail (List·Memᴰ·tail (List·Memᴰ·tail (List·Memᴰ·tail (List·Memᴰ·tail (List·Memᴰ·tail (List·Memᴰ·head refl))))))))))))))
 
   pub count-le : countOf (answer (sheetRefusal kind s room) (length (sheetListing kind s))) ≤ 1379
-  unfolding countOf answer
-  count-le = go (sheetRefusal kind s room) length-le
-    where
-      go : (k : ℕ) → (k ≡ 0 → length (sheetListing kind s) ≤ 1379) → countOf (answer k (length (sheetListing kind s))) ≤ 1379
-      go zero h = h refl
-      go (suc k) h = omega arith
+  count-le = count-most (sheetRefusal kind s room) length-le

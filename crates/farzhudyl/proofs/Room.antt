@@ -46,13 +46,15 @@ most strong n h = omega arith
 most clean n h = omega arith
 most splits n h = omega arith
 
+pub groups-few : (kind : Kind) (n : ℕ) (l : List ℤ) → n ≤ 32 → length (groups kind n (score l)) ≤ 62
+groups-few kind n l few = omega (arith, groups-bound kind n (score l) (score-symm l), most kind n few)
+
 -- the listing of scores that pass checks 6 and 11 has at most 1,379 bytes
 pub listing-room : (kind : Kind) (n : ℕ) (l : List ℤ) → n ≤ 32 → Bounded (2 ^ 22) l → length (listing n (groups kind n (score l))) ≤ 1379
 unfolding up dn
 listing-room kind n l few b =
     let g = groups kind n (score l) in
-    let c = groups-bound kind n (score l) (score-symm l) in
-    omega (arith, length-listing n g, lines-length n few g at, most kind n few)
+    omega (arith, length-listing n g, lines-length n few g at, groups-few kind n l few)
   where
     natural : (z : ℤ) → pos 1 ≤ℤ z → Within (62 * 2 ^ 22) z → (k : ℕ) × (z ≡ pos k) × (k < 10 ^ 9)
     natural (pos k) h w = (k, refl, omega (arith, up-le w))

@@ -68,7 +68,8 @@ fn minus(number: usize) -> i64
     0 - number as i64
 }
 
-fn as_number(a: Answer) -> i64
+// An answer as the number that C is given.
+pub fn as_number(a: Answer) -> i64
     requires { ⌜ (numberOf a < 2 ^ 63) × (countOf a < 2 ^ 63) ⌝ }
     ensures { λ r. ⌜ r ≡ cNumber a ⌝ }
 {

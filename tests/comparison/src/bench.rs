@@ -3,7 +3,7 @@
 use second_engine::compare::{Case, Expected};
 
 /// The lines after the first, or the refusal's number.
-type Answer = Result<String, i64>;
+pub type Answer = Result<String, i64>;
 
 /// Every case, a listing with each length of the buffer up to two bytes more
 /// than it needs.
@@ -34,7 +34,8 @@ pub fn calls() -> Vec<Expected> {
     calls
 }
 
-fn cases() -> Vec<(i32, String, Answer)> {
+/// A kind, a sheet, and what the sheet call answers.
+pub fn cases() -> Vec<(i32, String, Answer)> {
     let mut cases = Vec::new();
     let mut add = |kind, sheet: &str, answer: Result<&str, i64>| {
         cases.push((kind, sheet.to_string(), answer.map(String::from)));

@@ -2,9 +2,16 @@
 //! the second engine. The last line is `N passed, M failed`.
 //!
 //! * `sheet_call`: the call that reads a sheet and writes its listing.
+//! * `number_calls`: the calls on a pair list.
+//! * `reader_calls`: the calls on a sheet that write no listing.
 
 mod bench;
+mod exported;
+mod lent;
+mod lists;
+mod number_calls;
 mod parts;
+mod reader_calls;
 mod sheet_call;
 
 use parts::Parts;
@@ -21,6 +28,8 @@ fn main() -> ExitCode {
     println!("{cases} generated calls, seed {seed}");
     let mut parts = Parts::default();
     sheet_call::run(cases, seed, &mut parts);
+    number_calls::run(cases, seed, &mut parts);
+    reader_calls::run(cases / 5, seed, &mut parts);
     parts.end()
 }
 

@@ -86,7 +86,7 @@ impl Outcomes {
 
 pub fn run(cases: usize, seed: u64, parts: &mut Parts) {
     let tally = generated_calls(cases, seed, parts);
-    every_refusal(&tally, parts);
+    parts.add_refusals("sheet call", &tally, &SHEET_REFUSALS);
     small_sheets(parts);
     bench_cases(parts);
     reorderings(cases.div_ceil(10), seed, parts);
@@ -102,18 +102,6 @@ fn generated_calls(cases: usize, seed: u64, parts: &mut Parts) -> Tally {
     }
     outcomes.add_to(parts, "generated calls");
     tally
-}
-
-fn every_refusal(tally: &Tally, parts: &mut Parts) {
-    println!("listings: {}", tally.listings);
-    for number in SHEET_REFUSALS {
-        println!("refused {number}: {}", tally.refusals[number]);
-    }
-    let outcome = match tally.missed() {
-        missed if missed.is_empty() => Ok(()),
-        missed => Err(format!("never met: {missed:?}")),
-    };
-    parts.add("every refusal is met", outcome);
 }
 
 /// Every sheet of so few entries and values, ties and all orders with them.
@@ -149,7 +137,7 @@ fn small_sheets(parts: &mut Parts) {
 }
 
 /// The digits of the number choose a value for each pair, own ones or not.
-fn small_table(n: usize, own: bool, values: &[i64], mut number: usize) -> Table {
+pub fn small_table(n: usize, own: bool, values: &[i64], mut number: usize) -> Table {
     let mut table = Table {
         names: (0..n).map(|a| format!("E{a}")).collect(),
         values: vec![vec![0; n]; n],

@@ -35,11 +35,11 @@ impl Tally {
         self.listings + self.refusals.iter().sum::<u64>()
     }
 
-    /// The refusals of the sheet call that never turned up.
-    pub fn missed(&self) -> Vec<usize> {
-        let mut numbers = SHEET_REFUSALS.to_vec();
-        numbers.retain(|&number| self.refusals[number] == 0);
-        numbers
+    /// Those of the numbers that never turned up.
+    pub fn missed(&self, numbers: &[usize]) -> Vec<usize> {
+        let mut missed = numbers.to_vec();
+        missed.retain(|&number| self.refusals[number] == 0);
+        missed
     }
 }
 

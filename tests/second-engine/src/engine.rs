@@ -105,6 +105,14 @@ fn read_value(text: &[u8]) -> Option<i32> {
     })
 }
 
+/// The pair list of a sheet in the first slots, or the refusal by checks 2 to 9;
+/// answers the number of entries.
+pub fn read(sheet: &[u8], slots: &mut [i32]) -> Result<usize, Refusal> {
+    let Sheet { names, pairs } = read_sheet(sheet)?;
+    slots[..pairs.len()].copy_from_slice(&pairs);
+    Ok(names.len())
+}
+
 /// The name of an entry, counted from 0, as its own part of the sheet; the
 /// empty part if checks 2 to 9 refuse the sheet or there is no such entry.
 pub fn name(sheet: &[u8], entry: usize) -> &[u8] {
@@ -130,6 +138,17 @@ impl<'a> Scores<'a> {
     fn at(self, a: usize, b: usize) -> i64 {
         let (row, column) = (a.max(b), a.min(b));
         i64::from(self.pairs[pair_count(row) + column])
+    }
+}
+
+/// The score of two entries; 0 if this is no pair list of n entries, or a or b
+/// none of them.
+pub fn score(n: usize, pairs: &[i32], a: usize, b: usize) -> i64 {
+    let is_list = check_entries(n).is_ok() && check_length(n, pairs).is_ok();
+    if is_list && a < n && b < n {
+        Scores::new(n, pairs).at(a, b)
+    } else {
+        0
     }
 }
 
@@ -491,7 +510,7 @@ pub fn numbers(
     n: usize,
     pairs: &[i32],
     sets: &mut [u32],
-    indices: &mut [i32],
+    indices: &mut [i64],
 ) -> Result<usize, Refusal> {
     check_kind(kind)?;
     check_entries(n)?;
@@ -504,7 +523,7 @@ pub fn numbers(
     indices.fill(0);
     for (place, &(set, index)) in lines.iter().enumerate() {
         sets[place] = set;
-        indices[place] = i32::try_from(index).expect("an index is below 2 to the power 31");
+        indices[place] = index;
     }
     Ok(lines.len())
 }

@@ -27,7 +27,7 @@ pub fn check(
 }
 
 /// The set of all p(a); in kind 3 the side without the first entry.
-fn image(kind: i32, p: &[usize], set: u32) -> u32 {
+pub fn image(kind: i32, p: &[usize], set: u32) -> u32 {
     let members = (0..p.len()).filter(|a| set >> a & 1 == 1);
     let image = members.fold(0, |image, a| image | 1 << p[a]);
     if kind == 3 && image & 1 == 1 {
@@ -63,7 +63,8 @@ pub(crate) fn read_listing(
     parse_listing(&text).ok_or_else(|| format!("listing {text:?}; {}", show(kind, table)))
 }
 
-fn parse_listing(text: &str) -> Option<Vec<(u32, i64)>> {
+/// The sets and indices of a listing's text; none if it is no listing.
+pub fn parse_listing(text: &str) -> Option<Vec<(u32, i64)>> {
     let lines = text
         .strip_prefix("set size index\n")?
         .split_terminator('\n');

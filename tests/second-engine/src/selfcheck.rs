@@ -57,7 +57,7 @@ pub fn run(rounds: u64, seed: u64) -> Result<Report, String> {
     for _ in 0..rounds {
         round(&mut random, &mut report)?;
     }
-    match report.tally.missed() {
+    match report.tally.missed(&SHEET_REFUSALS) {
         missed if missed.is_empty() => Ok(report),
         missed => Err(format!("{report}refusals never met: {missed:?}")),
     }
@@ -272,7 +272,7 @@ mod tests {
         for _ in 0..60 {
             round(&mut random, &mut report).unwrap();
         }
-        assert_eq!(report.tally.missed(), [], "{report}");
+        assert_eq!(report.tally.missed(&SHEET_REFUSALS), [], "{report}");
         for kind in 1..4 {
             assert!(report.large_lines[kind] > 300, "{report}");
         }

@@ -1,7 +1,7 @@
 //! The calls without a C face: names, numbers, linkage, anchored scores.
 
 use second_engine::engine::{
-    anchored, is_tree, linkage, linkage_refusal, name, numbers, way_back, Method,
+    anchored, is_tree, linkage, linkage_refusal, name, numbers, read, score, way_back, Method,
 };
 
 #[test]
@@ -17,6 +17,26 @@ fn names_are_parts_of_the_sheet() {
     // Checks 11 and 12 are none of its business.
     assert_eq!(name(b"A\n9999999\n", 0), b"A");
     assert_eq!(name(b"A\n-1\n", 0), b"A");
+}
+
+#[test]
+fn a_pair_list_is_read() {
+    let mut slots = [99; 4];
+    assert_eq!(read(b"A B\n1 2\n2 3\n", &mut slots), Ok(2));
+    assert_eq!(slots, [1, 2, 3, 99]);
+    assert_eq!(read(b"A B\n1 2\n4 3\n", &mut slots), Err(9));
+    assert_eq!(slots, [1, 2, 3, 99]);
+}
+
+#[test]
+fn scores_of_two_entries() {
+    assert_eq!(score(2, &[1, 2, 3], 0, 1), 2);
+    assert_eq!(score(2, &[1, 2, 3], 1, 0), 2);
+    assert_eq!(score(2, &[1, i32::MIN, 3], 0, 1), i64::from(i32::MIN));
+    assert_eq!(score(2, &[1, 2, 3], 0, 2), 0);
+    assert_eq!(score(2, &[1, 2, 3, 4], 0, 1), 0);
+    assert_eq!(score(33, &[7; 561], 0, 0), 0);
+    assert_eq!(score(usize::MAX, &[], 0, 0), 0);
 }
 
 #[test]

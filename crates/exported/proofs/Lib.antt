@@ -1,0 +1,3 @@
+pub mod Small
+pub mod Copied
+pub mod Reading

@@ -1,0 +1,58 @@
+-- What each call can answer: a refusal's number is at most 15, and the count is bounded where no check refuses.
+use mathlib.Core.Path.{_≡_, ap}
+use mathlib.Core.Bool.{Bool}
+use mathlib.Core.List.{List, _∷_}
+use Prim.Native.Nat.{ℕ, _-_, _^_, _<_, _≤_}
+use native.Mathlib.Omega.{arith}
+use lib.Dec.{T, leb, lit<}
+use lib.IntN.{ℤ}
+use lib.ListN.{length}
+use Rattle.lists.specs.Lists.{all}
+use Rattle.clusters.specs.PairList.{rowStart}
+use Rattle.clusters.specs.Refusals.{firstOf, wrongKind, kindOf, wrongCount}
+use Rattle.answers.specs.declared.Answer.{Answer}
+use Rattle.answers.specs.Answers.{numberOf, countOf, answer}
+use Rattle.answers.proofs.Answers.{number-answer}
+use Rattle.matrix.proofs.Places.{rowStart-le}
+use Rattle.linkage.specs.Calls.{linkageChecks, linkageRefusal}
+use Rattle.farris.specs.Calls.{anchoredChecks, anchoredRefusal, backChecks, backRefusal}
+use Rattle.farris.proofs.Refusals.{no-first, right-count}
+use Rattle.groups.specs.Calls.{numbersChecks, numbersRefusal, groupsFound}
+use Rattle.sheet.specs.Sheet.{entries, sheetChecks}
+use Rattle.reader.proofs.Answers.{passes-few}
+use Rattle.farzhudyl.proofs.Numbers.{first-le, count-most}
+use Rattle.farzhudyl.proofs.Room.{groups-few}
+
+-- what `as_number` asks
+abbrev pub Small : Answer → Type 0
+Small a = (numberOf a < 2 ^ 63) × (countOf a < 2 ^ 63)
+
+small : (checks : List (ℕ × Bool)) {a : Answer} {c : ℕ} → T (all (λ k. leb (k .0) 15) checks) → a ≡ answer (firstOf checks) c → (firstOf checks ≡ 0 → c ≤ 528) → Small a
+small checks {a} {c} t e h =
+    (omega (arith, ap numberOf e, number-answer (firstOf checks) c, first-le 15 checks t), omega (arith, ap countOf e, count-most (firstOf checks) h))
+
+-- a call whose first check is 6
+few : (n : ℕ) (checks : List (ℕ × Bool)) → firstOf ((6, wrongCount n) ∷ checks) ≡ 0 → n ≤ 32
+few n checks e = right-count n (no-first 6 (wrongCount n) checks (lit< tt) e .0)
+
+module _ {a : Answer} (n : ℕ) (l : List ℤ) where
+  pub linkage-small : (room : ℕ) → a ≡ answer (linkageRefusal n l room) (n - 1) → Small a
+  unfolding linkageRefusal linkageChecks all
+  linkage-small room e = small (linkageChecks n l room) tt e (λ z. let h = few n _ z in omega arith)
+
+  pub anchored-small : (x room : ℕ) → a ≡ answer (anchoredRefusal n x l room) (rowStart n) → Small a
+  unfolding anchoredRefusal anchoredChecks all
+  anchored-small x room e = small (anchoredChecks n x l room) tt e (λ z. rowStart-le n (few n _ z))
+
+  pub back-small : (x room : ℕ) → a ≡ answer (backRefusal n x l room) (rowStart n) → Small a
+  unfolding backRefusal backChecks all
+  back-small x room e = small (backChecks n x l room) tt e (λ z. rowStart-le n (few n _ z))
+
+  pub numbers-small : (kind : ℤ) (sets indices : ℕ) → a ≡ answer (numbersRefusal kind n l sets indices) (length (groupsFound kind n l)) → Small a
+  unfolding numbersRefusal numbersChecks groupsFound all
+  numbers-small kind sets indices e = small (numbersChecks kind n l sets indices) tt e
+      (λ z. let h = groups-few (kindOf kind) n l (few n _ (no-first 1 (wrongKind kind) _ (lit< tt) z .1)) in omega arith)
+
+pub read-small : {a : Answer} (s : List ℕ) → a ≡ answer (firstOf (sheetChecks s)) (entries s) → Small a
+unfolding sheetChecks all
+read-small s e = small (sheetChecks s) tt e (λ z. let h = passes-few s z in omega arith)

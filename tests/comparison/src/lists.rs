@@ -1,0 +1,134 @@
+//! Pair lists from a seed, good and flawed, and what is lent with them.
+
+use second_engine::engine;
+use second_engine::generate::{self, Random, Table};
+
+/// A list of values, said to be the pair list of n entries.
+#[derive(Clone, Debug, PartialEq, Eq)]
+pub struct List {
+    pub n: usize,
+    pub pairs: Vec<i32>,
+}
+
+impl List {
+    pub fn of(table: &Table) -> Self {
+        List {
+            n: table.entries(),
+            pairs: table.pairs(),
+        }
+    }
+}
+
+/// The pairs of n entries, or of so few that a list of them can be made.
+pub fn pair_count(n: usize) -> usize {
+    let n = n.min(40);
+    n * (n + 1) / 2
+}
+
+/// Where the own pair of an entry stands.
+pub fn own(entry: usize) -> usize {
+    pair_count(entry) + entry
+}
+
+/// In range: trees and near-trees, tied values, the ends of the range.
+pub fn scores(random: &mut Random) -> List {
+    let n = generate::entries(random);
+    let mut list = List::of(&generate::scores(random, n));
+    if random.one_in(8) {
+        let ends = [-1_000_000, -999_999, -1, 0, 1, 999_999, 1_000_000];
+        list.pairs.fill_with(|| random.of(&ends));
+    }
+    list
+}
+
+/// Distances, as check 12 wants them.
+pub fn distances(random: &mut Random) -> List {
+    let n = generate::entries(random);
+    List::of(&generate::distances(random, n))
+}
+
+/// A good list now and then made wrong.
+pub fn any(random: &mut Random, good: impl Fn(&mut Random) -> List) -> List {
+    let mut list = good(random);
+    if random.one_in(3) {
+        for _ in 0..random.of(&[1, 1, 1, 2, 3]) {
+            flaw(random, &mut list);
+        }
+    }
+    list
+}
+
+fn flaw(random: &mut Random, list: &mut List) {
+    let far = [1_000_001, -1_000_001, i32::MAX, i32::MIN, 2_000_000];
+    let few = [-1_000_000, -1, 1, 2, 1_000_000];
+    let n = list.n;
+    match random.below(8) {
+        0 => {
+            // The list of another number of entries, or the number alone.
+            list.n = random.of(&[0, 0, 33, 33, 40, n + 1, n.wrapping_sub(1)]);
+            if random.one_in(2) {
+                list.pairs.resize(pair_count(list.n), 0);
+            }
+        }
+        // Numbers whose low bits alone would pass.
+        1 => list.n = n.wrapping_add(random.of(&[1 << 8, 1 << 16, 1 << 32, 1 << 63])),
+        2 => list.n = random.of(&[64, 528, 1 << 31, 1 << 32, 1 << 63, usize::MAX]),
+        3 => {
+            let length = list.pairs.len();
+            let near = [0, 1, n, length.wrapping_sub(1), length + 1, 2 * length, 528];
+            list.pairs.resize(random.of(&near).min(1_000), 0);
+        }
+        4 | 5 => put(random, list, &far),
+        _ => put(random, list, &few),
+    }
+}
+
+/// One value anywhere, at either end, or of an own pair.
+fn put(random: &mut Random, list: &mut List, values: &[i32]) {
+    let length = list.pairs.len();
+    if length > 0 {
+        let entry = random.below(list.n.clamp(1, 32));
+        let any = random.below(length);
+        let place = random.of(&[0, length - 1, any, any, own(entry).min(length - 1)]);
+        list.pairs[place] = random.of(values);
+    }
+}
+
+/// Anchored scores of distances, or nearly so, and their anchor.
+pub fn anchored(random: &mut Random) -> (List, usize) {
+    let mut list = distances(random);
+    let x = random.below(list.n);
+    let pairs = list.pairs.clone();
+    engine::anchored(list.n, &pairs, x, &mut list.pairs).expect("these are distances");
+    match random.below(8) {
+        0 | 1 => put(random, &mut list, &[1, -1, 2, 0]),
+        2 | 3 => {
+            // One distance more or less, half of one, or an anchor's score.
+            let a = random.below(list.n);
+            let any = random.below(list.pairs.len());
+            let place = random.of(&[own(a), own(a), any, pair_count(x)]);
+            list.pairs[place] += random.of(&[-2, -1, 1, 2]);
+        }
+        4 => put(random, &mut list, &[i32::MAX, i32::MIN, i32::MAX - 1]),
+        _ => {}
+    }
+    (list, x)
+}
+
+/// An entry of the list, and now and then none of it.
+pub fn entry(random: &mut Random, n: usize) -> usize {
+    match random.below(8) {
+        0 => random.of(&[n, n.wrapping_add(1), 32, 33, 1 << 32, usize::MAX]),
+        _ => random.below(n.clamp(1, 40)),
+    }
+}
+
+/// Slots around as many as are needed.
+pub fn room(random: &mut Random, needed: usize) -> usize {
+    let near = [0, 1, needed.saturating_sub(1), needed, needed + 1];
+    match random.below(4) {
+        0 => random.of(&near),
+        1 => random.below(2 * needed + 3),
+        _ => needed + random.below(20),
+    }
+}
