@@ -17,11 +17,11 @@ use Rattle.clusters.proofs.Arrangement.{SameBlocks, same-symm, same-partition, 
 use Rattle.clusters.proofs.Exists.{count-singles}
 use Rattle.links.specs.Table.{entry, Holds, Small, Written, joinedRow, quotientAt, Weights, GreatestAt}
 use Rattle.linkage.specs.Blocks.{mergedAt, linkageOf}
-use Rattle.linkage.specs.Steps.{Weighed, Merged}
+use Rattle.linkage.specs.Steps.{Merged}
 use Rattle.linkage.proofs.Merging.{same-mergedAt}
 use Rattle.linkage.proofs.Places.{length-mergedAt, merged-joined}
 use Rattle.linkage.proofs.Updates.{numerators, holds-singles, holds-small, holds-merged}
-use Rattle.linkage.proofs.Choice.{weights-bounds, greatest-link}
+use Rattle.linkage.proofs.Choice.{Weighed, weights-bounds, greatest-link}
 
 pub record Run (avg : Bool) (n : ℕ) (s : Similarity) (lent : List ℕ) (k : ℕ) (bs : List ℕ) (t : List ℤ) (out : List ℕ) : Type 0 where
   pub partition : Partition n bs

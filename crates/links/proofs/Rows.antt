@@ -1,15 +1,15 @@
 -- The table while a row and a column of it are written.
-use mathlib.Core.Path.{_≡_, refl, sym, ap, _∙_, subst}
+use mathlib.Core.Path.{_≡_, refl, sym, ap, ap₂, _∙_, subst}
 use mathlib.Core.Logic.{_≢_, _⊎_, inl, inr}
 use mathlib.Core.List.{List}
 use Prim.Native.Nat.{ℕ, _+_, _*_, _≤_, _<_}
-use native.Mathlib.Nat.{le-refl, max-eq-left, min-eq-right}
+use native.Mathlib.Nat.{max-eq-left, min-eq-right}
 use native.Mathlib.Decide.{ℕ-discrete}
 use native.Mathlib.Omega.{arith}
 use lib.IntN.{ℤ, pos}
 use lib.ListN.{length, getD, set, length-set}
 use lib.Seq.{getD-set-same, getD-set-other}
-use Rattle.clusters.specs.PairList.{rowStart, place}
+use Rattle.clusters.specs.PairList.{rowStart, place, score}
 use Rattle.links.specs.Table.{entry, stored, Written, Holds}
 
 module _ (a b : ℕ) (z : ℤ) (t : List ℤ) where
@@ -91,7 +91,7 @@ holds-next {k} {f} {t₀} {t} symm h d w = record { size = w .size; is = λ a b 
     go a b ha hb ne (no m) (yes e) = ap (λ (x : ℕ). entry t a x) e ∙ w .column a (omega arith) m m ∙ symm k a ∙ ap (f a) (sym e)
     go a b ha hb ne (no m) (no n) = w .rest a b (omega arith) (omega arith) (λ e. absurd (m e)) (λ e. absurd (n e)) ∙ d .is a b (omega arith) (omega arith) ne
 
--- a pair stands in its row of the pair list, up to the own pair
-pub place-rises : (a b : ℕ) → b ≤ a → place a b ≤ place a a
-unfolding place
-place-rises a b h = omega (arith, ap rowStart (max-eq-left h), min-eq-right h, ap rowStart (max-eq-left (le-refl a)), min-eq-right (le-refl a))
+-- a pair stands in its row of the pair list
+pub score-row : (l : List ℤ) {a start : ℕ} (b : ℕ) → start ≡ rowStart a → b ≤ a → getD l (start + b) (pos 0) ≡ score l a b
+unfolding score place
+score-row l b e h = ap (λ (x : ℕ). getD l x (pos 0)) (sym (ap₂ _+_ (ap rowStart (max-eq-left h) ∙ sym e) (min-eq-right h)))

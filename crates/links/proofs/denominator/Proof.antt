@@ -1,4 +1,3 @@
-use mathlib.Core.Path.{refl}
 use native.Mathlib.Nat.{mul-le-mul}
 use native.Mathlib.Omega.{arith}
 use borrow.Author.Needs.{needs}
@@ -21,7 +20,7 @@ mul-result-3 : tie.Need-mul-result-3
 mul-result-3 c = let p = c .before .before .pre in omega (arith, mul-le-mul (p .2) (p .3))
 
 returns : tie.Need-returns
-returns c = let p = c .before .before .pre in (refl, mul-le-mul (p .2) (p .3))
+returns c = search needs
 
 pub denominator-spec : {M : Type 1} → statement M
 denominator-spec =
