@@ -25,6 +25,7 @@ use Rattle.linkage.proofs.Updates.{numerators}
 
 -- the weights of the first k blocks
 pub record Weighed (avg : Bool) (k : ℕ) (bs w : List ℕ) : Type 0 where
+  pub size : length w ≡ 32
   pub is : (a : ℕ) → a < k → getD w a 0 ≡ weight avg (getD bs a 0)
 
 weight-bounds : (avg : Bool) (A : ℕ) {i : ℕ} → i < 32 → A ∋ i → (1 ≤ weight avg A) × (weight avg A ≤ 32)
@@ -81,17 +82,17 @@ module _ (avg : Bool) (n : ℕ) (s : Similarity) (few : n ≤ 32) {bs : List ℕ
 -- the single entries have the weight 1
 pub weighed-singles : (avg : Bool) (n : ℕ) → n ≤ 32 → {k : ℕ} → k ≡ n → {bs : List ℕ} → bs ≡ singles n → Weighed avg k bs (replicate 32 1)
 unfolding singles weight
-weighed-singles avg n h e f = record { is = λ a l. getD-replicate 32 a 1 0 (omega arith) ∙ sym (ap (weight avg) (ap (λ (l : List ℕ). getD l a 0) f ∙ getD-below (λ i. 2 ^ i) n a 0 (omega arith)) ∙ one a (omega arith) avg) }
+weighed-singles avg n h e f = record { size = refl; is = λ a l. getD-replicate 32 a 1 0 (omega arith) ∙ sym (ap (weight avg) (ap (λ (l : List ℕ). getD l a 0) f ∙ getD-below (λ i. 2 ^ i) n a 0 (omega arith)) ∙ one a (omega arith) avg) }
   where
     one : (a : ℕ) → a < 32 → (avg : Bool) → weight avg (2 ^ a) ≡ 1
     one a l true = omega (arith, size-single 32 a, member-size 32 (2 ^ a) l (one-in a))
     one a l false = refl
 
 -- after a merge, the weight of the union stands at i and that of the last block at j
-pub weighed-merged : {avg : Bool} {k : ℕ} {bs w : List ℕ} → Weighed avg k bs w → length bs ≡ k → k ≤ length w → (i j : ℕ) → i < j → j < k
+pub weighed-merged : {avg : Bool} {k : ℕ} {bs w : List ℕ} → Weighed avg k bs w → length bs ≡ k → k ≤ 32 → (i j : ℕ) → i < j → j < k
     → {m : ℕ} → m ≡ k - 1 → {cs : List ℕ} → cs ≡ mergedAt i j bs → {x : ℕ} → x ≡ weight avg (getD cs i 0)
     → {w′ : List ℕ} → w′ ≡ set (set w i x) j (getD (set w i x) (k - 1) 0) → Weighed avg m cs w′
-weighed-merged {avg} {k} {bs} {w} v counted room i j hi hj m-is {cs} e {x} f g = record { is = λ a l. ap (λ (l : List ℕ). getD l a 0) g ∙ at a (omega arith) (ℕ-discrete a j) (ℕ-discrete a i) }
+weighed-merged {avg} {k} {bs} {w} v counted room i j hi hj m-is {cs} e {x} f g = record { size = ap length g ∙ simp length-set (v .size); is = λ a l. ap (λ (l : List ℕ). getD l a 0) g ∙ at a (omega arith) (ℕ-discrete a j) (ℕ-discrete a i) }
   where
     y : ℕ
     y = getD (set w i x) (k - 1) 0
@@ -104,6 +105,6 @@ weighed-merged {avg} {k} {bs} {w} v counted room i j hi hj m-is {cs} e {x} f g =
     last l = let q : length bs - 1 ≡ k - 1 = omega arith in merged-moved i j bs hi (omega arith) (omega arith) ∙ ap (λ (p : ℕ). getD (joinedAt i j bs) p 0) q
 
     at : (a : ℕ) → a < k - 1 → Dec (a ≡ j) → Dec (a ≡ i) → getD (set (set w i x) j y) a 0 ≡ weight avg (getD cs a 0)
-    at a l (yes r) _ = rw r (getD-set-same (set w i x) j y 0 (omega (arith, length-set w i x)) ∙ moved j (k - 1) (omega arith) (λ q. omega arith) (last (omega arith)))
-    at a l (no d) (yes r) = getD-set-other (set w i x) j a y 0 d ∙ rw r (getD-set-same w i x 0 (omega arith) ∙ f)
+    at a l (yes r) _ = rw r (getD-set-same (set w i x) j y 0 (omega (arith, length-set w i x, v .size)) ∙ moved j (k - 1) (omega arith) (λ q. omega arith) (last (omega arith)))
+    at a l (no d) (yes r) = getD-set-other (set w i x) j a y 0 d ∙ rw r (getD-set-same w i x 0 (omega (arith, v .size)) ∙ f)
     at a l (no d) (no o) = getD-set-other (set w i x) j a y 0 d ∙ moved a a (omega arith) o (merged-kept i j bs hi (omega arith) a (omega arith) d)

@@ -5,8 +5,7 @@ use mathlib.Core.Bool.{Bool, cond}
 use mathlib.Core.Logic.{_≢_}
 use mathlib.Core.List.{List}
 use Prim.Native.Nat.{ℕ, _+_, _*_, _^_, _≤_, _<_}
-use lib.IntN.{ℤ, pos, _+ℤ_, _*ℤ_}
-use lib.Signed.{leZ}
+use lib.IntN.{ℤ, pos, _+ℤ_}
 use lib.ListN.{length, getD, set}
 use Rattle.integers.specs.Integers.{maxZ}
 use Rattle.integers.specs.Range.{Within}
@@ -49,10 +48,6 @@ joinedRow average i j t q = joined average (entry t i q) (entry t j q)
 -- the link of the blocks at a and b, by the table and the weights
 unfoldable pub quotientAt : List ℕ → List ℤ → ℕ → ℕ → Quotient
 quotientAt w t a b = record { num = entry t a b; den = getD w a 0 * getD w b 0 }
-
--- the test of the order of links
-unfoldable pub atMost : Quotient → Quotient → Bool
-atMost p q = leZ (pos (q .den) *ℤ p .num) (pos (p .den) *ℤ q .num)
 
 -- the weights of the first k places
 abbrev pub Weights : ℕ → List ℕ → Type 0

@@ -2,7 +2,7 @@
 // for the greatest.
 ghost use mathlib.Core.Path.{_≡_};
 ghost use Prim.Native.Nat.{_+_, _*_, _^_, _<_, _≤_};
-ghost use lib.ListN.{length, getD};
+ghost use lib.ListN.{length};
 ghost use Rattle.integers.specs.Range.{Within};
 ghost use Rattle.clusters.specs.PairList.{rowStart, score};
 ghost use Rattle.links.specs.Table.{
@@ -101,13 +101,6 @@ pub struct Found {
     pub den: usize,
 }
 
-fn denominator(weights: &[usize; 32], a: usize, b: usize) -> usize
-    requires { ⌜ (a < 32) × (b < 32) × (getD (now weights) a 0 ≤ 32) × (getD (now weights) b 0 ≤ 32) ⌝ }
-    ensures { λ r. ⌜ r ≡ getD (now (weights .entry)) a 0 * getD (now (weights .entry)) b 0 ⌝ }
-{
-    weights[a] * weights[b]
-}
-
 // The greatest of what was found before and the links at j and an earlier place. The weight at j is common to those: `scaled` is
 // what it makes of the numerator found.
 fn greatest_in_row(weights: &[usize; 32], t: &[i64; 1024], j: usize, found: Found) -> Found
@@ -120,15 +113,13 @@ fn greatest_in_row(weights: &[usize; 32], t: &[i64; 1024], j: usize, found: Foun
     for i in 0..j {
         let num = get(t, j, i);
         let other = weights[i];
-        if integers::at_most(integers::times(best.den, num), integers::times(other, scaled)) {
+        let left = integers::times(best.den, num);
+        let right = integers::times(other, scaled);
+        if integers::at_most(left, right) {
             continue;
         }
-        best = Found {
-            i,
-            j,
-            num,
-            den: own * other,
-        };
+        let den = own * other;
+        best = Found { i, j, num, den };
         scaled = integers::times(own, num);
     }
     best
@@ -140,11 +131,12 @@ pub fn greatest(count: usize, weights: &[usize; 32], t: &[i64; 1024]) -> Found
     ensures { λ r. ⌜ GreatestAt count (quotientAt (now (weights .entry)) (now (t .entry))) (r .i) (r .j) ⌝ }
 {
     let num = get(t, 1, 0);
+    let den = weights[1] * weights[0];
     let mut best = Found {
         i: 0,
         j: 1,
         num,
-        den: denominator(weights, 1, 0),
+        den,
     };
     for j in 2..count {
         best = greatest_in_row(weights, t, j, best);

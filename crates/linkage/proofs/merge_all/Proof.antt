@@ -1,5 +1,5 @@
 use mathlib.Core.Path.{_≡_, refl, sym, ap, _∙_}
-use Prim.Native.Nat.{ℕ, _-_, _+_, _≤_, _<_}
+use Prim.Native.Nat.{_-_, _+_, _≤_, _<_}
 use native.Mathlib.Omega.{arith}
 use borrow.Author.Needs.{needs}
 use lib.ListN.{length, set, getD, length-set}
@@ -17,7 +17,7 @@ use Rattle.linkage.proofs.merge_all.Statement.{statement}
 use Rattle.linkage.proofs.merge_all.Tie as tie
 
 abbrev Inv-loop : tie.InvT-loop
-Inv-loop average n pairs out₀ blocks₀ weights₀ table₀ k₀ out blocks weights table k = (k + blocks .count ≡ n) × (1 ≤ blocks .count) × (length (blocksOf blocks) ≡ blocks .count) × (length out ≡ length out₀) × (length weights ≡ 32) × Weighed average (blocks .count) (blocksOf blocks) weights × Run average n (score pairs) out₀ k (blocksOf blocks) table out
+Inv-loop average n pairs out₀ blocks₀ weights₀ table₀ k₀ out blocks weights table k = (k + blocks .count ≡ n) × (1 ≤ blocks .count) × (length (blocksOf blocks) ≡ blocks .count) × (length out ≡ length out₀) × Weighed average (blocks .count) (blocksOf blocks) weights × Run average n (score pairs) out₀ k (blocksOf blocks) table out
 
 abbrev μ-loop : tie.MeasureT-loop
 μ-loop average n pairs out₀ blocks₀ weights₀ table₀ k₀ out blocks weights table k = blocks .count
@@ -43,7 +43,7 @@ unfolding start
 small s =
     let a = start s .args in
     let p = start s .pre in
-    run-small (a .average) (a .n) (score (a .pairs .now)) (score-symm (a .pairs .now)) (s .loop .inv .6) (p .1) (s .loop .blocks .count) (s .loop .inv .2)
+    run-small (a .average) (a .n) (score (a .pairs .now)) (score-symm (a .pairs .now)) (s .loop .inv .5) (p .1) (s .loop .blocks .count) (s .loop .inv .2)
     (λ x y hx hy. p .3 (score (a .pairs .now) x y) (score-element (a .n) (a .pairs .now) (p .2) hx hy))
 
 weights : (s : tie.At-loop Inv-loop μ-loop) → Weights (s .loop .blocks .count) (s .loop .weights)
@@ -51,7 +51,7 @@ unfolding start
 weights s =
     let l = s .loop in
     let a = start s .args in
-    run-weights (a .average) (a .n) (score (a .pairs .now)) (score-symm (a .pairs .now)) (l .inv .6) (start s .pre .1) (l .blocks .count) (l .inv .2) (l .weights) (l .inv .5)
+    run-weights (a .average) (a .n) (score (a .pairs .now)) (score-symm (a .pairs .now)) (l .inv .5) (start s .pre .1) (l .blocks .count) (l .inv .2) (l .weights) (l .inv .4)
 
 room : (c : tie.In-loop Inv-loop μ-loop) → c .before .loop .k < length (c .before .loop .out)
 room c = let l = c .before .loop in omega (arith, l .inv .0, l .inv .3, c .loop-test .taken, c .before .before .before .before .before .before .pre .4)
@@ -65,7 +65,7 @@ fill-requires c κs = let s = c .before .before .before in (s .pre .1, s .pre .2
 loop-holds : tie.Need-loop-holds Inv-loop μ-loop
 loop-holds c = let s = c .before .before .before .before in
     let b = c .before .before .singles in
-    (omega (arith, b .ensures .0), omega (arith, b .ensures .0), ap length (b .ensures .1) ∙ count-singles (s .args .n) ∙ sym (b .ensures .0), refl, refl, weighed-singles (s .args .average) (s .args .n) (s .pre .1) (b .ensures .0) (b .ensures .1), rw (b .ensures .1) (run-start (s .args .average) (s .args .n) (score (s .args .pairs .now)) (s .args .out .now) (c .fill .ensures)))
+    (omega (arith, b .ensures .0), omega (arith, b .ensures .0), ap length (b .ensures .1) ∙ count-singles (s .args .n) ∙ sym (b .ensures .0), refl, weighed-singles (s .args .average) (s .args .n) (s .pre .1) (b .ensures .0) (b .ensures .1), rw (b .ensures .1) (run-start (s .args .average) (s .args .n) (score (s .args .pairs .now)) (s .args .out .now) (c .fill .ensures)))
 
 sub-last : tie.Need-sub-last Inv-loop μ-loop
 sub-last c = search needs
@@ -139,8 +139,8 @@ next c =
     let s = turn c .before in
     let l = s .loop in
     let a = start s .args in
-    run-next (a .average) (a .n) (score (a .pairs .now)) (score-symm (a .pairs .now)) (l .inv .6) (start s .pre .1) (l .blocks .count) (l .inv .2)
-    (l .weights) (l .inv .5) (search-of c .greatest .ensures) (short s) (rw (← l .inv .3) (room (turn c))) (c .before .before .before .join-rows .ensures) (c .before .move-row .ensures)
+    run-next (a .average) (a .n) (score (a .pairs .now)) (score-symm (a .pairs .now)) (l .inv .5) (start s .pre .1) (l .blocks .count) (l .inv .2)
+    (l .weights) (l .inv .4) (search-of c .greatest .ensures) (short s) (rw (← l .inv .3) (room (turn c))) (c .before .before .before .join-rows .ensures) (c .before .move-row .ensures)
     (c .merge .ensures .1) (union c)
 
 counted : (c : tie.After-merge Inv-loop μ-loop) → length (blocksOf (c .merge .result)) ≡ c .merge .result .count
@@ -158,7 +158,7 @@ weighed c =
     let m = merge-of c in
     let l = turn m .before .loop in
     let g = search-of m .greatest in
-    weighed-merged (l .inv .5) (l .inv .2) (omega (arith, l .inv .4, short (turn m .before))) (g .result .i) (g .result .j) (g .ensures .rising) (g .ensures .inside)
+    weighed-merged (l .inv .4) (l .inv .2) (short (turn m .before)) (g .result .i) (g .result .j) (g .ensures .rising) (g .ensures .inside)
     (m .merge .ensures .0) (m .merge .ensures .1) (c .before .weight .ensures ∙ ap (weight (start (turn m .before) .args .average)) (union m)) (c .merge-weights .ensures)
 
 loop-again : tie.Need-loop-again Inv-loop μ-loop
@@ -167,7 +167,7 @@ loop-again c =
     let m = merge-of c in
     let l = turn m .before .loop in
     let many = turn m .loop-test .taken in
-    (omega (arith, l .inv .0, m .merge .ensures .0, many), omega (arith, m .merge .ensures .0, many), counted m, simp length-set (l .inv .3), ap length (c .merge-weights .ensures) ∙ simp length-set (l .inv .4), weighed c, next m)
+    (omega (arith, l .inv .0, m .merge .ensures .0, many), omega (arith, m .merge .ensures .0, many), counted m, simp length-set (l .inv .3), weighed c, next m)
 
 same-length : tie.Need-same-length Inv-loop μ-loop
 same-length c = search needs
@@ -177,7 +177,7 @@ unfolding start
 returns c = let s = c .before in
     let l = s .loop in
     let a = start s .args in
-    run-end (a .average) (a .n) (a .pairs .now) (l .inv .6) (omega (arith, c .loop-test .left, l .inv .1, l .inv .2)) (omega (arith, c .loop-test .left, l .inv .0, l .inv .1))
+    run-end (a .average) (a .n) (a .pairs .now) (l .inv .5) (omega (arith, c .loop-test .left, l .inv .1, l .inv .2)) (omega (arith, c .loop-test .left, l .inv .0, l .inv .1))
 
 pub merge-all-spec : {M : Type 1} → statement M
 merge-all-spec =

@@ -104,9 +104,9 @@ loop-again c = let a = c .before in
     let l = at-loop (a .before .before .before .before) in
     (omega arith, found-keep (l .loop .i) (start l .args .j) (omega arith) (search needs) (l .loop .inv .1) (left a) (right a) (sym (a .at-most .ensures) ∙ c .if1 .taken), l .loop .inv .2)
 
-mul-t16 : tie.Need-mul-t16 Inv-loop μ-loop
+mul-den : tie.Need-mul-den Inv-loop μ-loop
 unfolding at-loop start
-mul-t16 c = let l = at-loop (c .before .before .before .before .before) in
+mul-den c = let l = at-loop (c .before .before .before .before .before) in
     let s = start l in
     record { fits = omega (arith, mul-le-mul (s .pre .2 (s .args .j) (omega arith) .1) (s .pre .2 (l .loop .i) (omega arith) .1)) }
 
@@ -152,7 +152,7 @@ greatest-in-row-spec =
     add-i
     loop-less
     loop-again
-    mul-t16
+    mul-den
     times-requires-4
     add-i-2
     loop-less-2
