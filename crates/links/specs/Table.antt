@@ -25,16 +25,21 @@ pub record Holds (k : ℕ) (f : ℕ → ℕ → ℤ) (t : List ℤ) : Type 0 whe
   pub size : length t ≡ 1024
   pub is : (a b : ℕ) → a < k → b < k → a ≢ b → entry t a b ≡ f a b
 
--- what it has for any two of the first k places is of bounded size
+-- what stands for a place and itself, which is no link, is as it was
+pub record OwnKept (t₀ t : List ℤ) : Type 0 where
+  pub own : (a : ℕ) → a < 32 → entry t a a ≡ entry t₀ a a
+
+-- what it has for any two of the first k places is of bounded size, and so is what stands for a place and itself
 pub record Small (k : ℕ) (t : List ℤ) : Type 0 where
   pub size : length t ≡ 1024
   pub within : (a b : ℕ) → a < k → b < k → a ≢ b → Within (2 ^ 35) (entry t a b)
+  pub own : (a : ℕ) → a < k → Within (2 ^ 40) (entry t a a)
 
--- in row i and column i, the first k numbers have become those of g, but for the places i and j; the rest stands
-pub record Written (i j : ℕ) (g : ℕ → ℤ) (k : ℕ) (t₀ t : List ℤ) : Type 0 where
+-- in row i and column i, the first k numbers have become those of g; the rest stands
+pub record Written (i : ℕ) (g : ℕ → ℤ) (k : ℕ) (t₀ t : List ℤ) : Type 0 where
   pub size : length t ≡ 1024
-  pub row : (q : ℕ) → q < k → q ≢ i → q ≢ j → entry t i q ≡ g q
-  pub column : (q : ℕ) → q < k → q ≢ i → q ≢ j → entry t q i ≡ g q
+  pub row : (q : ℕ) → q < k → entry t i q ≡ g q
+  pub column : (q : ℕ) → q < k → entry t q i ≡ g q
   pub rest : (p q : ℕ) → p < 32 → q < 32 → (p ≡ i → k ≤ q) → (q ≡ i → k ≤ p) → entry t p q ≡ entry t₀ p q
 
 -- the numerator for a union of two blocks: "the greatest score between the blocks (single) or the sum of scores" (average)

@@ -11,6 +11,7 @@ use Rattle.links.specs.Table.{Small, Weights}
 use Rattle.linkage.specs.Blocks.{blocksOf}
 use Rattle.linkage.specs.Steps.{weight}
 use Rattle.linkage.proofs.Places.{length-mergedAt}
+use Rattle.linkage.proofs.Updates.{own-start}
 use Rattle.linkage.proofs.Choice.{Weighed, weighed-singles, weighed-merged}
 use Rattle.linkage.proofs.Runs.{Run, run-start, run-small, run-weights, run-next, run-end}
 use Rattle.linkage.proofs.merge_all.Statement.{statement}
@@ -43,7 +44,7 @@ unfolding start
 small s =
     let a = start s .args in
     let p = start s .pre in
-    run-small (a .average) (a .n) (score (a .pairs .now)) (score-symm (a .pairs .now)) (s .loop .inv .5) (p .1) (s .loop .blocks .count) (s .loop .inv .2)
+    run-small (a .average) (a .n) (score (a .pairs .now)) (score-symm (a .pairs .now)) (s .loop .inv .5) (p .1) (s .loop .blocks .count) (s .loop .inv .2) (omega (arith, s .loop .inv .0, p .1))
     (λ x y hx hy. p .3 (score (a .pairs .now) x y) (score-element (a .n) (a .pairs .now) (p .2) hx hy))
 
 weights : (s : tie.At-loop Inv-loop μ-loop) → Weights (s .loop .blocks .count) (s .loop .weights)
@@ -65,7 +66,7 @@ fill-requires c κs = let s = c .before .before .before in (s .pre .1, s .pre .2
 loop-holds : tie.Need-loop-holds Inv-loop μ-loop
 loop-holds c = let s = c .before .before .before .before in
     let b = c .before .before .singles in
-    (omega (arith, b .ensures .0), omega (arith, b .ensures .0), ap length (b .ensures .1) ∙ count-singles (s .args .n) ∙ sym (b .ensures .0), refl, weighed-singles (s .args .average) (s .args .n) (s .pre .1) (b .ensures .0) (b .ensures .1), rw (b .ensures .1) (run-start (s .args .average) (s .args .n) (score (s .args .pairs .now)) (s .args .out .now) (c .fill .ensures)))
+    (omega (arith, b .ensures .0), omega (arith, b .ensures .0), ap length (b .ensures .1) ∙ count-singles (s .args .n) ∙ sym (b .ensures .0), refl, weighed-singles (s .args .average) (s .args .n) (s .pre .1) (b .ensures .0) (b .ensures .1), rw (b .ensures .1) (run-start (s .args .average) (s .args .n) (score (s .args .pairs .now)) (s .args .out .now) (c .fill .ensures .0) (own-start (s .args .n) (s .pre .1) (c .fill .ensures .1))))
 
 sub-last : tie.Need-sub-last Inv-loop μ-loop
 sub-last c = search needs
@@ -140,7 +141,7 @@ next c =
     let l = s .loop in
     let a = start s .args in
     run-next (a .average) (a .n) (score (a .pairs .now)) (score-symm (a .pairs .now)) (l .inv .5) (start s .pre .1) (l .blocks .count) (l .inv .2)
-    (l .weights) (l .inv .4) (search-of c .greatest .ensures) (short s) (rw (← l .inv .3) (room (turn c))) (c .before .before .before .join-rows .ensures) (c .before .move-row .ensures)
+    (l .weights) (l .inv .4) (search-of c .greatest .ensures) (short s) (small s) (rw (← l .inv .3) (room (turn c))) (c .before .before .before .join-rows .ensures) (c .before .move-row .ensures)
     (c .merge .ensures .1) (union c)
 
 counted : (c : tie.After-merge Inv-loop μ-loop) → length (blocksOf (c .merge .result)) ≡ c .merge .result .count

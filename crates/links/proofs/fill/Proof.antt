@@ -5,20 +5,20 @@ use native.Mathlib.Omega.{arith}
 use borrow.Author.Needs.{needs}
 use Rattle.clusters.specs.PairList.{rowStart, score}
 use Rattle.clusters.proofs.PairList.{rowStart-suc, row-lt, score-symm}
-use Rattle.links.specs.Table.{Holds}
-use Rattle.links.proofs.Rows.{holds-start, holds-next, holds-all}
+use Rattle.links.specs.Table.{Holds, OwnKept}
+use Rattle.links.proofs.Rows.{holds-start, holds-next, holds-all, own-next}
 use Rattle.links.proofs.fill.Statement.{statement}
 use Rattle.links.proofs.fill.Tie as tie
 
 abbrev Inv-loop : tie.InvT-loop
-Inv-loop pairs n t₀ start₀ a₀ t start a = (a ≤ n) × (start ≡ rowStart a) × (start ≤ a * 32) × Holds a (score pairs) t
+Inv-loop pairs n t₀ start₀ a₀ t start a = (a ≤ n) × (start ≡ rowStart a) × (start ≤ a * 32) × Holds a (score pairs) t × OwnKept t₀ t
 
 abbrev μ-loop : tie.MeasureT-loop
 μ-loop pairs n t₀ start₀ a₀ t start a = n - a
 
 loop-holds : tie.Need-loop-holds Inv-loop μ-loop
 unfolding rowStart
-loop-holds c = (omega arith, refl, omega arith, holds-start _ _ (c .pre .2))
+loop-holds c = (omega arith, refl, omega arith, holds-start _ _ (c .pre .2), record { own = λ a h. refl })
 
 fill-row-requires : tie.Need-fill-row-requires Inv-loop μ-loop
 fill-row-requires c κs = let s = c .before .before .before in
@@ -40,12 +40,12 @@ loop-less c = search needs
 loop-again : tie.Need-loop-again Inv-loop μ-loop
 loop-again c = let s = c .before .before .before in
     let a = s .loop .a in
-    (omega arith, omega (arith, rowStart-suc a, ap rowStart (add-one a)), omega arith, holds-next (score-symm (s .before .args .pairs .now)) (omega arith) (s .loop .inv .3) (c .fill-row .ensures))
+    (omega arith, omega (arith, rowStart-suc a, ap rowStart (add-one a)), omega arith, holds-next (score-symm (s .before .args .pairs .now)) (omega arith) (s .loop .inv .3) (c .fill-row .ensures), own-next (s .loop .inv .4) (c .fill-row .ensures))
 
 returns : tie.Need-returns Inv-loop μ-loop
 returns c = let l = c .before .loop in
     let e : l .a ≡ c .before .before .args .n = omega arith in
-    holds-all (l .inv .3) e
+    (holds-all (l .inv .3) e, l .inv .4)
 
 pub fill-spec : {M : Type 1} → statement M
 fill-spec =

@@ -12,13 +12,13 @@ use Rattle.links.proofs.fill_row.Statement.{statement}
 use Rattle.links.proofs.fill_row.Tie as tie
 
 abbrev Inv-loop : tie.InvT-loop
-Inv-loop pairs a start t₀ b₀ t b = (b ≤ a) × Written a a (score pairs a) b t₀ t
+Inv-loop pairs a start t₀ b₀ t b = (b ≤ a) × Written a (score pairs a) b t₀ t
 
 abbrev μ-loop : tie.MeasureT-loop
 μ-loop pairs a start t₀ b₀ t b = a - b
 
 loop-holds : tie.Need-loop-holds Inv-loop μ-loop
-loop-holds c = (omega arith, written-start _ _ _ _ (c .pre .3))
+loop-holds c = (omega arith, written-start _ _ _ (c .pre .3))
 
 add-wide : tie.Need-add-wide Inv-loop μ-loop
 add-wide c = search needs
