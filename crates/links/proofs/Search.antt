@@ -29,16 +29,15 @@ unfolding _≼_
 pub small-first : {k n : ℕ} {t : List ℤ} → k ≤ n → Small n t → Small k t
 small-first h s = record { size = s .size; within = λ a b ha hb d. s .within a b (omega arith) (omega arith) d; own = λ a ha. s .own a (omega arith) }
 
-module _ (w : List ℕ) (t : List ℤ) where
-  -- the first two places
-  pub found-first : {z : ℤ} {d : ℕ} → z ≡ entry t 1 0 → d ≡ getD w 1 0 * getD w 0 0 → FoundBefore w t (2 * 32) record { i = 0; j = 1; num = z; den = d }
-  found-first e h = record { rising = omega arith; inside = omega arith; num-is = e; den-is = h; most = λ p q l m. only p q l m }
-    where
-      only : (p q : ℕ) → p < q → q * 32 + p < 2 * 32 → quotientAt w t q p ≼ quotientAt w t 1 0
-      only p q l m =
-          let p-is : 0 ≡ p = omega arith in
-          let q-is : 1 ≡ q = omega arith in
-          subst (λ (x : ℕ). quotientAt w t q x ≼ quotientAt w t 1 0) p-is (subst (λ (x : ℕ). quotientAt w t x 0 ≼ quotientAt w t 1 0) q-is (≼-refl (quotientAt w t 1 0)))
+-- the first two places
+pub found-first : (w : List ℕ) (t : List ℤ) {z : ℤ} {d : ℕ} → z ≡ entry t 1 0 → d ≡ getD w 1 0 * getD w 0 0 → FoundBefore w t (2 * 32) record { i = 0; j = 1; num = z; den = d }
+found-first w t e h = record { rising = omega arith; inside = omega arith; num-is = e; den-is = h; most = only }
+  where
+    only : (p q : ℕ) → p < q → q * 32 + p < 2 * 32 → quotientAt w t q p ≼ quotientAt w t 1 0
+    only p q l m =
+        let p-is : 0 ≡ p = omega arith in
+        let q-is : 1 ≡ q = omega arith in
+        subst (λ (x : ℕ). quotientAt w t q x ≼ quotientAt w t 1 0) p-is (subst (λ (x : ℕ). quotientAt w t x 0 ≼ quotientAt w t 1 0) q-is (≼-refl (quotientAt w t 1 0)))
 
 module _ {w : List ℕ} {t : List ℤ} {m : ℕ} {f : Found} (g : FoundBefore w t m f) where
   -- what is computed of it stays far below what 64 bits hold

@@ -58,7 +58,8 @@ quotientAt w t a b = record { num = entry t a b; den = getD w a 0 * getD w b 0 }
 abbrev pub Weights : ℕ → List ℕ → Type 0
 Weights k w = (a : ℕ) → a < k → (1 ≤ getD w a 0) × (getD w a 0 ≤ 32)
 
--- two of the first k places, in rising order, and the link of the blocks there is at least that of any such two
+-- two of the first k places, in rising order, and the link of the blocks there, read in the later one's row, is at least that of
+-- any such two
 pub record GreatestAt (k : ℕ) (link : ℕ → ℕ → Quotient) (i j : ℕ) : Type 0 where
   pub rising : i < j
   pub inside : j < k

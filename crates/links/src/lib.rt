@@ -36,6 +36,7 @@ fn put(t: &mut [i64; 1024], a: usize, b: usize, z: i64)
     t[b * 32 + a] = z;
 }
 
+// Row a of the pair list begins at `start`.
 fn fill_row(pairs: &[i32], a: usize, start: usize, t: &mut [i64; 1024])
     requires { ⌜ (a < 32) × (start ≡ rowStart a) × (start + a < length (now pairs)) × (length (now t) ≡ 1024) ⌝ }
     ensures { λ _. ⌜ Written a (score (now (pairs .entry)) a) a (now (t .entry)) (now (t .exit)) ⌝ }
@@ -89,7 +90,7 @@ pub fn move_row(last: usize, j: usize, t: &mut [i64; 1024])
     }
 }
 
-// Two places of the table, in rising order, and the link of the blocks there.
+// Two places of the table, in rising order, and the link of the blocks there: numerator and denominator.
 pub struct Found {
     pub i: usize,
     pub j: usize,
