@@ -129,7 +129,7 @@ within-sumOf (x ∷ l) f h = within-grow (omega arith) (within-sum (h x (List·M
 
 -- with scores of up to 2 ^ 22, the numerators of the links of 32 entries stay far below what 64 bits hold
 pub link-within : (avg : Bool) (n : ℕ) (s : Similarity) (U W : ℕ) → n ≤ 32 → ((a b : ℕ) → a < n → b < n → Within (2 ^ 22) (s a b)) → Some n U → Some n W
-    → Within (2 ^ 40) (link (linkageOf avg) n s U W .num)
+    → Within (2 ^ 35) (link (linkageOf avg) n s U W .num)
 unfolding link linkageOf size
 link-within true n s U W h k _ _ =
     let hu : size n U ≤ 32 = omega (arith, size-le n U) in

@@ -1,23 +1,47 @@
 -- The table of the links of the blocks left: from the single entries, and through a merge.
 use mathlib.Core.Path.{_≡_, sym, ap, ap₂, _∙_}
-use mathlib.Core.Bool.{Bool}
+use mathlib.Core.Bool.{Bool, true, false}
 use mathlib.Core.Logic.{_≢_}
 use mathlib.Core.List.{List}
-use Prim.Native.Nat.{ℕ, _-_, _^_, _≤_, _<_}
+use Prim.Native.Nat.{ℕ, _+_, _-_, _*_, _^_, _≤_, _<_}
 use native.Mathlib.Decide.{ℕ-discrete}
 use native.Mathlib.Omega.{arith}
-use lib.IntN.{ℤ}
-use lib.ListN.{length, getD}
+use lib.IntN.{ℤ, pos}
+use lib.ListN.{length, getD, replicate, getD-replicate}
 use Rattle.lists.proofs.Lists.{getD-below}
 use Rattle.integers.specs.Range.{Within}
+use Rattle.integers.proofs.Linear.{up, dn}
+use Rattle.integers.proofs.Range.{within, within-grow, within-sum, within-max}
 use Rattle.clusters.specs.PairList.{Similarity, Symmetric}
 use Rattle.clusters.specs.Linkage.{Quotient, link, singles}
 use Rattle.clusters.proofs.Blocks.{Partition}
 use Rattle.clusters.proofs.Links.{link-symm}
-use Rattle.links.specs.Table.{entry, Holds, Small, Written, joined, joinedRow}
+use Rattle.links.specs.Table.{entry, Holds, OwnKept, Small, Written, joined, joinedRow}
 use Rattle.linkage.specs.Blocks.{mergedAt, linkageOf}
 use Rattle.linkage.proofs.Unions.{link-single, link-union, link-within}
 use Rattle.linkage.proofs.Places.{places-apart, some-at, joinedAt, joined-here, joined-other, merged-moved, merged-kept}
+
+-- what stands in the table for a place and itself, which is no link, after k merges
+pub record Own (k c : ℕ) (t : List ℤ) : Type 0 where
+  pub own : (a : ℕ) → a < c → Within (k * 2 ^ 35) (entry t a a)
+
+pub own-start : (n : ℕ) {t : List ℤ} → n ≤ 32 → OwnKept (replicate 1024 (pos 0)) t → Own 0 n t
+unfolding up dn
+own-start n h o = record { own = λ a l. rw (o .own a (omega arith), getD-replicate 1024 (a * 32 + a) (pos 0) (pos 0) (omega arith)) (within (omega arith) (omega arith)) }
+
+joined-within : (avg : Bool) {m : ℕ} {x y : ℤ} → Within m x → Within (2 ^ 35) y → Within (m + 2 ^ 35) (joined avg x y)
+unfolding joined
+joined-within true h l = within-sum h l
+joined-within false h l = within-max (within-grow (omega arith) h) (within-grow (omega arith) l)
+
+pub own-merged : (avg : Bool) (i j : ℕ) {k c : ℕ} → i < j → j < c → c ≤ 32 → {t t₁ t₂ : List ℤ} → Small c t → Own k c t → Written i (joinedRow avg i j t) c t t₁ → Written j (entry t₁ (c - 1)) (c - 1) t₁ t₂ → Own (k + 1) (c - 1) t₂
+unfolding joinedRow
+own-merged avg i j {k} {c} hi hj hc {t} {t₁} {t₂} s o w v = record { own = λ a h. at a h (ℕ-discrete a j) (ℕ-discrete a i) }
+  where
+    at : (a : ℕ) → a < c - 1 → Dec (a ≡ j) → Dec (a ≡ i) → Within ((k + 1) * 2 ^ 35) (entry t₂ a a)
+    at a h (yes e) _ = rw (e, v .row j (omega arith), w .rest (c - 1) j (omega arith) (omega arith) (λ r. omega arith) (λ r. omega arith)) (within-grow (omega arith) (s .within (c - 1) j (omega arith) hj (λ r. omega arith)))
+    at a h (no d) (yes e) = rw (e, v .rest i i (omega arith) (omega arith) (λ r. omega arith) (λ r. omega arith), w .row i (omega arith)) (within-grow (omega arith) (joined-within avg (o .own i (omega arith)) (s .within j i hj (omega arith) (λ r. omega arith))))
+    at a h (no d) (no f) = rw (v .rest a a (omega arith) (omega arith) (λ r. absurd (d r)) (λ r. absurd (d r)), w .rest a a (omega arith) (omega arith) (λ r. absurd (f r)) (λ r. absurd (f r))) (within-grow (omega arith) (o .own a (omega arith)))
 
 -- the numerators of the links of the blocks at two places
 unfoldable pub numerators : Bool → ℕ → Similarity → List ℕ → ℕ → ℕ → ℤ
@@ -32,11 +56,12 @@ holds-singles avg n s h = record {
 }
 
 module _ (avg : Bool) (n : ℕ) (s : Similarity) {bs : List ℕ} (p : Partition n bs) {t : List ℤ} (h : Holds (length bs) (numerators avg n s bs) t) where
-  pub holds-small : n ≤ 32 → ((a b : ℕ) → a < n → b < n → Within (2 ^ 22) (s a b)) → Small (length bs) t
+  pub holds-small : n ≤ 32 → ((a b : ℕ) → a < n → b < n → Within (2 ^ 22) (s a b)) → {m : ℕ} → m ≤ 32 → Own m (length bs) t → Small (length bs) t
   unfolding numerators
-  holds-small l k = record {
+  holds-small l k few o = record {
     size = h .size;
     within = λ a b ha hb d. rw (h .is a b ha hb d) (link-within avg n s (getD bs a 0) (getD bs b 0) l k (some-at p a ha) (some-at p b hb));
+    own = λ a ha. within-grow (omega arith) (o .own a ha);
   }
 
 module _ (avg : Bool) (n : ℕ) (s : Similarity) (symm : Symmetric s) where
@@ -57,7 +82,7 @@ module _ (avg : Bool) (n : ℕ) (s : Similarity) (symm : Symmetric s) where
     unfolding numerators
     other-pair a b d e = sym (ap₂ (λ U W. link (linkageOf avg) n s U W .num) (joined-other i j bs hi hj a d) (joined-other i j bs hi hj b e))
 
-    module _ {t t₁ : List ℤ} (h : Holds (length bs) (numerators avg n s bs) t) (w : Written i j (joinedRow avg i j t) (length bs) t t₁) where
+    module _ {t t₁ : List ℤ} (h : Holds (length bs) (numerators avg n s bs) t) (w : Written i (joinedRow avg i j t) (length bs) t t₁) where
       -- once row and column i are written, all but those of j are right
       joined-links : (a b : ℕ) → a < length bs → b < length bs → a ≢ b → a ≢ j → b ≢ j → entry t₁ a b ≡ numerators avg n s (joinedAt i j bs) a b
       joined-links a b ha hb d da db = go (ℕ-discrete a i) (ℕ-discrete b i)
@@ -65,13 +90,13 @@ module _ (avg : Bool) (n : ℕ) (s : Similarity) (symm : Symmetric s) where
           go : Dec (a ≡ i) → Dec (b ≡ i) → entry t₁ a b ≡ numerators avg n s (joinedAt i j bs) a b
           go (yes e) _ =
               let f : b ≢ i = λ r. d (e ∙ sym r) in
-              ap (λ (x : ℕ). entry t₁ x b) e ∙ w .row b hb f db ∙ union-row h b hb f db ∙ ap (λ (x : ℕ). numerators avg n s (joinedAt i j bs) x b) (sym e)
+              ap (λ (x : ℕ). entry t₁ x b) e ∙ w .row b hb ∙ union-row h b hb f db ∙ ap (λ (x : ℕ). numerators avg n s (joinedAt i j bs) x b) (sym e)
           go (no f) (yes e) =
-              ap (λ (x : ℕ). entry t₁ a x) e ∙ w .column a ha f da ∙ union-row h a ha f da ∙ numerators-symm (joinedAt i j bs) i a ∙ ap (numerators avg n s (joinedAt i j bs) a) (sym e)
+              ap (λ (x : ℕ). entry t₁ a x) e ∙ w .column a ha ∙ union-row h a ha f da ∙ numerators-symm (joinedAt i j bs) i a ∙ ap (numerators avg n s (joinedAt i j bs) a) (sym e)
           go (no f) (no g) = w .rest a b (omega arith) (omega arith) (λ r. absurd (f r)) (λ r. absurd (g r)) ∙ h .is a b ha hb d ∙ other-pair a b f g
 
       -- once those of the last block are written at j, all are
-      pub holds-merged : {t₂ : List ℤ} → Written j (length bs - 1) (entry t₁ (length bs - 1)) (length bs - 1) t₁ t₂ → Holds (length bs - 1) (numerators avg n s (mergedAt i j bs)) t₂
+      pub holds-merged : {t₂ : List ℤ} → Written j (entry t₁ (length bs - 1)) (length bs - 1) t₁ t₂ → Holds (length bs - 1) (numerators avg n s (mergedAt i j bs)) t₂
       unfolding numerators
       holds-merged {t₂} v = record { size = v .size; is = λ a b ha hb d. go a b ha hb d (ℕ-discrete a j) (ℕ-discrete b j) }
         where
@@ -84,10 +109,10 @@ module _ (avg : Bool) (n : ℕ) (s : Similarity) (symm : Symmetric s) where
           go : (a b : ℕ) → a < k → b < k → a ≢ b → Dec (a ≡ j) → Dec (b ≡ j) → entry t₂ a b ≡ numerators avg n s (mergedAt i j bs) a b
           go a b ha hb d (yes e) _ =
               let f : b ≢ j = λ r. d (e ∙ sym r) in
-              ap (λ (x : ℕ). entry t₂ x b) e ∙ v .row b hb f (λ r. omega arith) ∙ joined-links k b (omega arith) (omega arith) (λ r. omega arith) (λ r. omega arith) f
+              ap (λ (x : ℕ). entry t₂ x b) e ∙ v .row b hb ∙ joined-links k b (omega arith) (omega arith) (λ r. omega arith) (λ r. omega arith) f
               ∙ sym (ap₂ num (merged-moved i j bs hi hj (omega arith)) (merged-kept i j bs hi hj b hb f)) ∙ ap (λ (x : ℕ). numerators avg n s (mergedAt i j bs) x b) (sym e)
           go a b ha hb d (no f) (yes e) =
-              ap (λ (x : ℕ). entry t₂ a x) e ∙ v .column a ha f (λ r. omega arith) ∙ joined-links k a (omega arith) (omega arith) (λ r. omega arith) (λ r. omega arith) f
+              ap (λ (x : ℕ). entry t₂ a x) e ∙ v .column a ha ∙ joined-links k a (omega arith) (omega arith) (λ r. omega arith) (λ r. omega arith) f
               ∙ sym (ap₂ num (merged-moved i j bs hi hj (omega arith)) (merged-kept i j bs hi hj a ha f)) ∙ numerators-symm (mergedAt i j bs) j a ∙ ap (numerators avg n s (mergedAt i j bs) a) (sym e)
           go a b ha hb d (no f) (no g) =
               v .rest a b (omega arith) (omega arith) (λ r. absurd (f r)) (λ r. absurd (g r)) ∙ joined-links a b (omega arith) (omega arith) d f g

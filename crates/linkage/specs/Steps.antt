@@ -2,9 +2,9 @@
 use mathlib.Core.Path.{_≡_}
 use mathlib.Core.Bool.{Bool, cond}
 use mathlib.Core.List.{List, _++_}
-use Prim.Native.Nat.{ℕ, _-_, _<_}
+use Prim.Native.Nat.{ℕ, _-_}
 use lib.IntN.{ℤ}
-use lib.ListN.{getD, drop}
+use lib.ListN.{drop}
 use Rattle.sets.specs.Sets.{size}
 use Rattle.clusters.specs.PairList.{score}
 use Rattle.clusters.specs.Linkage.{Linkage, Tree, mergedBlocks}
@@ -12,10 +12,6 @@ use Rattle.clusters.specs.Linkage.{Linkage, Tree, mergedBlocks}
 -- the weight of a block, its share in the denominators of its links: "divided by the product of the sizes (average)"
 unfoldable pub weight : Bool → ℕ → ℕ
 weight average A = cond average (size 32 A) 1
-
--- the weights of the first k blocks
-abbrev pub Weighed : Bool → ℕ → List ℕ → List ℕ → Type 0
-Weighed average k bs w = (a : ℕ) → a < k → getD w a 0 ≡ weight average (getD bs a 0)
 
 -- "A linkage call writes the n − 1 merged blocks in the order of merging", of some tree; the slots beyond stay
 pub record Merged (linkage : Linkage) (n : ℕ) (l : List ℤ) (lent after : List ℕ) : Type 0 where

@@ -2,12 +2,12 @@
 use answers::Answer;
 ghost use mathlib.Core.Path.{_≡_};
 ghost use Prim.Native.Nat.{_-_, _^_, _<_, _≤_};
-ghost use lib.ListN.{length};
+ghost use lib.ListN.{length, getD, set};
 ghost use Rattle.integers.specs.Range.{Bounded};
 ghost use Rattle.clusters.specs.PairList.{rowStart};
 ghost use Rattle.clusters.specs.Linkage.{single, average, singles};
 ghost use Rattle.linkage.specs.Blocks.{blocksOf, mergedAt, linkageOf};
-ghost use Rattle.linkage.specs.Steps.{weight, Weighed, Merged};
+ghost use Rattle.linkage.specs.Steps.{weight, Merged};
 ghost use Rattle.linkage.specs.Calls.{Linked};
 
 // "The blocks of a linkage number at most 32": the first `count` of the sets.
@@ -51,15 +51,13 @@ fn weight(average: bool, set: u32) -> usize
     if average { sets::size(set) } else { 1 }
 }
 
-fn weights(average: bool, blocks: Blocks) -> [usize; 32]
-    requires { ⌜ blocks .count ≤ 32 ⌝ }
-    ensures { λ r. ⌜ Weighed average (blocks .count) (blocksOf blocks) r ⌝ }
+// The weights of the blocks that remain: the union's at the first's place, the last block's at the second's.
+fn merge_weights(weights: &mut [usize; 32], union: usize, i: usize, j: usize, last: usize)
+    requires { ⌜ (i < 32) × (j < 32) × (last < 32) ⌝ }
+    ensures { λ _. ⌜ now (weights .exit) ≡ set (set (now (weights .entry)) i union) j (getD (set (now (weights .entry)) i union) last 0) ⌝ }
 {
-    let mut found = [0usize; 32];
-    for i in 0..blocks.count {
-        found[i] = weight(average, blocks.sets[i]);
-    }
-    found
+    weights[i] = union;
+    weights[j] = weights[last];
 }
 
 // All merges of a tree: each merged block goes into the next slot.
@@ -68,17 +66,21 @@ pub fn merge_all(average: bool, n: usize, pairs: &[i32], out: &mut [u32])
     ensures { λ _. ⌜ Merged (linkageOf average) n (now (pairs .entry)) (now (out .entry)) (now (out .exit)) ⌝ }
 {
     let mut blocks = Blocks::singles(n);
+    let mut weights = [1usize; 32];
     let mut table = [0i64; 1024];
     links::fill(pairs, n, &mut table);
     let mut k = 0;
     while 1 < blocks.count {
-        let w = weights(average, blocks);
-        let found = links::greatest(blocks.count, &w, &table);
+        let last = blocks.count - 1;
+        let found = links::greatest(blocks.count, &weights, &table);
         let i = found.i;
-        links::join_rows(average, blocks.count, i, found.j, &mut table);
-        links::move_row(blocks.count - 1, found.j, &mut table);
-        blocks = blocks.merge(i, found.j);
-        out[k] = blocks.sets[i];
+        let j = found.j;
+        links::join_rows(average, blocks.count, i, j, &mut table);
+        links::move_row(last, j, &mut table);
+        blocks = blocks.merge(i, j);
+        let union = blocks.sets[i];
+        merge_weights(&mut weights, weight(average, union), i, j, last);
+        out[k] = union;
         k += 1;
     }
 }

@@ -5,12 +5,12 @@ use mathlib.Core.Bool.{Bool, cond}
 use mathlib.Core.Logic.{_≢_}
 use mathlib.Core.List.{List}
 use Prim.Native.Nat.{ℕ, _+_, _*_, _^_, _≤_, _<_}
-use lib.IntN.{ℤ, pos, _+ℤ_, _*ℤ_}
-use lib.Signed.{leZ}
+use lib.IntN.{ℤ, pos, _+ℤ_}
 use lib.ListN.{length, getD, set}
 use Rattle.integers.specs.Integers.{maxZ}
 use Rattle.integers.specs.Range.{Within}
 use Rattle.clusters.specs.Linkage.{Quotient, _≼_}
+use Rattle.links.specs.declared.Found.{Found}
 
 -- what the table has for the blocks at the places a and b
 abbrev pub entry : List ℤ → ℕ → ℕ → ℤ
@@ -25,16 +25,21 @@ pub record Holds (k : ℕ) (f : ℕ → ℕ → ℤ) (t : List ℤ) : Type 0 whe
   pub size : length t ≡ 1024
   pub is : (a b : ℕ) → a < k → b < k → a ≢ b → entry t a b ≡ f a b
 
--- what it has for any two of the first k places is of bounded size
+-- what stands for a place and itself, which is no link, is as it was
+pub record OwnKept (t₀ t : List ℤ) : Type 0 where
+  pub own : (a : ℕ) → a < 32 → entry t a a ≡ entry t₀ a a
+
+-- what it has for any two of the first k places is of bounded size, and so is what stands for a place and itself
 pub record Small (k : ℕ) (t : List ℤ) : Type 0 where
   pub size : length t ≡ 1024
-  pub within : (a b : ℕ) → a < k → b < k → a ≢ b → Within (2 ^ 40) (entry t a b)
+  pub within : (a b : ℕ) → a < k → b < k → a ≢ b → Within (2 ^ 35) (entry t a b)
+  pub own : (a : ℕ) → a < k → Within (2 ^ 40) (entry t a a)
 
--- in row i and column i, the first k numbers have become those of g, but for the places i and j; the rest stands
-pub record Written (i j : ℕ) (g : ℕ → ℤ) (k : ℕ) (t₀ t : List ℤ) : Type 0 where
+-- in row i and column i, the first k numbers have become those of g; the rest stands
+pub record Written (i : ℕ) (g : ℕ → ℤ) (k : ℕ) (t₀ t : List ℤ) : Type 0 where
   pub size : length t ≡ 1024
-  pub row : (q : ℕ) → q < k → q ≢ i → q ≢ j → entry t i q ≡ g q
-  pub column : (q : ℕ) → q < k → q ≢ i → q ≢ j → entry t q i ≡ g q
+  pub row : (q : ℕ) → q < k → entry t i q ≡ g q
+  pub column : (q : ℕ) → q < k → entry t q i ≡ g q
   pub rest : (p q : ℕ) → p < 32 → q < 32 → (p ≡ i → k ≤ q) → (q ≡ i → k ≤ p) → entry t p q ≡ entry t₀ p q
 
 -- the numerator for a union of two blocks: "the greatest score between the blocks (single) or the sum of scores" (average)
@@ -49,29 +54,21 @@ joinedRow average i j t q = joined average (entry t i q) (entry t j q)
 unfoldable pub quotientAt : List ℕ → List ℤ → ℕ → ℕ → Quotient
 quotientAt w t a b = record { num = entry t a b; den = getD w a 0 * getD w b 0 }
 
--- the test of the order of links
-unfoldable pub atMost : Quotient → Quotient → Bool
-atMost p q = leZ (pos (q .den) *ℤ p .num) (pos (p .den) *ℤ q .num)
-
 -- the weights of the first k places
 abbrev pub Weights : ℕ → List ℕ → Type 0
 Weights k w = (a : ℕ) → a < k → (1 ≤ getD w a 0) × (getD w a 0 ≤ 32)
 
--- the link at a and b is in the table, and what is computed of it stays far below what 64 bits hold
-pub record Readable (w : List ℕ) (t : List ℤ) (a b : ℕ) : Type 0 where
-  pub row : a < 32
-  pub column : b < 32
-  pub light : (getD w a 0 ≤ 32) × (getD w b 0 ≤ 32)
-  pub within : Within (2 ^ 40) (entry t a b)
-
--- two of the first k places, in rising order, and the link of the blocks there is at least that of any such two
+-- two of the first k places, in rising order, and the link of the blocks there, read in the later one's row, is at least that of
+-- any such two
 pub record GreatestAt (k : ℕ) (link : ℕ → ℕ → Quotient) (i j : ℕ) : Type 0 where
   pub rising : i < j
   pub inside : j < k
-  pub most : (p q : ℕ) → p < q → q < k → link p q ≼ link i j
+  pub most : (p q : ℕ) → p < q → q < k → link q p ≼ link j i
 
--- of those that stand before the place m of the table
-pub record GreatestBefore (k : ℕ) (link : ℕ → ℕ → Quotient) (m i j : ℕ) : Type 0 where
-  pub rising : i < j
-  pub inside : j < k
-  pub most : (p q : ℕ) → p < q → q < k → p * 32 + q < m → link p q ≼ link i j
+-- of those that stand before the place m of the table: what was found
+pub record FoundBefore (w : List ℕ) (t : List ℤ) (m : ℕ) (f : Found) : Type 0 where
+  pub rising : f .i < f .j
+  pub inside : f .j * 32 + f .i < m
+  pub num-is : f .num ≡ entry t (f .j) (f .i)
+  pub den-is : f .den ≡ getD w (f .j) 0 * getD w (f .i) 0
+  pub most : (p q : ℕ) → p < q → q * 32 + p < m → quotientAt w t q p ≼ quotientAt w t (f .j) (f .i)

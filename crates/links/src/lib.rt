@@ -2,25 +2,22 @@
 // for the greatest.
 ghost use mathlib.Core.Path.{_≡_};
 ghost use Prim.Native.Nat.{_+_, _*_, _^_, _<_, _≤_};
-ghost use lib.IntN.{pos, _*ℤ_};
-ghost use lib.Signed.{leZ};
-ghost use lib.ListN.{length, getD};
+ghost use lib.ListN.{length};
 ghost use Rattle.integers.specs.Range.{Within};
-ghost use Rattle.clusters.specs.PairList.{rowStart, place, score};
+ghost use Rattle.clusters.specs.PairList.{rowStart, score};
 ghost use Rattle.links.specs.Table.{
   entry,
   stored,
   Holds,
+  OwnKept,
   Small,
   Written,
   joined,
   joinedRow,
   quotientAt,
-  atMost,
   Weights,
-  Readable,
   GreatestAt,
-  GreatestBefore,
+  FoundBefore,
 };
 
 fn get(t: &[i64; 1024], a: usize, b: usize) -> i64
@@ -39,22 +36,25 @@ fn put(t: &mut [i64; 1024], a: usize, b: usize, z: i64)
     t[b * 32 + a] = z;
 }
 
-fn fill_row(pairs: &[i32], a: usize, t: &mut [i64; 1024])
-    requires { ⌜ (a < 32) × (place a a < length (now pairs)) × (length (now t) ≡ 1024) ⌝ }
-    ensures { λ _. ⌜ Written a a (score (now (pairs .entry)) a) a (now (t .entry)) (now (t .exit)) ⌝ }
+// Row a of the pair list begins at `start`.
+fn fill_row(pairs: &[i32], a: usize, start: usize, t: &mut [i64; 1024])
+    requires { ⌜ (a < 32) × (start ≡ rowStart a) × (start + a < length (now pairs)) × (length (now t) ≡ 1024) ⌝ }
+    ensures { λ _. ⌜ Written a (score (now (pairs .entry)) a) a (now (t .entry)) (now (t .exit)) ⌝ }
 {
     for b in 0..a {
-        put(t, a, b, matrix::score(pairs, a, b));
+        put(t, a, b, integers::wide(pairs[start + b]));
     }
 }
 
 // The links of the single entries: the scores.
 pub fn fill(pairs: &[i32], n: usize, t: &mut [i64; 1024])
     requires { ⌜ (n ≤ 32) × (length (now pairs) ≡ rowStart n) × (length (now t) ≡ 1024) ⌝ }
-    ensures { λ _. ⌜ Holds n (score (now (pairs .entry))) (now (t .exit)) ⌝ }
+    ensures { λ _. ⌜ Holds n (score (now (pairs .entry))) (now (t .exit)) × OwnKept (now (t .entry)) (now (t .exit)) ⌝ }
 {
+    let mut start = 0;
     for a in 0..n {
-        fill_row(pairs, a, t);
+        fill_row(pairs, a, start, t);
+        start += a + 1;
     }
 }
 
@@ -69,18 +69,13 @@ fn join(average: bool, x: i64, y: i64) -> i64
     }
 }
 
-// The links of the union of the blocks at i and j to all others, put at i.
+// The links of the union of the blocks at i and j to all others, put at i. No test leaves out i and j: what comes to stand there
+// is no link.
 pub fn join_rows(average: bool, count: usize, i: usize, j: usize, t: &mut [i64; 1024])
     requires { ⌜ (i < j) × (j < count) × (count ≤ 32) × Small count (now t) ⌝ }
-    ensures { λ _. ⌜ Written i j (joinedRow average i j (now (t .entry))) count (now (t .entry)) (now (t .exit)) ⌝ }
+    ensures { λ _. ⌜ Written i (joinedRow average i j (now (t .entry))) count (now (t .entry)) (now (t .exit)) ⌝ }
 {
     for q in 0..count {
-        if q == i {
-            continue;
-        }
-        if q == j {
-            continue;
-        }
         put(t, i, q, join(average, get(t, i, q), get(t, j, q)));
     }
 }
@@ -88,76 +83,60 @@ pub fn join_rows(average: bool, count: usize, i: usize, j: usize, t: &mut [i64; 
 // The links of the last block to all others, put at j.
 pub fn move_row(last: usize, j: usize, t: &mut [i64; 1024])
     requires { ⌜ (j ≤ last) × (last < 32) × (length (now t) ≡ 1024) ⌝ }
-    ensures { λ _. ⌜ Written j last (entry (now (t .entry)) last) last (now (t .entry)) (now (t .exit)) ⌝ }
+    ensures { λ _. ⌜ Written j (entry (now (t .entry)) last) last (now (t .entry)) (now (t .exit)) ⌝ }
 {
     for q in 0..last {
         put(t, j, q, get(t, last, q));
     }
 }
 
-// x / c is at most y / d.
-fn is_quotient_at_most(x: i64, c: usize, y: i64, d: usize) -> bool
-    requires { ⌜ (c ≤ 1024) × (d ≤ 1024) × Within (2 ^ 40) x × Within (2 ^ 40) y ⌝ }
-    ensures { λ r. ⌜ r ≡ leZ (pos d *ℤ x) (pos c *ℤ y) ⌝ }
-{
-    integers::at_most(integers::times(d, x), integers::times(c, y))
-}
-
-fn denominator(weights: &[usize; 32], a: usize, b: usize) -> usize
-    requires { ⌜ (a < 32) × (b < 32) × (getD (now weights) a 0 ≤ 32) × (getD (now weights) b 0 ≤ 32) ⌝ }
-    ensures { λ r. ⌜ (r ≡ getD (now (weights .entry)) a 0 * getD (now (weights .entry)) b 0) × (r ≤ 1024) ⌝ }
-{
-    weights[a] * weights[b]
-}
-
-// Two places of the table.
-pub struct Pair {
+// Two places of the table, in rising order, and the link of the blocks there: numerator and denominator.
+pub struct Found {
     pub i: usize,
     pub j: usize,
+    pub num: i64,
+    pub den: usize,
 }
 
-// The link at p is at most that at q.
-fn is_at_most(weights: &[usize; 32], t: &[i64; 1024], p: Pair, q: Pair) -> bool
-    requires { ⌜ Readable (now weights) (now t) (p .i) (p .j) × Readable (now weights) (now t) (q .i) (q .j) ⌝ }
-    ensures { λ r. ⌜ r ≡ atMost (quotientAt (now (weights .entry)) (now (t .entry)) (p .i) (p .j)) (quotientAt (now (weights .entry)) (now (t .entry)) (q .i) (q .j)) ⌝ }
+// The greatest of what was found before and the links at j and an earlier place. The weight at j is common to those: `scaled` is
+// what it makes of the numerator found.
+fn greatest_in_row(weights: &[usize; 32], t: &[i64; 1024], j: usize, found: Found) -> Found
+    requires { ⌜ (j < 32) × Small (j + 1) (now t) × Weights (j + 1) (now weights) × FoundBefore (now weights) (now t) (j * 32) found ⌝ }
+    ensures { λ r. ⌜ FoundBefore (now (weights .entry)) (now (t .entry)) ((j + 1) * 32) r ⌝ }
 {
-    is_quotient_at_most(
-        get(t, p.i, p.j),
-        denominator(weights, p.i, p.j),
-        get(t, q.i, q.j),
-        denominator(weights, q.i, q.j),
-    )
-}
-
-// The greatest of what was found before and the links at i and a later place.
-fn greatest_in_row(
-    count: usize,
-    weights: &[usize; 32],
-    t: &[i64; 1024],
-    i: usize,
-    found: Pair,
-) -> Pair
-    requires { ⌜ (i < count) × (count ≤ 32) × Small count (now t) × Weights count (now weights) × GreatestBefore count (quotientAt (now weights) (now t)) (i * 32) (found .i) (found .j) ⌝ }
-    ensures { λ r. ⌜ GreatestBefore count (quotientAt (now (weights .entry)) (now (t .entry))) ((i + 1) * 32) (r .i) (r .j) ⌝ }
-{
+    let own = weights[j];
     let mut best = found;
-    for j in i + 1..count {
-        if is_at_most(weights, t, Pair { i, j }, best) {
+    let mut scaled = integers::times(own, found.num);
+    for i in 0..j {
+        let num = get(t, j, i);
+        let other = weights[i];
+        let left = integers::times(best.den, num);
+        let right = integers::times(other, scaled);
+        if integers::at_most(left, right) {
             continue;
         }
-        best = Pair { i, j };
+        let den = own * other;
+        best = Found { i, j, num, den };
+        scaled = integers::times(own, num);
     }
     best
 }
 
 // The places of two blocks with the greatest link.
-pub fn greatest(count: usize, weights: &[usize; 32], t: &[i64; 1024]) -> Pair
+pub fn greatest(count: usize, weights: &[usize; 32], t: &[i64; 1024]) -> Found
     requires { ⌜ (2 ≤ count) × (count ≤ 32) × Small count (now t) × Weights count (now weights) ⌝ }
     ensures { λ r. ⌜ GreatestAt count (quotientAt (now (weights .entry)) (now (t .entry))) (r .i) (r .j) ⌝ }
 {
-    let mut best = Pair { i: 0, j: 1 };
-    for i in 0..count {
-        best = greatest_in_row(count, weights, t, i, best);
+    let num = get(t, 1, 0);
+    let den = weights[1] * weights[0];
+    let mut best = Found {
+        i: 0,
+        j: 1,
+        num,
+        den,
+    };
+    for j in 2..count {
+        best = greatest_in_row(weights, t, j, best);
     }
     best
 }

@@ -1,28 +1,36 @@
-use mathlib.Core.Path.{_≡_}
+use mathlib.Core.Path.{_≡_, _∙_}
 use Prim.Native.Nat.{_≤_, _-_}
 use native.Mathlib.Omega.{arith}
-use borrow.Author.Needs.{needs}
+use borrow.Author.Needs.{needs, sfits-of}
+use mir.Facts.{toZ-ofZ}
 use mir.Syntax.{w64}
 use Rattle.integers.proofs.Held.{passed}
 use Rattle.clusters.specs.PairList.{score}
 use Rattle.links.specs.Table.{Written}
-use Rattle.links.proofs.Rows.{written-start, written-next, written-all, place-rises}
+use Rattle.links.proofs.Rows.{written-start, written-next, written-all, score-row}
 use Rattle.links.proofs.fill_row.Statement.{statement}
 use Rattle.links.proofs.fill_row.Tie as tie
 
 abbrev Inv-loop : tie.InvT-loop
-Inv-loop pairs a t₀ b₀ t b = (b ≤ a) × Written a a (score pairs a) b t₀ t
+Inv-loop pairs a start t₀ b₀ t b = (b ≤ a) × Written a (score pairs a) b t₀ t
 
 abbrev μ-loop : tie.MeasureT-loop
-μ-loop pairs a t₀ b₀ t b = a - b
+μ-loop pairs a start t₀ b₀ t b = a - b
 
 loop-holds : tie.Need-loop-holds Inv-loop μ-loop
-loop-holds c = (omega arith, written-start _ _ _ _ (c .pre .2))
+loop-holds c = (omega arith, written-start _ _ _ (c .pre .3))
 
-score-requires : tie.Need-score-requires Inv-loop μ-loop
-score-requires c κs = let s = c .before .before .before in
-    let b = c .before .before .loop .b in
-    (omega arith, omega arith, omega (arith, place-rises (s .args .a) b (omega arith)))
+add-wide : tie.Need-add-wide Inv-loop μ-loop
+add-wide c = search needs
+
+mul-wide : tie.Need-mul-wide Inv-loop μ-loop
+mul-wide c = search needs
+
+shared-slice-copy-out-wide : tie.Need-shared-slice-copy-out-wide Inv-loop μ-loop
+shared-slice-copy-out-wide c = search needs
+
+wide-requires : tie.Need-wide-requires Inv-loop μ-loop
+wide-requires c κs = search needs
 
 put-requires : tie.Need-put-requires Inv-loop μ-loop
 put-requires c κs = search needs
@@ -34,8 +42,11 @@ loop-less : tie.Need-loop-less Inv-loop μ-loop
 loop-less c = search needs
 
 loop-again : tie.Need-loop-again Inv-loop μ-loop
-loop-again c = let l = c .before .before .before .before .loop in
-    (omega arith, rw (c .put .ensures) (written-next (l .inv .1) (passed w64 (c .before .score .ok) (c .before .score .ensures)) (omega arith) (omega arith)))
+loop-again c = let s = c .before .before .before .before .before in
+    let a = s .before .args in
+    let w = c .before .wide in
+    let e : w .result ≡ score (a .pairs .now) (a .a) (s .loop .b) = w .ensures ∙ toZ-ofZ (sfits-of (c .before .before .wide-arg .given)) ∙ score-row (a .pairs .now) (s .loop .b) (s .before .pre .1) (omega arith) in
+    (omega arith, rw (c .put .ensures) (written-next (s .loop .inv .1) (passed w64 (w .ok) e) (omega arith) (omega arith)))
 
 returns : tie.Need-returns Inv-loop μ-loop
 returns c = let l = c .before .loop in
@@ -49,7 +60,10 @@ fill-row-spec =
     Inv-loop
     μ-loop
     loop-holds
-    score-requires
+    add-wide
+    mul-wide
+    shared-slice-copy-out-wide
+    wide-requires
     put-requires
     add-b
     loop-less

@@ -1,62 +1,39 @@
-use mathlib.Core.Path.{_≡_, sym, _∙_, ap₂}
-use mathlib.Core.Logic.{inl, inr}
-use Prim.Native.Nat.{ℕ, _<_, _≤_, _-_}
+use mathlib.Core.Path.{_≡_, _∙_, ap₂}
+use Prim.Native.Nat.{_≤_, _-_}
 use native.Mathlib.Omega.{arith}
 use borrow.Author.Needs.{needs}
 use mir.Syntax.{w64}
 use mir.Val.{ofZ, toZ}
 use Rattle.integers.proofs.Held.{passed}
 use Rattle.links.specs.Table.{entry, joined, joinedRow, Written}
-use Rattle.links.proofs.Rows.{written-start, written-left, written-skip, written-next, written-all}
+use Rattle.links.proofs.Rows.{written-start, written-left, written-next, written-all, small-any}
 use Rattle.links.proofs.join_rows.Statement.{statement}
 use Rattle.links.proofs.join_rows.Tie as tie
 
 abbrev Inv-loop : tie.InvT-loop
-Inv-loop average count i j t₀ q₀ t q = (q ≤ count) × Written i j (joinedRow average i j t₀) q t₀ t
+Inv-loop average count i j t₀ q₀ t q = (q ≤ count) × Written i (joinedRow average i j t₀) q t₀ t
 
 abbrev μ-loop : tie.MeasureT-loop
 μ-loop average count i j t₀ q₀ t q = count - q
 
 -- where the loop's turn and the function began, and what the two reads gave
 at-loop : tie.After-get2 Inv-loop μ-loop → tie.At-loop Inv-loop μ-loop
-at-loop c = c .before .before .before .before .before .before .before .before
+at-loop c = c .before .before .before .before .before .before
 
 start : tie.After-get2 Inv-loop μ-loop → tie.Start Inv-loop μ-loop
 start c = at-loop c .before
 
--- row p has not been written yet at the place that is next
-unwritten : (c : tie.After-get2 Inv-loop μ-loop) (p : ℕ) → p < 32 → entry (at-loop c .loop .t) p (at-loop c .loop .q) ≡ entry (start c .args .t .now) p (at-loop c .loop .q)
-unfolding at-loop start
-unwritten c p h = written-left (at-loop c .loop .inv .1) p h (omega arith) (λ e. absurd (c .before .before .before .before .before .before .if1 .left e))
-
 first : (c : tie.After-get2 Inv-loop μ-loop) → toZ w64 (ofZ w64 (c .before .before .get .result)) ≡ entry (start c .args .t .now) (start c .args .i) (at-loop c .loop .q)
 unfolding at-loop start
-first c = passed w64 (c .before .before .get .ok) (c .before .before .get .ensures ∙ unwritten c (start c .args .i) (omega arith))
+first c = let g = c .before .before .get in
+    passed w64 (g .ok) (g .ensures ∙ written-left (at-loop c .loop .inv .1) (start c .args .i) (omega arith) (omega arith) (omega arith))
 
 second : (c : tie.After-get2 Inv-loop μ-loop) → toZ w64 (ofZ w64 (c .get2 .result)) ≡ entry (start c .args .t .now) (start c .args .j) (at-loop c .loop .q)
 unfolding at-loop start
-second c = passed w64 (c .get2 .ok) (c .get2 .ensures ∙ unwritten c (start c .args .j) (omega arith))
+second c = passed w64 (c .get2 .ok) (c .get2 .ensures ∙ written-left (at-loop c .loop .inv .1) (start c .args .j) (omega arith) (omega arith) (omega arith))
 
 loop-holds : tie.Need-loop-holds Inv-loop μ-loop
-loop-holds c = (omega arith, written-start _ _ _ _ (c .pre .3 .size))
-
-add-q : tie.Need-add-q Inv-loop μ-loop
-add-q c = search needs
-
-loop-less : tie.Need-loop-less Inv-loop μ-loop
-loop-less c = search needs
-
-loop-again : tie.Need-loop-again Inv-loop μ-loop
-loop-again c = (omega arith, written-skip (c .before .before .loop .inv .1) (inl (c .if1 .taken)))
-
-add-q-2 : tie.Need-add-q-2 Inv-loop μ-loop
-add-q-2 c = search needs
-
-loop-less-2 : tie.Need-loop-less-2 Inv-loop μ-loop
-loop-less-2 c = search needs
-
-loop-again-2 : tie.Need-loop-again-2 Inv-loop μ-loop
-loop-again-2 c = (omega arith, written-skip (c .before .before .before .loop .inv .1) (inr (c .if2 .taken)))
+loop-holds c = (omega arith, written-start _ _ _ (c .pre .3 .size))
 
 get-requires : tie.Need-get-requires Inv-loop μ-loop
 get-requires c κs = search needs
@@ -68,21 +45,20 @@ join-requires : tie.Need-join-requires Inv-loop μ-loop
 unfolding at-loop start
 join-requires c κs = let s = start c in
     let p = at-loop c .loop .q in
-    let h : p < s .args .count = omega arith in
-    rw (first c, second c) (s .pre .3 .within (s .args .i) p (search needs) h (λ e. c .before .before .before .before .before .before .if1 .left (sym e)), s .pre .3 .within (s .args .j) p (search needs) h (λ e. c .before .before .before .before .before .if2 .left (sym e)))
+    rw (first c, second c) (small-any (s .pre .3) (s .args .i) p (omega arith) (omega arith), small-any (s .pre .3) (s .args .j) p (search needs) (omega arith))
 
 put-requires : tie.Need-put-requires Inv-loop μ-loop
 put-requires c κs = search needs
 
-add-q-3 : tie.Need-add-q-3 Inv-loop μ-loop
-add-q-3 c = search needs
+add-q : tie.Need-add-q Inv-loop μ-loop
+add-q c = search needs
 
-loop-less-3 : tie.Need-loop-less-3 Inv-loop μ-loop
-loop-less-3 c = search needs
+loop-less : tie.Need-loop-less Inv-loop μ-loop
+loop-less c = search needs
 
-loop-again-3 : tie.Need-loop-again-3 Inv-loop μ-loop
+loop-again : tie.Need-loop-again Inv-loop μ-loop
 unfolding at-loop start joinedRow
-loop-again-3 c = let d = c .before .before in
+loop-again c = let d = c .before .before in
     (omega arith, rw (c .put .ensures) (written-next (at-loop d .loop .inv .1) (passed w64 (c .before .join .ok) (c .before .join .ensures ∙ ap₂ (joined (start d .args .average)) (first d) (second d))) (omega arith) (omega arith)))
 
 returns : tie.Need-returns Inv-loop μ-loop
@@ -97,17 +73,11 @@ join-rows-spec =
     Inv-loop
     μ-loop
     loop-holds
-    add-q
-    loop-less
-    loop-again
-    add-q-2
-    loop-less-2
-    loop-again-2
     get-requires
     get-requires-2
     join-requires
     put-requires
-    add-q-3
-    loop-less-3
-    loop-again-3
+    add-q
+    loop-less
+    loop-again
     returns)

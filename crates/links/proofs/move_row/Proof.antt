@@ -10,13 +10,13 @@ use Rattle.links.proofs.move_row.Statement.{statement}
 use Rattle.links.proofs.move_row.Tie as tie
 
 abbrev Inv-loop : tie.InvT-loop
-Inv-loop last j t₀ q₀ t q = (q ≤ last) × Written j last (entry t₀ last) q t₀ t
+Inv-loop last j t₀ q₀ t q = (q ≤ last) × Written j (entry t₀ last) q t₀ t
 
 abbrev μ-loop : tie.MeasureT-loop
 μ-loop last j t₀ q₀ t q = last - q
 
 loop-holds : tie.Need-loop-holds Inv-loop μ-loop
-loop-holds c = (omega arith, written-start _ _ _ _ (c .pre .2))
+loop-holds c = (omega arith, written-start _ _ _ (c .pre .2))
 
 get-requires : tie.Need-get-requires Inv-loop μ-loop
 get-requires c κs = search needs
@@ -34,7 +34,7 @@ loop-again : tie.Need-loop-again Inv-loop μ-loop
 loop-again c = let s = c .before .before .before .before .before in
     let l = s .loop in
     let a = s .before .args in
-    (omega arith, rw (c .put .ensures) (written-next (l .inv .1) (passed w64 (c .before .get .ok) (c .before .get .ensures ∙ written-left (l .inv .1) (a .last) (search needs) (omega arith) (λ _. omega arith))) (omega arith) (omega arith)))
+    (omega arith, rw (c .put .ensures) (written-next (l .inv .1) (passed w64 (c .before .get .ok) (c .before .get .ensures ∙ written-left (l .inv .1) (a .last) (search needs) (omega arith) (search needs))) (omega arith) (omega arith)))
 
 returns : tie.Need-returns Inv-loop μ-loop
 returns c = let l = c .before .loop in
