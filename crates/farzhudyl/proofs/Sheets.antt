@@ -26,21 +26,6 @@ use Rattle.reader.specs.Answer as read
 use Rattle.reader.proofs.Answers.{hit, skip, number-is, entries-is, passes-few, pairs-length, slots-pairs}
 use Rattle.farzhudyl.specs.Calls.{sheetGroups, sheetListing, sheetCallChecks, sheetRefusal, pairsListing, pairsRefusal}
 
--- no number is 0
-abbrev numbered : List (ℕ × Bool) → Bool
-numbered l = all (λ c. not (eqb (c .0) 0)) l
-
--- two tables, one behind the other
-first-append : (l m : List (ℕ × Bool)) → T (numbered l) → firstOf (l ++ m) ≡ cond (eqb (firstOf l) 0) (firstOf m) (firstOf l)
-unfolding firstOf all
-first-append [] m t = refl
-first-append (c ∷ l) m t = go (c .0) (c .1) (and-T (not (eqb (c .0) 0)) (numbered l) t) (first-append l m)
-  where
-    go : (k : ℕ) (b : Bool) → T (not (eqb k 0)) × T (numbered l) → (T (numbered l) → firstOf (l ++ m) ≡ cond (eqb (firstOf l) 0) (firstOf m) (firstOf l))
-        → cond b k (firstOf (l ++ m)) ≡ cond (eqb (cond b k (firstOf l)) 0) (firstOf m) (cond b k (firstOf l))
-    go k true (h, t) ih = rw (ne-eqb k 0 (eqb-no k 0 h))
-    go k false (h, t) ih = ih t
-
 -- the call's checks: check 1, then the sheet's, then the pair list's
 module _ (kind : ℤ) (s : List ℕ) (room : ℕ) where
   wrong-kind : wrongKind kind ≡ true → 1 ≡ sheetRefusal kind s room

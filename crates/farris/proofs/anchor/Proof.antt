@@ -5,7 +5,7 @@ use borrow.Author.Needs.{needs}
 use lib.ListN.{length}
 use Rattle.clusters.specs.PairList.{score}
 use Rattle.clusters.specs.Farris.{farris, anchoredScores}
-use Rattle.farris.proofs.Rows.{Rows, rows-none, rows-row, rows-all}
+use Rattle.clusters.proofs.Rows.{Rows, rows-none, rows-row, rows-all}
 use Rattle.farris.proofs.anchor.Statement.{statement}
 use Rattle.farris.proofs.anchor.Tie as tie
 

@@ -5,8 +5,8 @@ use Prim.Native.Nat.{ℕ}
 use borrow.Author.Needs.{needs}
 use Rattle.clusters.specs.PairList.{hasLength, inRange, areDistances}
 use Rattle.clusters.specs.Refusals.{wrongCount}
+use Rattle.clusters.proofs.Refusals.{gives, first-yes, first-no, no-more, right-count, right-length}
 use Rattle.farris.specs.Calls.{anchoredChecks, anchoredRefusal}
-use Rattle.farris.proofs.Refusals.{gives, first-yes, first-no, no-more, right-count, right-length}
 use Rattle.farris.proofs.anchored_refusal.Statement.{statement}
 use Rattle.farris.proofs.anchored_refusal.Tie as tie
 

@@ -5,7 +5,7 @@ use borrow.Author.Needs.{needs}
 use lib.ListN.{length}
 use Rattle.clusters.specs.PairList.{score}
 use Rattle.clusters.specs.Farris.{unfarris, distancesBack}
-use Rattle.farris.proofs.Rows.{Rows, rows-none, rows-row, rows-all}
+use Rattle.clusters.proofs.Rows.{Rows, rows-none, rows-row, rows-all}
 use Rattle.farris.proofs.back.Statement.{statement}
 use Rattle.farris.proofs.back.Tie as tie
 

@@ -4,10 +4,12 @@ use mathlib.Core.List.{List}
 use Prim.Native.Nat.{ℕ}
 use borrow.Author.Needs.{needs}
 use lib.Dec.{leb, ltb}
+use Rattle.lists.proofs.Tests.{or-first, or-second}
 use Rattle.clusters.specs.PairList.{rowStart, hasLength}
 use Rattle.clusters.specs.Refusals.{wrongCount}
+use Rattle.clusters.proofs.Refusals.{gives, first-yes, first-no, no-more, right-count, right-length}
 use Rattle.farris.specs.Calls.{backChecks, backRefusal}
-use Rattle.farris.proofs.Refusals.{gives, first-yes, first-no, no-more, or-first, or-second, right-count, right-length, in-place}
+use Rattle.farris.proofs.Refusals.{in-place}
 use Rattle.farris.proofs.back_refusal.Statement.{statement}
 use Rattle.farris.proofs.back_refusal.Tie as tie
 
