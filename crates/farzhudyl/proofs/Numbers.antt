@@ -12,7 +12,7 @@ use Rattle.lists.specs.Lists.{_∈_, all}
 use Rattle.lists.proofs.Lists.{all-in}
 use Rattle.lists.proofs.Tests.{T-false}
 use Rattle.clusters.specs.PairList.{inRange}
-use Rattle.clusters.specs.Refusals.{firstOf, wrongCount, kindOf}
+use Rattle.clusters.specs.Refusals.{wrongCount, kindOf}
 use Rattle.clusters.proofs.Refusals.{first-none, first-le, right-count}
 use Rattle.linkage.proofs.Answered.{in-range-bounded}
 use Rattle.answers.specs.Answers.{numberOf, countOf, answer}
