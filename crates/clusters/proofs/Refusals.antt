@@ -18,8 +18,8 @@ use Rattle.clusters.specs.Refusals.{firstOf, none, Given, wrongCount}
 pub record Gives (l : List (ℕ × Bool)) (r : ℕ) : Type 0 where
   pub is : r ≡ firstOf l
 
-pub gives : (l : List (ℕ × Bool)) {r : ℕ} → Gives l r → r ≡ firstOf l
-gives l g = g .is
+pub gives : {l : List (ℕ × Bool)} {r : ℕ} → Gives l r → r ≡ firstOf l
+gives g = g .is
 
 pub first-yes : {k : ℕ} {b : Bool} {l : List (ℕ × Bool)} → b ≡ true → Gives ((k, b) ∷ l) k
 unfolding firstOf

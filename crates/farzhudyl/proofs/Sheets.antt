@@ -30,11 +30,11 @@ use Rattle.farzhudyl.specs.Calls.{sheetGroups, sheetListing, sheetCallCh
 module _ (kind : ℤ) (s : List ℕ) (room : ℕ) where
   wrong-kind : wrongKind kind ≡ true → 1 ≡ sheetRefusal kind s room
   unfolding sheetRefusal sheetCallChecks
-  wrong-kind e = gives _ (first-yes e)
+  wrong-kind e = gives (first-yes e)
 
   right-kind : wrongKind kind ≡ false → sheetRefusal kind s room ≡ cond (eqb (firstOf (sheetChecks s)) 0) (pairsRefusal kind (entries s) (pairs s) room) (firstOf (sheetChecks s))
   unfolding sheetRefusal sheetCallChecks sheetListing sheetGroups pairsRefusal pairsListing sheetChecks all
-  right-kind e = sym (gives _ (first-no e (record { is = sym (first-append (sheetChecks s) _ tt) })))
+  right-kind e = sym (gives (first-no e (record { is = sym (first-append (sheetChecks s) _ tt) })))
 
 -- the entries and the pair list of a sheet that was read
 module _ (s : List ℕ) {n : ℕ} (e : reading s ≡ Entries n) where

@@ -26,7 +26,7 @@ is-wrong-count-requires c κs = search needs
 
 returns : tie.Need-returns
 unfolding anchoredRefusal anchoredChecks
-returns c = gives _ (first-yes (sym (c .before .is-wrong-count .ensures) ∙ c .if1 .taken))
+returns c = gives (first-yes (sym (c .before .is-wrong-count .ensures) ∙ c .if1 .taken))
 
 has-length-requires : tie.Need-has-length-requires
 has-length-requires c κs = right-count _ (passed-6 c)
@@ -34,7 +34,7 @@ has-length-requires c κs = right-count _ (passed-6 c)
 returns-2 : tie.Need-returns-2
 unfolding anchoredRefusal anchoredChecks
 returns-2 c = let p = c .before .before in
-    gives _ (first-no (passed-6 p) (first-yes (ap not (sym (c .before .has-length .ensures)) ∙ c .if2 .taken)))
+    gives (first-no (passed-6 p) (first-yes (ap not (sym (c .before .has-length .ensures)) ∙ c .if2 .taken)))
 
 in-range-requires : tie.Need-in-range-requires
 in-range-requires c κs = search needs
@@ -42,7 +42,7 @@ in-range-requires c κs = search needs
 returns-3 : tie.Need-returns-3
 unfolding anchoredRefusal anchoredChecks
 returns-3 c = let q = c .before .before in let p = q .before .before in
-    gives _ (first-no (passed-6 p) (first-no (passed-10 q) (first-yes (ap not (sym (c .before .in-range .ensures)) ∙ c .if3 .taken))))
+    gives (first-no (passed-6 p) (first-no (passed-10 q) (first-yes (ap not (sym (c .before .in-range .ensures)) ∙ c .if3 .taken))))
 
 are-distances-requires : tie.Need-are-distances-requires
 are-distances-requires c κs = let q = c .before .before in (right-count _ (passed-6 (q .before .before)), right-length _ _ (passed-10 q))
@@ -50,7 +50,7 @@ are-distances-requires c κs = let q = c .before .before in (right-count _ (pass
 returns-4 : tie.Need-returns-4
 unfolding anchoredRefusal anchoredChecks
 returns-4 c = let r = c .before .before in let q = r .before .before in let p = q .before .before in
-    gives _ (first-no (passed-6 p) (first-no (passed-10 q) (first-no (passed-11 r) (first-yes (ap not (sym (c .before .are-distances .ensures)) ∙ c .if4 .taken)))))
+    gives (first-no (passed-6 p) (first-no (passed-10 q) (first-no (passed-11 r) (first-yes (ap not (sym (c .before .are-distances .ensures)) ∙ c .if4 .taken)))))
 
 is-out-of-place-requires : tie.Need-is-out-of-place-requires
 is-out-of-place-requires c κs = right-count _ (passed-6 (c .before .before .before .before .before .before))
@@ -58,12 +58,12 @@ is-out-of-place-requires c κs = right-count _ (passed-6 (c .before .before .bef
 returns-5 : tie.Need-returns-5
 unfolding anchoredRefusal anchoredChecks
 returns-5 c = let t = c .before .before in let r = t .before .before in let q = r .before .before in let p = q .before .before in
-    gives _ (first-no (passed-6 p) (first-no (passed-10 q) (first-no (passed-11 r) (first-no (passed-12 t) (first-yes (sym (c .before .is-out-of-place .ensures) ∙ c .if5 .taken))))))
+    gives (first-no (passed-6 p) (first-no (passed-10 q) (first-no (passed-11 r) (first-no (passed-12 t) (first-yes (sym (c .before .is-out-of-place .ensures) ∙ c .if5 .taken))))))
 
 returns-6 : tie.Need-returns-6
 unfolding anchoredRefusal anchoredChecks
 returns-6 c = let t = c .before .before in let r = t .before .before in let q = r .before .before in let p = q .before .before in
-    gives _ (first-no (passed-6 p) (first-no (passed-10 q) (first-no (passed-11 r) (first-no (passed-12 t) (first-no (sym (c .before .is-out-of-place .ensures) ∙ c .if5 .left) no-more)))))
+    gives (first-no (passed-6 p) (first-no (passed-10 q) (first-no (passed-11 r) (first-no (passed-12 t) (first-no (sym (c .before .is-out-of-place .ensures) ∙ c .if5 .left) no-more)))))
 
 pub anchored-refusal-spec : {M : Type 1} → statement M
 anchored-refusal-spec =

@@ -51,7 +51,7 @@ in-range-requires c κs = search needs
 
 returns : tie.Need-returns
 unfolding pairsRefusal
-returns c = let s = c .before .before .before in refused (length (text s)) (text s) (s .args .out .now) (gives _ (first-yes (ap not (sym (c .before .in-range .ensures)) ∙ c .if1 .taken))) (λ z. omega arith)
+returns c = let s = c .before .before .before in refused (length (text s)) (text s) (s .args .out .now) (gives (first-yes (ap not (sym (c .before .in-range .ensures)) ∙ c .if1 .taken))) (λ z. omega arith)
 
 are-wrong-distances-requires : tie.Need-are-wrong-distances-requires
 are-wrong-distances-requires c κs = search needs
@@ -59,7 +59,7 @@ are-wrong-distances-requires c κs = search needs
 returns-2 : tie.Need-returns-2
 unfolding pairsRefusal
 returns-2 c = let s = c .before .before .before .before .before in
-    refused (length (text s)) (text s) (s .args .out .now) (gives _ (first-no (passed-11 (c .before .before)) (first-yes (asked-12 (c .before) (c .if2 .taken))))) (λ z. omega arith)
+    refused (length (text s)) (text s) (s .args .out .now) (gives (first-no (passed-11 (c .before .before)) (first-yes (asked-12 (c .before) (c .if2 .taken))))) (λ z. omega arith)
 
 find-requires : tie.Need-find-requires
 find-requires c κs = let s = c .before .before .before .before .before in record { some = s .pre .0; few = s .pre .1; long = s .pre .2; range = true-T (not-false (inRange _) (passed-11 (c .before .before))) }
@@ -80,7 +80,7 @@ returns-3 : tie.Need-returns-3
 unfolding pairsRefusal
 returns-3 c = let w = c .before .before in let f = w .before .before .before .before .before .before in let s = f .before .before .before .before .before .before in
     let h : length (s .args .out .now) < length (text s) = omega (arith, wrote w .0, c .if3 .taken) in
-    refused (length (text s)) (text s) (s .args .out .now) (gives _ (first-no (passed-11 (f .before .before .before)) (first-no (asked-12 (f .before .before) (f .before .if2 .left)) (first-yes (lt-ltb _ _ h))))) (λ z. omega arith)
+    refused (length (text s)) (text s) (s .args .out .now) (gives (first-no (passed-11 (f .before .before .before)) (first-no (asked-12 (f .before .before) (f .before .if2 .left)) (first-yes (lt-ltb _ _ h))))) (λ z. omega arith)
 
 array-share-prefix-text : tie.Need-array-share-prefix-text
 array-share-prefix-text c = let w = c .before .before in omega (arith, long w, length-take (w .write .result) (w .write .last .0))
@@ -98,7 +98,7 @@ returns-4 : tie.Need-returns-4
 unfolding pairsRefusal
 returns-4 c = let o = c .before .before in let w = o .before .before .before .before .before in let f = w .before .before .before .before .before .before in let s = f .before .before .before .before .before .before in
     let h : length (text s) ≤ length (s .args .out .now) = omega (arith, wrote w .0, o .before .before .before .if3 .left) in
-    counted (length (text s)) (text s) (s .args .out .now) (gives _ (first-no (passed-11 (f .before .before .before)) (first-no (asked-12 (f .before .before) (f .before .if2 .left)) (first-no (le-ltb _ _ h) no-more)))) refl (wrote w .0) refl
+    counted (length (text s)) (text s) (s .args .out .now) (gives (first-no (passed-11 (f .before .before .before)) (first-no (asked-12 (f .before .before) (f .before .if2 .left)) (first-no (le-ltb _ _ h) no-more)))) refl (wrote w .0) refl
     (copied (s .args .out .now) (wrote w .1) (o .copy .ensures .1))
 
 pub list-pairs-spec : {M : Type 1} → statement M
