@@ -10,11 +10,11 @@ use lib.Dec.{T}
 use lib.ListN.{length}
 use Rattle.lists.specs.Lists.{_∈_, all}
 use Rattle.lists.proofs.Lists.{all-in}
-use Rattle.lists.proofs.Tests.{T-false}
+use Rattle.lists.proofs.Tests.{T-false, true-T}
 use Rattle.clusters.specs.PairList.{inRange}
 use Rattle.clusters.specs.Refusals.{wrongCount, kindOf}
 use Rattle.clusters.proofs.Refusals.{first-none, first-le, right-count}
-use Rattle.linkage.proofs.Answered.{in-range-bounded}
+use Rattle.matrix.proofs.Scores.{range-bounded}
 use Rattle.answers.specs.Answers.{numberOf, countOf, answer}
 use Rattle.answers.proofs.Answers.{number-answer}
 use Rattle.sheet.specs.Sheet.{entries, pairs}
@@ -41,7 +41,7 @@ module _ (kind : ℤ) (s : List ℕ) (room : ℕ) where
   unfolding sheetCallChecks sheetListing sheetGroups
   length-le e = listing-room (kindOf kind) (entries s) (pairs s)
       (right-count (entries s) (T-false (passes e {c = (6, wrongCount (entries s))} (List·Memᴰ·tail (List·Memᴰ·tail (List·Memᴰ·tail (List·Memᴰ·tail (List·Memᴰ·tail (List·Memᴰ·head refl)))))))))
-      (in-range-bounded (pairs s) (not-false (inRange (pairs s)) (T-false (passes e {c = (11, not (inRange (pairs s)))} (List·Memᴰ·tail (List·Memᴰ·tail (List·Memᴰ·tail (List·Memᴰ·tail (List·Memᴰ·tail (List·Memᴰ·tail (List·Memᴰ·tail (List·Memᴰ·tail (List·Memᴰ·tail (List·Memᴰ·head refl))))))))))))))
+      (range-bounded (pairs s) (true-T (not-false (inRange (pairs s)) (T-false (passes e {c = (11, not (inRange (pairs s)))} (List·Memᴰ·tail (List·Memᴰ·tail (List·Memᴰ·tail (List·Memᴰ·tail (List·Memᴰ·tail (List·Memᴰ·tail (List·Memᴰ·tail (List·Memᴰ·tail (List·Memᴰ·tail (List·Memᴰ·head refl)))))))))))))))
 
   pub count-le : countOf (answer (sheetRefusal kind s room) (length (sheetListing kind s))) ≤ 1379
   count-le = count-most (sheetRefusal kind s room) length-le

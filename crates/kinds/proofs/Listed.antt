@@ -11,13 +11,11 @@ use mir.Facts.{toZ-ofZ}
 use mir.Syntax.{w32}
 use mir.Val.{SFits, ofZ, toZ}
 use Rattle.integers.specs.Integers.{eqZ}
-use Rattle.integers.proofs.Range.{within-grow, within-equal}
 use Rattle.sets.specs.Sets.{size}
 use Rattle.sets.proofs.Sizes.{size-wide}
 use Rattle.clusters.specs.Groups.{Kind, strong, clean, splits, proper, speaksOf}
 use Rattle.clusters.proofs.Groups.{leastSize, speaks-size}
-use Rattle.clusters.proofs.PairList.{element-score}
-use Rattle.matrix.proofs.Scores.{score-within}
+use Rattle.matrix.proofs.Scores.{range-bounded}
 use Rattle.indices.specs.Asked.{Scores, Proper}
 use Rattle.kinds.specs.Checked.{Checked}
 
@@ -41,7 +39,7 @@ pub checked-scores : {n : ℕ} {l : List ℤ} → Checked n l → Scores n l
 checked-scores {n} {l} c = record {
   few = c .few;
   long = c .long;
-  small = λ z m. let (a, b, _, _, e) = element-score n l (c .long) m in within-grow (omega arith) (within-equal e (score-within l a b (c .range)));
+  small = range-bounded l (c .range);
 }
 
 pub spoken : (n A : ℕ) → A < 2 ^ n → (kind : Kind) → T (speaksOf kind n A) → Proper n A

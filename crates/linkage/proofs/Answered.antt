@@ -1,19 +1,12 @@
 -- What a linkage call answers, by its checks.
 use mathlib.Core.Path.{_≡_, refl}
-use mathlib.Core.Bool.{true, _&&_}
 use mathlib.Core.List.{List, []}
-use Prim.Native.Nat.{ℕ, suc, _-_, _^_}
+use Prim.Native.Nat.{ℕ, suc, _-_}
 use native.Mathlib.Omega.{arith}
-use lib.Dec.{lit≤}
-use lib.IntN.{ℤ, pos, negℤ}
+use lib.IntN.{ℤ}
 use lib.ListN.{length, length-map}
-use lib.Signed.{leZ, leZ-yes}
-use Rattle.lists.proofs.Tests.{and-T, true-T}
-use Rattle.lists.proofs.Lists.{all-in}
-use Rattle.integers.specs.Range.{Bounded}
-use Rattle.integers.proofs.Range.{within-grow}
 use Rattle.sets.specs.Sets.{_∪_}
-use Rattle.clusters.specs.PairList.{score, inRange}
+use Rattle.clusters.specs.PairList.{score}
 use Rattle.clusters.specs.Linkage.{Linkage, mergedBlocks}
 use Rattle.clusters.proofs.Exists.{tree-length}
 use Rattle.clusters.proofs.Refusals.{Gives}
@@ -35,10 +28,3 @@ module _ {linkage : Linkage} {n : ℕ} {l : List ℤ} {lent : List ℕ} where
       let long : length (mergedBlocks (m .merges)) ≡ n - 1 = omega (arith, length-map (m .merges) (λ x. x .0 ∪ x .1), tree-length linkage n (score l) (m .merges) (m .tree)) in
       let (a, w) = ways.counted (n - 1) (mergedBlocks (m .merges)) lent (g .is) refl refl long (m .written) in
       record { answered = a; merges = m .merges; tree = λ _. m .tree; written = w }
-
--- scores in range are within 2 ^ 22
-pub in-range-bounded : (l : List ℤ) → inRange l ≡ true → Bounded (2 ^ 22) l
-unfolding inRange
-in-range-bounded l e z m =
-    let t = and-T (leZ (negℤ (pos 1000000)) z) (leZ z (pos 1000000)) (all-in (λ v. leZ (negℤ (pos 1000000)) v && leZ v (pos 1000000)) l (true-T e) m) in
-    within-grow {j = 1000000} (lit≤ tt) (record { top = leZ-yes (t .1); low = leZ-yes (t .0) })

@@ -3,11 +3,13 @@ use mathlib.Core.Bool.{false, not}
 use native.Mathlib.Omega.{arith}
 use borrow.Author.Needs.{needs}
 use borrow.Author.Tests.{eq-eqb, ne-eqb, lt-ltb, le-ltb, not-false}
+use Rattle.lists.proofs.Tests.{true-T}
 use Rattle.clusters.specs.PairList.{hasLength, inRange}
 use Rattle.clusters.specs.Refusals.{wrongCount}
 use Rattle.clusters.proofs.Refusals.{first-yes, first-no, no-more, right-length}
+use Rattle.matrix.proofs.Scores.{range-bounded}
 use Rattle.linkage.specs.Calls.{linkageChecks}
-use Rattle.linkage.proofs.Answered.{in-range-bounded, refused, accepted}
+use Rattle.linkage.proofs.Answered.{refused, accepted}
 use Rattle.linkage.proofs.linkage.Statement.{statement}
 use Rattle.linkage.proofs.linkage.Tie as tie
 
@@ -55,7 +57,7 @@ returns-5 c = let e = c .before in let d = e .before .before in
 
 merge-all-requires : tie.Need-merge-all-requires
 merge-all-requires c κs = let e = c .before .before in let d = e .before .before in
-    (omega arith, omega arith, right-length _ _ (passed-10 d), in-range-bounded _ (not-false _ (passed-11 e)), omega arith)
+    (omega arith, omega arith, right-length _ _ (passed-10 d), range-bounded _ (true-T (not-false (inRange _) (passed-11 e))), omega arith)
 
 sub-t7 : tie.Need-sub-t7
 sub-t7 c = search needs
