@@ -7,6 +7,7 @@ use Rattle.clusters.specs.PairList.{rowStart, score, inRange}
 use Rattle.clusters.specs.Farris.{unfarris, distancesBack}
 use Rattle.clusters.proofs.PairList.{length-pairList}
 use Rattle.answers.proofs.WaysOut.{refused, counted}
+use Rattle.farris.specs.Ways.{converted, Convertible}
 use Rattle.farris.proofs.Refusals.{back-passes}
 use Rattle.farris.proofs.distances_back.Statement.{statement}
 use Rattle.farris.proofs.distances_back.Tie as tie
@@ -26,17 +27,18 @@ returns c = let a = c .before .before .args in
 pair-count-requires : tie.Need-pair-count-requires
 pair-count-requires c κs = passes c .0
 
-back-requires : tie.Need-back-requires
-back-requires c κs = passes (c .before .before)
+convert-requires : tie.Need-convert-requires
+unfolding Convertible
+convert-requires c κs = passes (c .before .before)
 
 same-length : tie.Need-same-length
 same-length c = search needs
 
 returns-2 : tie.Need-returns-2
-unfolding distancesBack
+unfolding distancesBack converted
 returns-2 c = let m = c .before .before .before in let e = m .before in let a = e .before .before .args in
     counted (rowStart (a .n)) (distancesBack (a .n) (a .scores .now)) (a .out .now) (e .before .back-refusal .ensures) (e .if1 .left)
-    (m .pair-count .ensures) (length-pairList (a .n) (unfarris (score (a .scores .now)))) (c .before .back .ensures)
+    (m .pair-count .ensures) (length-pairList (a .n) (unfarris (score (a .scores .now)))) (c .before .convert .ensures)
 
 pub distances-back-spec : {M : Type 1} → statement M
 distances-back-spec =
@@ -45,6 +47,6 @@ distances-back-spec =
     back-refusal-requires
     returns
     pair-count-requires
-    back-requires
+    convert-requires
     same-length
     returns-2)
