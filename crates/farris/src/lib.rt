@@ -92,6 +92,20 @@ pub fn anchor(n: usize, x: usize, pairs: &[i32], out: &mut [i32])
     convert(Way::Anchored(x), n, pairs, out);
 }
 
+// The answer of either call whose table gives this number; if that is 0, the list is converted.
+fn answered(refusal: usize, way: Way, n: usize, pairs: &[i32], out: &mut [i32]) -> Answer
+    requires { ⌜ (refusal ≡ 0 → (n ≤ 32) × (length (now pairs) ≡ rowStart n) × Convertible way n (now pairs) × (rowStart n ≤ length (now out))) ⌝ }
+    ensures { λ r. ⌜ r ≡ answer refusal (rowStart n) ⌝ }
+    ensures { λ _. ⌜ now (out .exit) ≡ slots refusal (pairList n (converted way (score (now (pairs .entry))))) (now (out .entry)) ⌝ }
+{
+    if refusal != 0 {
+        return Answer::Refused(refusal);
+    }
+    let count = matrix::pair_count(n);
+    convert(way, n, pairs, out);
+    Answer::Count(count)
+}
+
 // Check 6.
 pub fn is_wrong_count(n: usize) -> bool
     ensures { λ r. ⌜ r ≡ wrongCount n ⌝ }
@@ -141,12 +155,7 @@ pub fn anchored_scores(n: usize, x: usize, pairs: &[i32], out: &mut [i32]) -> An
     ensures { λ _. ⌜ now (out .exit) ≡ slots (anchoredRefusal n x (now (pairs .entry)) (length (now (out .entry)))) (anchoredScores n x (now (pairs .entry))) (now (out .entry)) ⌝ }
 {
     let refusal = anchored_refusal(n, x, pairs, out.len());
-    if refusal != 0 {
-        return Answer::Refused(refusal);
-    }
-    let count = matrix::pair_count(n);
-    anchor(n, x, pairs, out);
-    Answer::Count(count)
+    answered(refusal, Way::Anchored(x), n, pairs, out)
 }
 
 // What 11 and 12 ask of one distance.
@@ -237,10 +246,5 @@ pub fn distances_back(n: usize, x: usize, scores: &[i32], out: &mut [i32]) -> An
     ensures { λ _. ⌜ now (out .exit) ≡ slots (backRefusal n x (now (scores .entry)) (length (now (out .entry)))) (distancesBack n (now (scores .entry))) (now (out .entry)) ⌝ }
 {
     let refusal = back_refusal(n, x, scores, out.len());
-    if refusal != 0 {
-        return Answer::Refused(refusal);
-    }
-    let count = matrix::pair_count(n);
-    convert(Way::Back, n, scores, out);
-    Answer::Count(count)
+    answered(refusal, Way::Back, n, scores, out)
 }
