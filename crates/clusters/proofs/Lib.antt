@@ -1,5 +1,6 @@
 pub mod Bench
 pub mod PairList
+pub mod Rows
 pub mod Strong
 pub mod Groups
 pub mod Farris

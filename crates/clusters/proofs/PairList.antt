@@ -2,7 +2,7 @@
 use mathlib.Core.Path.{_≡_, refl, sym, ap, ap₂, _∙_, subst}
 use mathlib.Core.List.{List, _++_, map}
 use Prim.Native.Nat.{ℕ, zero, suc, _+_, _-_, _*_, _≤_, _<_}
-use native.Mathlib.Nat.{max-comm, min-comm, max-eq-left, min-eq-right}
+use native.Mathlib.Nat.{max-comm, min-comm, max-eq-left, min-eq-right, mul-le-mul}
 use native.Mathlib.Decide.{ℕ-discrete, decLe, decLt}
 use native.Mathlib.Omega.{arith}
 use lib.IntN.{ℤ, pos}
@@ -20,6 +20,10 @@ twice-rowStart (suc i) = omega (arith, twice-rowStart i)
 
 pub rowStart-suc : (i : ℕ) → rowStart (suc i) ≡ rowStart i + suc i
 rowStart-suc i = omega (arith, twice-rowStart i, twice-rowStart (suc i))
+
+pub rowStart-le : (n : ℕ) → n ≤ 32 → rowStart n ≤ 528
+unfolding rowStart
+rowStart-le n h = let k : n + 1 ≤ 33 = omega arith in omega (arith, mul-le-mul h k)
 
 -- the place of a pair with b ≤ a, and that it is in the list
 pub place-row : (a b : ℕ) → b ≤ a → place a b ≡ rowStart a + b

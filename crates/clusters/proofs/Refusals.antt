@@ -1,14 +1,64 @@
--- "Each number is given if and only if its line holds and none before it does."
+-- A table of checks. "Each number is given if and only if its line holds and none before it does."
 use mathlib.Core.Path.{_≡_, refl, ap, _∙_}
 use mathlib.Core.Bool.{Bool, true, false, not, cond, _&&_}
 use mathlib.Core.Logic.{_↔_}
 use mathlib.Core.List.{List, [], _∷_, _++_}
-use Prim.Native.Nat.{ℕ, _<_}
+use Prim.Native.Nat.{ℕ, _≤_, _<_}
 use native.Mathlib.Omega.{arith}
-use lib.Dec.{T, eqb}
+use borrow.Author.Tests.{eqb-true, eqb-false, ltb-false, ne-eqb, not-false}
+use lib.Dec.{T, eqb, leb, ltb, leb→le}
+use lib.IntN.{ℤ}
+use lib.ListN.{length}
 use Rattle.lists.specs.Lists.{all}
-use Rattle.lists.proofs.Tests.{and-T, eqb-no}
-use Rattle.clusters.specs.Refusals.{firstOf, none, Given}
+use Rattle.lists.proofs.Tests.{and-T, cond-elim, eqb-no, or-none}
+use Rattle.clusters.specs.PairList.{rowStart, hasLength}
+use Rattle.clusters.specs.Refusals.{firstOf, none, Given, wrongCount}
+
+-- down the table l, which gives r
+pub record Gives (l : List (ℕ × Bool)) (r : ℕ) : Type 0 where
+  pub is : r ≡ firstOf l
+
+pub gives : {l : List (ℕ × Bool)} {r : ℕ} → Gives l r → r ≡ firstOf l
+gives g = g .is
+
+pub first-yes : {k : ℕ} {b : Bool} {l : List (ℕ × Bool)} → b ≡ true → Gives ((k, b) ∷ l) k
+unfolding firstOf
+first-yes e = record { is = rw e }
+
+pub first-no : {k r : ℕ} {b : Bool} {l : List (ℕ × Bool)} → b ≡ false → Gives l r → Gives ((k, b) ∷ l) r
+unfolding firstOf
+first-no e g = record { is = rw e (g .is) }
+
+pub no-more : Gives [] 0
+unfolding firstOf
+no-more = record { is = refl }
+
+-- a table that gives 0, read backwards
+pub no-first : (k : ℕ) (b : Bool) (l : List (ℕ × Bool)) → 0 < k → firstOf ((k, b) ∷ l) ≡ 0 → (b ≡ false) × (firstOf l ≡ 0)
+unfolding firstOf
+no-first k true l h e = absurd (omega arith)
+no-first k false l h e = (refl, e)
+
+-- the number given is one of the table's, or 0
+pub first-le : (k : ℕ) (checks : List (ℕ × Bool)) → T (all (λ c. leb (c .0) k) checks) → firstOf checks ≤ k
+unfolding firstOf all
+first-le k [] t = omega arith
+first-le k (c ∷ checks) t =
+    let (h, r) = and-T (leb (c .0) k) (all (λ c. leb (c .0) k) checks) t in
+    cond-elim (c .1) (c .0) (firstOf checks) (λ (j : ℕ). j ≤ k) (λ _. leb→le (c .0) k h) (λ _. first-le k checks r)
+
+-- what checks 6 and 10 leave
+pub some-count : (n : ℕ) → wrongCount n ≡ false → 1 ≤ n
+unfolding wrongCount
+some-count n e = let f = eqb-false n 0 (or-none (eqb n 0) (ltb 32 n) e .0) in omega arith
+
+pub right-count : (n : ℕ) → wrongCount n ≡ false → n ≤ 32
+unfolding wrongCount
+right-count n e = ltb-false 32 n (or-none (eqb n 0) (ltb 32 n) e .1)
+
+pub right-length : (n : ℕ) (l : List ℤ) → not (hasLength n l) ≡ false → length l ≡ rowStart n
+unfolding hasLength
+right-length n l e = eqb-true (length l) (rowStart n) (not-false (hasLength n l) e)
 
 given-first : (before after : List (ℕ × Bool)) (k : ℕ) → T (none before) → firstOf (before ++ ((k, true) ∷ after)) ≡ k
 unfolding firstOf all
@@ -33,13 +83,28 @@ first-given (c ∷ checks) k h e = go (c .0) (c .1) refl e (first-given checks k
 pub first-iff : (checks : List (ℕ × Bool)) (k : ℕ) → 0 < k → (firstOf checks ≡ k) ↔ Given checks k
 first-iff checks k h = (first-given checks k h, λ g. ap firstOf (g .parts) ∙ given-first (g .before) (g .after) k (g .passed))
 
+-- no number of the table is 0
+abbrev pub numbered : List (ℕ × Bool) → Bool
+numbered checks = all (λ c. not (eqb (c .0) 0)) checks
+
 -- no number is given exactly if none of the conditions holds
-pub first-none : (checks : List (ℕ × Bool)) → T (all (λ c. not (eqb (c .0) 0)) checks) → (firstOf checks ≡ 0) ↔ T (none checks)
+pub first-none : (checks : List (ℕ × Bool)) → T (numbered checks) → (firstOf checks ≡ 0) ↔ T (none checks)
 unfolding firstOf all
 first-none [] t = (λ e. tt, λ u. refl)
 first-none (c ∷ checks) t = go (c .0) (c .1) t (first-none checks)
   where
-    go : (m : ℕ) (b : Bool) → T (not (eqb m 0) && all (λ c. not (eqb (c .0) 0)) checks)
-        → (T (all (λ c. not (eqb (c .0) 0)) checks) → (firstOf checks ≡ 0) ↔ T (none checks)) → (cond b m (firstOf checks) ≡ 0) ↔ T (not b && none checks)
-    go m true t ih = (λ e. eqb-no m 0 (and-T (not (eqb m 0)) (all (λ c. not (eqb (c .0) 0)) checks) t .0) e, λ u. absurd u)
-    go m false t ih = ih (and-T (not (eqb m 0)) (all (λ c. not (eqb (c .0) 0)) checks) t .1)
+    go : (m : ℕ) (b : Bool) → T (not (eqb m 0) && numbered checks)
+        → (T (numbered checks) → (firstOf checks ≡ 0) ↔ T (none checks)) → (cond b m (firstOf checks) ≡ 0) ↔ T (not b && none checks)
+    go m true t ih = (λ e. eqb-no m 0 (and-T (not (eqb m 0)) (numbered checks) t .0) e, λ u. absurd u)
+    go m false t ih = ih (and-T (not (eqb m 0)) (numbered checks) t .1)
+
+-- two tables, one behind the other
+pub first-append : (l m : List (ℕ × Bool)) → T (numbered l) → firstOf (l ++ m) ≡ cond (eqb (firstOf l) 0) (firstOf m) (firstOf l)
+unfolding firstOf all
+first-append [] m t = refl
+first-append (c ∷ l) m t = go (c .0) (c .1) (and-T (not (eqb (c .0) 0)) (numbered l) t) (first-append l m)
+  where
+    go : (k : ℕ) (b : Bool) → T (not (eqb k 0)) × T (numbered l) → (T (numbered l) → firstOf (l ++ m) ≡ cond (eqb (firstOf l) 0) (firstOf m) (firstOf l))
+        → cond b k (firstOf (l ++ m)) ≡ cond (eqb (cond b k (firstOf l)) 0) (firstOf m) (cond b k (firstOf l))
+    go k true (h, t) ih = rw (ne-eqb k 0 (eqb-no k 0 h))
+    go k false (h, t) ih = ih t

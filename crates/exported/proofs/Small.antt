@@ -10,17 +10,17 @@ use lib.ListN.{length}
 use Rattle.lists.specs.Lists.{all}
 use Rattle.clusters.specs.PairList.{rowStart}
 use Rattle.clusters.specs.Refusals.{firstOf, wrongKind, kindOf, wrongCount}
+use Rattle.clusters.proofs.PairList.{rowStart-le}
+use Rattle.clusters.proofs.Refusals.{no-first, first-le, right-count}
 use Rattle.answers.specs.declared.Answer.{Answer}
 use Rattle.answers.specs.Answers.{numberOf, countOf, answer}
 use Rattle.answers.proofs.Answers.{number-answer}
-use Rattle.matrix.proofs.Places.{rowStart-le}
 use Rattle.linkage.specs.Calls.{linkageChecks, linkageRefusal}
 use Rattle.farris.specs.Calls.{anchoredChecks, anchoredRefusal, backChecks, backRefusal}
-use Rattle.farris.proofs.Refusals.{no-first, right-count}
 use Rattle.groups.specs.Calls.{numbersChecks, numbersRefusal, groupsFound}
 use Rattle.sheet.specs.Sheet.{entries, sheetChecks}
 use Rattle.reader.proofs.Answers.{passes-few}
-use Rattle.farzhudyl.proofs.Numbers.{first-le, count-most}
+use Rattle.farzhudyl.proofs.Numbers.{count-most}
 use Rattle.farzhudyl.proofs.Room.{groups-few}
 
 -- what `as_number` asks

@@ -1,4 +1,3 @@
-pub mod Rows
 pub mod Bounds
 pub mod Refusals
 pub mod Distances

@@ -19,7 +19,7 @@ use Rattle.clusters.proofs.Farris.{anchored-back, anchored-iff}
 use Rattle.clusters.proofs.Groups.{in-groups, in-groupSets, groups-rise, rising-distinct, of-listed, listed-index, is-listed, groups-sets}
 use Rattle.clusters.proofs.Theorems.{group-in-tree, groups-nested, groups-bound}
 use Rattle.clusters.proofs.Reordering.{groups-image}
-use Rattle.clusters.proofs.Refusals.{first-iff}
+use Rattle.clusters.proofs.Refusals.{first-iff, no-first}
 use Rattle.answers.specs.declared.Answer.{Answer}
 use Rattle.answers.specs.Answers.{numberOf, countOf, answer, slots, filled}
 use Rattle.answers.proofs.Answers.{number-answer, count-answer, count-refused, slots-refused, slots-written, filled-written}
@@ -27,7 +27,7 @@ use Rattle.groups.specs.Calls.{numbersRefusal, groupsFound, setsFound, indicesF
 use Rattle.sheet.specs.Sheet.{entries, pairs}
 use Rattle.text.specs.Text.{cut}
 use Rattle.farris.specs.Calls.{anchoredChecks, anchoredRefusal, backChecks, backRefusal}
-use Rattle.farris.proofs.Refusals.{anchored-passes, no-first}
+use Rattle.farris.proofs.Refusals.{anchored-passes}
 use Rattle.farzhudyl.specs.Calls.{sheetGroups, sheetListing, sheetCallChecks, sheetRefusal}
 use Rattle.farzhudyl.specs.Demands.{Demand1, Demand2, Demand3, SameGroups, Answered, WholeDemand3}
 use Rattle.farzhudyl.proofs.Lines.{listing-lines}

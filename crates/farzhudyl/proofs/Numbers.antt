@@ -1,34 +1,25 @@
 -- What the sheet call can answer: a refusal's number is at most 14, a listing's length at most 1,379.
 use mathlib.Core.Path.{_≡_, refl}
 use mathlib.Core.Bool.{Bool, not}
-use mathlib.Core.List.{List, [], _∷_, List·Memᴰ·head, List·Memᴰ·tail}
+use mathlib.Core.List.{List, List·Memᴰ·head, List·Memᴰ·tail}
 use Prim.Native.Nat.{ℕ, zero, suc, _≤_}
 use native.Mathlib.Omega.{arith}
 use borrow.Author.Tests.{not-false}
 use lib.IntN.{ℤ}
-use lib.Dec.{T, leb, leb→le}
+use lib.Dec.{T}
 use lib.ListN.{length}
 use Rattle.lists.specs.Lists.{_∈_, all}
 use Rattle.lists.proofs.Lists.{all-in}
-use Rattle.lists.proofs.Tests.{and-T, cond-elim, T-false}
+use Rattle.lists.proofs.Tests.{T-false}
 use Rattle.clusters.specs.PairList.{inRange}
-use Rattle.clusters.specs.Refusals.{firstOf, wrongCount, kindOf}
-use Rattle.clusters.proofs.Refusals.{first-none}
+use Rattle.clusters.specs.Refusals.{wrongCount, kindOf}
+use Rattle.clusters.proofs.Refusals.{first-none, first-le, right-count}
 use Rattle.linkage.proofs.Answered.{in-range-bounded}
 use Rattle.answers.specs.Answers.{numberOf, countOf, answer}
 use Rattle.answers.proofs.Answers.{number-answer}
 use Rattle.sheet.specs.Sheet.{entries, pairs}
-use Rattle.reader.proofs.Answers.{count-right}
 use Rattle.farzhudyl.specs.Calls.{sheetListing, sheetGroups, sheetCallChecks, sheetRefusal}
 use Rattle.farzhudyl.proofs.Room.{listing-room}
-
--- the first number whose condition holds is one of the list's, or 0
-pub first-le : (k : ℕ) (checks : List (ℕ × Bool)) → T (all (λ c. leb (c .0) k) checks) → firstOf checks ≤ k
-unfolding firstOf all
-first-le k [] t = omega arith
-first-le k (c ∷ checks) t =
-    let (h, r) = and-T (leb (c .0) k) (all (λ c. leb (c .0) k) checks) t in
-    cond-elim (c .1) (c .0) (firstOf checks) (λ (j : ℕ). j ≤ k) (λ _. leb→le (c .0) k h) (λ _. first-le k checks r)
 
 -- the count is 0 on refusal
 pub count-most : (k : ℕ) {c most : ℕ} → (k ≡ 0 → c ≤ most) → countOf (answer k c) ≤ most
@@ -49,7 +40,7 @@ module _ (kind : ℤ) (s : List ℕ) (room : ℕ) where
   length-le : sheetRefusal kind s room ≡ 0 → length (sheetListing kind s) ≤ 1379
   unfolding sheetCallChecks sheetListing sheetGroups
   length-le e = listing-room (kindOf kind) (entries s) (pairs s)
-      (count-right (entries s) (T-false (passes e {c = (6, wrongCount (entries s))} (List·Memᴰ·tail (List·Memᴰ·tail (List·Memᴰ·tail (List·Memᴰ·tail (List·Memᴰ·tail (List·Memᴰ·head refl)))))))))
+      (right-count (entries s) (T-false (passes e {c = (6, wrongCount (entries s))} (List·Memᴰ·tail (List·Memᴰ·tail (List·Memᴰ·tail (List·Memᴰ·tail (List·Memᴰ·tail (List·Memᴰ·head refl)))))))))
       (in-range-bounded (pairs s) (not-false (inRange (pairs s)) (T-false (passes e {c = (11, not (inRange (pairs s)))} (List·Memᴰ·tail (List·Memᴰ·tail (List·Memᴰ·tail (List·Memᴰ·tail (List·Memᴰ·tail (List·Memᴰ·tail (List·Memᴰ·tail (List·Memᴰ·tail (List·Memᴰ·tail (List·Memᴰ·head refl))))))))))))))
 
   pub count-le : countOf (answer (sheetRefusal kind s room) (length (sheetListing kind s))) ≤ 1379

@@ -1,17 +1,17 @@
 -- The sheet call: its checks, what was read, and its ways out.
-use mathlib.Core.Path.{_≡_, refl, sym, ap, _∙_}
-use mathlib.Core.Bool.{Bool, true, false, not, cond}
-use mathlib.Core.List.{List, [], _∷_, _++_}
+use mathlib.Core.Path.{_≡_, sym, ap, _∙_}
+use mathlib.Core.Bool.{true, false, cond}
+use mathlib.Core.List.{List}
 use Prim.Native.Nat.{ℕ, _≤_}
 use native.Mathlib.Omega.{arith}
 use borrow.Author.Tests.{ne-eqb}
-use lib.Dec.{T, eqb}
+use lib.Dec.{eqb}
 use lib.IntN.{ℤ}
 use lib.ListN.{length, take, length-take}
 use Rattle.lists.specs.Lists.{all}
-use Rattle.lists.proofs.Tests.{and-T, eqb-no}
 use Rattle.clusters.specs.PairList.{rowStart}
 use Rattle.clusters.specs.Refusals.{firstOf, wrongKind}
+use Rattle.clusters.proofs.Refusals.{gives, first-yes, first-no, first-append}
 use Rattle.answers.specs.declared.Answer.{Answer}
 use Rattle.answers.specs.declared.Answer.the-variants.{Refused}
 use Rattle.answers.specs.Answers.{answer, slots}
@@ -23,41 +23,18 @@ use Rattle.reader.specs.declared.Reading.the-variants.{Entries}
 use Rattle.reader.specs.declared.Reading.the-variants as variants
 use Rattle.reader.specs.Answer.{reading}
 use Rattle.reader.specs.Answer as read
-use Rattle.reader.proofs.Answers.{hit, skip, number-is, entries-is, passes-few, pairs-length, slots-pairs}
+use Rattle.reader.proofs.Answers.{number-is, entries-is, passes-few, pairs-length, slots-pairs}
 use Rattle.farzhudyl.specs.Calls.{sheetGroups, sheetListing, sheetCallChecks, sheetRefusal, pairsListing, pairsRefusal}
-
--- no number is 0
-abbrev numbered : List (ℕ × Bool) → Bool
-numbered l = all (λ c. not (eqb (c .0) 0)) l
-
--- two tables, one behind the other
-first-append : (l m : List (ℕ × Bool)) → T (numbered l) → firstOf (l ++ m) ≡ cond (eqb (firstOf l) 0) (firstOf m) (firstOf l)
-unfolding firstOf all
-first-append [] m t = refl
-first-append (c ∷ l) m t = go (c .0) (c .1) (and-T (not (eqb (c .0) 0)) (numbered l) t) (first-append l m)
-  where
-    go : (k : ℕ) (b : Bool) → T (not (eqb k 0)) × T (numbered l) → (T (numbered l) → firstOf (l ++ m) ≡ cond (eqb (firstOf l) 0) (firstOf m) (firstOf l))
-        → cond b k (firstOf (l ++ m)) ≡ cond (eqb (cond b k (firstOf l)) 0) (firstOf m) (cond b k (firstOf l))
-    go k true (h, t) ih = rw (ne-eqb k 0 (eqb-no k 0 h))
-    go k false (h, t) ih = ih t
 
 -- the call's checks: check 1, then the sheet's, then the pair list's
 module _ (kind : ℤ) (s : List ℕ) (room : ℕ) where
   wrong-kind : wrongKind kind ≡ true → 1 ≡ sheetRefusal kind s room
   unfolding sheetRefusal sheetCallChecks
-  wrong-kind e = sym (hit 1 _ e)
+  wrong-kind e = gives (first-yes e)
 
   right-kind : wrongKind kind ≡ false → sheetRefusal kind s room ≡ cond (eqb (firstOf (sheetChecks s)) 0) (pairsRefusal kind (entries s) (pairs s) room) (firstOf (sheetChecks s))
   unfolding sheetRefusal sheetCallChecks sheetListing sheetGroups pairsRefusal pairsListing sheetChecks all
-  right-kind e = skip 1 _ e ∙ first-append (sheetChecks s) _ tt
-
--- a refusal's number is not 0
-number-some : (s : List ℕ) (k : ℕ) → reading s ≡ variants.Refused k → k ≡ 0 → ⊥
-unfolding reading
-number-some s k e z = let n = number-is s k e in
-    let p : variants.Refused k ≡ Entries (entries s) = sym e ∙ rw (sym n ∙ z) in
-    let o : _≡_ {A = ℕ} 0 1 = cc in
-    omega arith
+  right-kind e = sym (gives (first-no e (record { is = sym (first-append (sheetChecks s) _ tt) })))
 
 -- the entries and the pair list of a sheet that was read
 module _ (s : List ℕ) {n : ℕ} (e : reading s ≡ Entries n) where
@@ -87,7 +64,7 @@ module _ (kind : ℤ) (s lent : List ℕ) where
 
   module _ (e : wrongKind kind ≡ false) where
     pub refused-sheet : {k : ℕ} → reading s ≡ variants.Refused k → Answers (Refused k) lent
-    refused-sheet {k} r = refused _ _ _ (rw (right-kind kind s (length lent) e, sym (number-is s k r), ne-eqb k 0 (number-some s k r))) (number-some s k r)
+    refused-sheet {k} r = let (is, some) = number-is s k r in refused _ _ _ (rw (right-kind kind s (length lent) e, sym is, ne-eqb k 0 some)) some
 
     pub read-sheet : {n : ℕ} {l : List ℤ} {r : Answer} {o : List ℕ} → reading s ≡ Entries n → l ≡ pairs s
         → (r ≡ answer (pairsRefusal kind n l (length lent)) (length (pairsListing kind n l))) × (o ≡ slots (pairsRefusal kind n l (length lent)) (pairsListing kind n l) lent) → Answers r o

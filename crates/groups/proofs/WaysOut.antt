@@ -1,21 +1,21 @@
 -- The two ways out of the numbers call.
 use mathlib.Core.Path.{_≡_, sym, ap, _∙_}
-use mathlib.Core.Bool.{false, not, _||_}
+use mathlib.Core.Bool.{not, _||_}
 use mathlib.Core.List.{List, _++_, map, map-map, map-id}
 use Prim.Native.Nat.{ℕ, _*_, _-_, _≤_}
 use native.Mathlib.Omega.{arith}
-use borrow.Author.Tests.{eq-eqb, ne-eqb, eqb-false, ltb-false, not-false}
-use lib.Dec.{eqb, ltb, lit<}
+use borrow.Author.Tests.{eq-eqb, ne-eqb, ltb-false, not-false}
+use lib.Dec.{ltb, lit<}
 use lib.IntN.{ℤ, pos}
 use lib.ListN.{length, replicate, length-take, length-map}
-use Rattle.lists.proofs.Tests.{true-T}
+use Rattle.lists.proofs.Tests.{true-T, or-none}
 use Rattle.clusters.specs.Groups.{Kind, index, groupSets, groups}
 use Rattle.clusters.specs.PairList.{score, hasLength, inRange}
 use Rattle.clusters.specs.Refusals.{wrongKind, kindOf, wrongCount, wrongDistances}
+use Rattle.clusters.proofs.Refusals.{no-first, some-count, right-count, right-length}
 use Rattle.answers.specs.Answers.{answer, filled}
 use Rattle.answers.specs.declared.Answer.the-variants.{Count, Refused}
 use Rattle.answers.proofs.WaysOut.{refused}
-use Rattle.farris.proofs.Refusals.{no-first, or-none, right-count, right-length}
 use Rattle.kinds.specs.Checked.{Checked}
 use Rattle.groups.specs.Calls.{numbersChecks, numbersRefusal, groupsFound, setsFound, indicesFound, Numbered}
 use Rattle.groups.specs.Found.{setsOf, indicesOf, Groups}
@@ -23,10 +23,6 @@ use Rattle.groups.specs.declared.Found.{Found}
 use Rattle.groups.proofs.Listing.{groups-few}
 
 -- what the call relies on once no check refuses it
-some-count : (n : ℕ) → wrongCount n ≡ false → 1 ≤ n
-unfolding wrongCount
-some-count n e = let f = eqb-false n 0 (or-none (eqb n 0) (ltb 32 n) e .0) in omega arith
-
 pub numbers-pass : (kind : ℤ) (n : ℕ) (l : List ℤ) (sets indices : ℕ) → numbersRefusal kind n l sets indices ≡ 0 → Checked n l × (2 * n ≤ sets) × (2 * n ≤ indices)
 unfolding numbersRefusal numbersChecks
 numbers-pass kind n l sets indices e₀ =

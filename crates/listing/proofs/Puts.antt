@@ -6,14 +6,8 @@ use native.Mathlib.Nat.{add-zero, zero-add}
 use native.Mathlib.Omega.{arith}
 use lib.ListN.{length, drop, set, length-append}
 use lib.Seq.{sets, sets-eq, set-comm}
+use Rattle.lists.proofs.Written.{sets-sets}
 use Rattle.listing.specs.Put.{Put}
-
--- two runs of stores, the second where the first ends
-pub sets-sets : (xs l : List ℕ) (at : ℕ) (ys : List ℕ) → sets (sets l at xs) (at + length xs) ys ≡ sets l at (xs ++ ys)
-sets-sets [] l at ys = rw add-zero
-sets-sets (x ∷ xs) l at ys =
-    let e : at + suc (length xs) ≡ suc at + length xs = omega arith in
-    rw e (sets-sets xs (set l at x) (suc at) ys)
 
 -- the last store first
 pub sets-last : (xs l : List ℕ) (at x : ℕ) → sets l at (xs ++ (x ∷ [])) ≡ sets (set l (at + length xs) x) at xs

@@ -1,6 +1,6 @@
 -- Laws of the lists: what is in them.
 use mathlib.Core.Path.{_≡_, refl, sym, ap, ap₂, _∙_, subst}
-use mathlib.Core.Bool.{Bool, true, false, not, cond}
+use mathlib.Core.Bool.{Bool, true, false, not, cond, _&&_}
 use mathlib.Core.Logic.{_⊎_, inl, inr, _≢_}
 use mathlib.Core.List.{List, [], _∷_, _++_, map, List·Memᴰ·head, List·Memᴰ·tail, List·Memᴰ·not-nil, List·Memᴰ·cases-cons, Memᴰ·append-left, Memᴰ·append-right, List·Memᴰ·append-cases, head-eq-of-cons-eq, tail-eq-of-cons-eq, append-nil, append-assoc, map-append}
 use Prim.Native.Nat.{ℕ, zero, suc, _<_, _*_}
@@ -142,6 +142,11 @@ module _ {ℓ} {A : Type ℓ} (p : A → Bool) where
   unfolding all
   in-all [] f = tt
   in-all (y ∷ l) f = T-and (p y) (all p l) (f y (List·Memᴰ·head refl)) (in-all l (λ x m. f x (List·Memᴰ·tail m)))
+
+pub all-cong {ℓ} : {A : Type ℓ} (p q : A → Bool) (l : List A) → ((x : A) → x ∈ l → p x ≡ q x) → all p l ≡ all q l
+unfolding all
+all-cong p q [] f = refl
+all-cong p q (x ∷ l) f = ap₂ _&&_ (f x (List·Memᴰ·head refl)) (all-cong p q l (λ y m. f y (List·Memᴰ·tail m)))
 
 pub of-map-cong {ℓ κ} : {A : Type ℓ} {B : Type κ} (f g : A → B) (l : List A) → map f l ≡ map g l → {x : A} → x ∈ l → f x ≡ g x
 of-map-cong f g (y ∷ l) e (List·Memᴰ·head q) = ap f q ∙ head-eq-of-cons-eq e ∙ sym (ap g q)

@@ -1,6 +1,6 @@
 -- A test that computes, as a fact, and back.
 use mathlib.Core.Path.{_≡_, refl, sym, subst}
-use mathlib.Core.Bool.{Bool, true, false, not, cond, _&&_}
+use mathlib.Core.Bool.{Bool, true, false, not, cond, _&&_, _||_}
 use mathlib.Core.Logic.{_⊎_, inl, inr, _≢_}
 use Prim.Native.Nat.{ℕ}
 use lib.Dec.{T, eqb, eqb-refl, T-not}
@@ -26,6 +26,16 @@ and-T false b t = absurd t
 pub T-and : (a b : Bool) → T a → T b → T (a && b)
 T-and true b s t = t
 T-and false b s t = absurd s
+
+pub or-first : {a : Bool} (b : Bool) → a ≡ true → a || b ≡ true
+or-first b e = rw e
+
+pub or-second : {a b t : Bool} → a ≡ false → b ≡ t → a || b ≡ t
+or-second e q = rw e q
+
+pub or-none : (a b : Bool) → a || b ≡ false → (a ≡ false) × (b ≡ false)
+or-none true b e = absurd (false-T {b = true} e)
+or-none false b e = (refl, e)
 
 pub T-or-not : (b : Bool) → T b ⊎ T (not b)
 T-or-not true = inl tt

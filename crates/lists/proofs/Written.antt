@@ -2,11 +2,12 @@
 use mathlib.Core.Path.{_≡_, refl, sym, ap, subst, _∙_}
 use mathlib.Core.List.{List, [], _∷_, _++_, map, append-assoc, map-append}
 use Prim.Native.Nat.{ℕ, zero, suc, _+_, _-_, _≤_, _<_}
+use native.Mathlib.Nat.{add-zero}
 use native.Mathlib.Numerals.{add-one}
 use native.Mathlib.Decide.{ℕ-discrete}
 use native.Mathlib.Omega.{arith}
 use lib.ListN.{length, drop, getD, set, replicate, length-map, length-set, length-append, length-replicate}
-use lib.Seq.{drop-cons, set-at, ext-getD, getD-set-same, getD-set-other}
+use lib.Seq.{sets, drop-cons, set-at, ext-getD, getD-set-same, getD-set-other}
 use Rattle.lists.specs.Lists.{below}
 use Rattle.lists.proofs.Lists.{count-below, getD-below}
 
@@ -33,6 +34,13 @@ module _ {A : Type 0} {f : ℕ → A} {old : List A} where
   -- all of them
   pub all-written : {new : List A} {i : ℕ} (n : ℕ) → Written f old new i → i ≤ n → n ≤ i → new ≡ map f (below n) ++ drop n old
   all-written {new} {i} n w h k = let e : i ≡ n = omega arith in subst (λ (i : ℕ). new ≡ map f (below i) ++ drop i old) e (w .are)
+
+-- two runs of stores, the second where the first ends
+pub sets-sets : {A : Type 0} (v l : List A) (i : ℕ) (w : List A) → sets (sets l i v) (i + length v) w ≡ sets l i (v ++ w)
+sets-sets [] l i w = rw add-zero
+sets-sets (x ∷ v) l i w =
+    let e : i + suc (length v) ≡ suc i + length v = omega arith in
+    rw e (sets-sets v (set l i x) (suc i) w)
 
 -- the elements of a list by their places, and the default where there are no more
 module _ {A : Type 0} (d : A) where

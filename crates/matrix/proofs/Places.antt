@@ -2,22 +2,17 @@
 use mathlib.Core.Path.{_≡_, ap, _∙_}
 use mathlib.Core.List.{List}
 use Prim.Native.Nat.{ℕ, zero, suc, _+_, _-_, _≤_, _<_}
-use native.Mathlib.Nat.{mul-le-mul}
 use native.Mathlib.Numerals.{add-one}
 use native.Mathlib.Omega.{arith}
 use lib.IntN.{ℤ}
 use lib.ListN.{length}
 use Rattle.clusters.specs.PairList.{rowStart, place}
-use Rattle.clusters.proofs.PairList.{rowStart-suc, place-row, place-comm, place-lt}
+use Rattle.clusters.proofs.PairList.{rowStart-suc, rowStart-le, place-row, place-comm, place-lt}
 
 -- the row before n ends where row n starts
 pub rowStart-before : (n : ℕ) → 0 < n → rowStart (n - 1) + n ≡ rowStart n
 rowStart-before zero h = absurd (omega arith)
 rowStart-before (suc n) h = let e : suc n - 1 ≡ n = omega arith in omega (arith, rowStart-suc n, ap rowStart e)
-
-pub rowStart-le : (n : ℕ) → n ≤ 32 → rowStart n ≤ 528
-unfolding rowStart
-rowStart-le n h = let k : n + 1 ≤ 33 = omega arith in omega (arith, mul-le-mul h k)
 
 -- what the lookup of a score asks, in a pair list of n entries
 pub score-asks : {n a b : ℕ} (l : List ℤ) → n ≤ 32 → length l ≡ rowStart n → a < n → b < n → (a < 32) × (b < 32) × (place a b < length l)

@@ -1,40 +1,28 @@
 -- The table of checks, line by line, and the answers.
-use mathlib.Core.Path.{_≡_, refl, sym, ap, ap₂, _∙_}
-use mathlib.Core.Bool.{Bool, true, false, not, cond, _&&_}
-use mathlib.Core.List.{List, [], _∷_, _++_}
-use Prim.Native.Nat.{ℕ, zero, suc, _+_, _≤_, _<_}
+use mathlib.Core.Path.{_≡_, refl, sym, ap₂, _∙_}
+use mathlib.Core.Bool.{Bool, true, false, cond}
+use mathlib.Core.List.{List, []}
+use Prim.Native.Nat.{ℕ, suc, _≤_, _<_}
 use native.Mathlib.Omega.{arith}
-use borrow.Author.Tests.{not-false, ne-eqb, eqb-true, eqb-false, ltb-false, lt-ltb, le-ltb}
-use lib.Dec.{eqb, ltb}
+use borrow.Author.Tests.{ne-eqb, eqb-true, eqb-false, ltb-false, lt-ltb, le-ltb}
+use lib.Dec.{eqb, ltb, lit<}
 use lib.IntN.{ℤ}
 use lib.ListN.{length, getD, take}
 use lib.Seq.{sets}
-use Rattle.lists.specs.Lists.{below, each}
-use Rattle.lists.proofs.Lists.{map-cong, below-lt}
+use Rattle.lists.specs.Lists.{below}
+use Rattle.lists.proofs.Lists.{below-lt, all-cong}
+use Rattle.lists.proofs.Tests.{or-none}
 use Rattle.integers.specs.Integers.{eqZ}
 use Rattle.clusters.specs.PairList.{Similarity, pairList, rowStart}
 use Rattle.clusters.specs.Refusals.{firstOf, wrongCount}
-use Rattle.sheet.specs.Sheet.{names, entries, value, pairs, mirrored, sheetChecks, nameOf, wrongLength, wrongByte, wrongNames, equalNames, wrongLines, wrongValues}
+use Rattle.clusters.proofs.PairList.{rowStart-le, pairList-cong, length-pairList}
+use Rattle.clusters.proofs.Refusals.{Gives, no-first, right-count}
+use Rattle.sheet.specs.Sheet.{names, entries, value, pairs, mirrored, sheetChecks, nameOf, wrongLength, wrongByte, wrongNames, equalNames}
 use Rattle.reader.specs.declared.Reading.the-variants.{Entries, Refused}
 use Rattle.reader.specs.Answer.{reading, slots, square, Holds}
-use Rattle.reader.proofs.Below.{below-cong}
-use Rattle.reader.proofs.Rows.{or-none}
-use Rattle.reader.proofs.Slots.{pairs-next, pairs-count, pairs-taken, start-room}
+use Rattle.reader.proofs.Slots.{pairs-taken}
 
--- the first line of a table holds, or not
-pub hit : (k : ℕ) {b : Bool} (l : List (ℕ × Bool)) → b ≡ true → firstOf ((k, b) ∷ l) ≡ k
-unfolding firstOf
-hit k l e = rw e
-
-pub skip : (k : ℕ) {b : Bool} (l : List (ℕ × Bool)) → b ≡ false → firstOf ((k, b) ∷ l) ≡ firstOf l
-unfolding firstOf
-skip k l e = rw e
-
-pub none : firstOf [] ≡ 0
-unfolding firstOf
-none = refl
-
--- what the tests that precede a call of `wrong_lines` and `read_rows` say
+-- what check 2 leaves
 pub length-right : (s : List ℕ) → wrongLength s ≡ false → (0 < length s) × (length s ≤ 12288)
 unfolding wrongLength
 length-right s e =
@@ -42,43 +30,30 @@ length-right s e =
     let f = eqb-false (length s) 0 (p .0) in
     (omega arith, ltb-false 12288 (length s) (p .1))
 
-pub count-right : (n : ℕ) → wrongCount n ≡ false → n ≤ 32
-unfolding wrongCount
-count-right n e = ltb-false 32 n (or-none (eqb n 0) (ltb 32 n) e .1)
-
 -- the square in place of the values
 pub mirrored-same : (l : List ℤ) (n : ℕ) (v : Similarity) → Holds l n v → mirrored n (square l) ≡ mirrored n v
 unfolding mirrored
 mirrored-same l n v h =
-    below-cong _ _ n (λ i p. below-cong _ _ n (λ j q. ap₂ eqZ (h i j p q) (h j i q p)))
-
-pub pairs-same : (n : ℕ) (v w : Similarity) → ((i j : ℕ) → i < n → j < n → v i j ≡ w i j) → pairList n v ≡ pairList n w
-unfolding pairList below each
-pairs-same zero v w h = refl
-pairs-same (suc n) v w h =
-    let e : suc n ≡ n + 1 = omega arith in
-    let f = pairs-same n v w (λ i j p q. h i j (omega arith) (omega arith)) in
-    let g = map-cong (v n) (w n) (below (suc n)) (λ j m. h n j (omega arith) (omega (arith, below-lt (suc n) m))) in
-    ap (λ (k : ℕ). pairList k v) e ∙ pairs-next v n ∙ ap₂ (λ (x y : List ℤ). x ++ y) f g ∙ sym (pairs-next w n) ∙ ap (λ (k : ℕ). pairList k w) (sym e)
+    all-cong _ _ (below n) (λ i p. all-cong _ _ (below n) (λ j q. ap₂ eqZ (h i j (below-lt n p) (below-lt n q)) (h j i (below-lt n q) (below-lt n p))))
 
 -- the answers
 module _ (s : List ℕ) (l : List ℤ) where
-  pub refused : (k : ℕ) → firstOf (sheetChecks s) ≡ k → (k ≡ 0 → ⊥) → (Refused k ≡ reading s) × (l ≡ slots s l)
+  pub refused : {k : ℕ} → Gives (sheetChecks s) (suc k) → (Refused (suc k) ≡ reading s) × (l ≡ slots s l)
   unfolding reading slots
-  refused k e f = (rw (e, ne-eqb k 0 f), rw (e, ne-eqb k 0 f))
+  refused {k} g = let z = ne-eqb (suc k) 0 (λ e. omega arith) in (rw (sym (g .is), z), rw (sym (g .is), z))
 
-  pub passed : (n : ℕ) (m : List ℤ) → firstOf (sheetChecks s) ≡ 0 → n ≡ entries s → Holds m n (value s) → (Entries n ≡ reading s) × (sets l 0 (pairList n (square m)) ≡ slots s l)
+  pub passed : (n : ℕ) (m : List ℤ) → Gives (sheetChecks s) 0 → n ≡ entries s → Holds m n (value s) → (Entries n ≡ reading s) × (sets l 0 (pairList n (square m)) ≡ slots s l)
   unfolding reading slots pairs
-  passed n m e is h = (rw (e, is), rw (e, pairs-same n (square m) (value s) h, is))
+  passed n m g is h = (rw (sym (g .is), is), rw (sym (g .is), pairList-cong n (square m) (value s) (λ a b p q. h a b p (omega arith)), is))
 
--- the number of the refusal in an answer, and the entries
-pub number-is : (s : List ℕ) (k : ℕ) → reading s ≡ Refused k → k ≡ firstOf (sheetChecks s)
+-- the number of the refusal in an answer, which is not 0, and the entries
+pub number-is : (s : List ℕ) (k : ℕ) → reading s ≡ Refused k → (k ≡ firstOf (sheetChecks s)) × (k ≡ 0 → ⊥)
 unfolding reading
-number-is s k e = go (eqb (firstOf (sheetChecks s)) 0) e
+number-is s k e = go (eqb (firstOf (sheetChecks s)) 0) refl e
   where
-    go : (b : Bool) → cond b (Entries (entries s)) (Refused (firstOf (sheetChecks s))) ≡ Refused k → k ≡ firstOf (sheetChecks s)
-    go true e = let z : _≡_ {A = ℕ} 0 1 = cc in absurd (omega arith)
-    go false e = cc
+    go : (b : Bool) → eqb (firstOf (sheetChecks s)) 0 ≡ b → cond b (Entries (entries s)) (Refused (firstOf (sheetChecks s))) ≡ Refused k → (k ≡ firstOf (sheetChecks s)) × (k ≡ 0 → ⊥)
+    go true q e = let z : _≡_ {A = ℕ} 0 1 = cc in absurd (omega arith)
+    go false q e = let is : k ≡ firstOf (sheetChecks s) = cc in (is, λ z. eqb-false _ 0 q (sym is ∙ z))
 
 pub entries-is : (s : List ℕ) (n : ℕ) → reading s ≡ Entries n → (firstOf (sheetChecks s) ≡ 0) × (n ≡ entries s)
 unfolding reading
@@ -91,12 +66,8 @@ entries-is s n e = go (eqb (firstOf (sheetChecks s)) 0) refl e
 -- the name of an entry
 module _ (s : List ℕ) (i : ℕ) where
   pub name-none : (k : ℕ) → reading s ≡ Refused k → [] ≡ nameOf s i
-  unfolding reading nameOf
-  name-none k e = go (eqb (firstOf (sheetChecks s)) 0) e
-    where
-      go : (b : Bool) → cond b (Entries (entries s)) (Refused (firstOf (sheetChecks s))) ≡ Refused k → [] ≡ cond (b && ltb i (entries s)) (getD (names s) i []) []
-      go true e = let z : _≡_ {A = ℕ} 0 1 = cc in absurd (omega arith)
-      go false e = refl
+  unfolding nameOf
+  name-none k e = let (is, some) = number-is s k e in rw (sym is, ne-eqb k 0 some)
 
   pub name-past : (n : ℕ) → reading s ≡ Entries n → n ≤ i → [] ≡ nameOf s i
   unfolding nameOf
@@ -110,52 +81,21 @@ module _ (s : List ℕ) (i : ℕ) where
       let q = entries-is s n e in
       rw (q .0, lt-ltb i (entries s) (omega arith))
 
--- what holds of a sheet that passes
-unhit : (k : ℕ) (b : Bool) (l : List (ℕ × Bool)) → (k ≡ 0 → ⊥) → firstOf ((k, b) ∷ l) ≡ 0 → (b ≡ false) × (firstOf l ≡ 0)
-unfolding firstOf
-unhit k true l f e = absurd (f e)
-unhit k false l f e = (refl, e)
-
-pub record Passes (s : List ℕ) : Type 0 where
-  pub size : wrongLength s ≡ false
-  pub bytes : wrongByte s ≡ false
-  pub names : wrongNames s ≡ false
-  pub distinct : equalNames s ≡ false
-  pub count : wrongCount (entries s) ≡ false
-  pub lines : wrongLines s ≡ false
-  pub values : wrongValues s ≡ false
-  pub mirror : mirrored (entries s) (value s) ≡ true
-
-pub passes-all : (s : List ℕ) → firstOf (sheetChecks s) ≡ 0 → Passes s
-unfolding sheetChecks
-passes-all s e =
-    let a = unhit 2 (wrongLength s) _ (λ z. omega arith) e in
-    let b = unhit 3 (wrongByte s) _ (λ z. omega arith) (a .1) in
-    let c = unhit 4 (wrongNames s) _ (λ z. omega arith) (b .1) in
-    let d = unhit 5 (equalNames s) _ (λ z. omega arith) (c .1) in
-    let f = unhit 6 (wrongCount (entries s)) _ (λ z. omega arith) (d .1) in
-    let g = unhit 7 (wrongLines s) _ (λ z. omega arith) (f .1) in
-    let h = unhit 8 (wrongValues s) _ (λ z. omega arith) (g .1) in
-    let m = unhit 9 (not (mirrored (entries s) (value s))) _ (λ z. omega arith) (h .1) in
-    record {
-      size = a .0;
-      bytes = b .0;
-      names = c .0;
-      distinct = d .0;
-      count = f .0;
-      lines = g .0;
-      values = h .0;
-      mirror = not-false _ (m .0);
-    }
-
+-- a sheet that passes
 pub passes-few : (s : List ℕ) → firstOf (sheetChecks s) ≡ 0 → entries s ≤ 32
-passes-few s e = count-right (entries s) (passes-all s e .count)
+unfolding sheetChecks
+passes-few s e₁ =
+    let (_, e₂) = no-first 2 (wrongLength s) _ (lit< tt) e₁ in
+    let (_, e₃) = no-first 3 (wrongByte s) _ (lit< tt) e₂ in
+    let (_, e₄) = no-first 4 (wrongNames s) _ (lit< tt) e₃ in
+    let (_, e₅) = no-first 5 (equalNames s) _ (lit< tt) e₄ in
+    right-count (entries s) (no-first 6 (wrongCount (entries s)) _ (lit< tt) e₅ .0)
 
 pub pairs-length : (s : List ℕ) → length (pairs s) ≡ rowStart (entries s)
 unfolding pairs
-pairs-length s = pairs-count (value s) (entries s)
+pairs-length s = length-pairList (entries s) (value s)
 
 -- the first slots of a sheet that passes are its pair list
 pub slots-pairs : (s : List ℕ) (l : List ℤ) → length l ≡ 528 → firstOf (sheetChecks s) ≡ 0 → take (rowStart (entries s)) (slots s l) ≡ pairs s
 unfolding slots pairs
-slots-pairs s l h e = rw e (pairs-taken (value s) (entries s) l (omega (arith, start-room (entries s) (passes-few s e))))
+slots-pairs s l h e = rw e (pairs-taken (value s) (entries s) l (omega (arith, rowStart-le (entries s) (passes-few s e))))

@@ -1,4 +1,3 @@
-pub mod Below
 pub mod Rows
 pub mod Slots
 pub mod Parts

@@ -1,6 +1,6 @@
 -- A line of values, piece by piece.
 use mathlib.Core.Path.{_≡_, refl, ap}
-use mathlib.Core.Bool.{Bool, true, false, not, cond, _||_, and-true, and-false}
+use mathlib.Core.Bool.{Bool, true, false, not, cond, and-true, and-false}
 use mathlib.Core.List.{List, map}
 use Prim.Native.Nat.{ℕ, suc, _+_, _≤_, _<_}
 use native.Mathlib.Numerals.{add-one}
@@ -19,10 +19,6 @@ use Rattle.text.proofs.Pieces.{some-piece, pieces-more, pieces-last}
 use Rattle.text.proofs.Words.{and-left}
 use Rattle.sheet.specs.Sheet.{isRow}
 use Rattle.sheet.proofs.Lines.{pieces-from}
-
-pub or-none : (a b : Bool) → (a || b) ≡ false → (a ≡ false) × (b ≡ false)
-or-none true b e = let z : _≡_ {A = ℕ} 0 1 = cc in absurd (omega arith)
-or-none false b e = (refl, e)
 
 -- what an answer of `read_value` says
 pub record Got (s : List ℕ) (at : ℕ) (v : ℤ) (next : Cursor) : Type 0 where

@@ -1,6 +1,6 @@
 -- The value lines, one after the other, and the square of their values.
 use mathlib.Core.Path.{_≡_, refl, sym, ap, _∙_}
-use mathlib.Core.Bool.{true, false, not, cond}
+use mathlib.Core.Bool.{Bool, false, not, cond}
 use mathlib.Core.List.{List, [], _++_, map}
 use mathlib.Core.Logic.{⊎-elim}
 use Prim.Native.Nat.{ℕ, suc, _+_, _-_, _*_, _≤_, _<_}
@@ -14,14 +14,13 @@ use lib.IntN.{ℤ, pos}
 use lib.ListN.{length, getD, take, drop, length-append, length-drop, length-map, List·getD-append, List·getD-map}
 use lib.Seq.{sets, sets-eq, getD-take, getD-drop, getD-append-add, length-take-le, drop-drop}
 use Rattle.lists.specs.Lists.{below, all}
+use Rattle.lists.proofs.Tests.{or-none}
 use Rattle.clusters.specs.PairList.{Similarity}
 use Rattle.text.specs.Text.{cut, valueOf}
 use Rattle.text.specs.Reading.{pieceAt}
 use Rattle.text.proofs.Pieces.{piece-part, pieces-more, pieces-last}
 use Rattle.sheet.specs.Sheet.{lines, entries, words, value, isRow, wrongLines, wrongValues}
 use Rattle.reader.specs.Answer.{square}
-use Rattle.reader.proofs.Below.{below-false}
-use Rattle.reader.proofs.Rows.{or-none}
 
 -- what check 7 leaves
 pub line-count : (s : List ℕ) → wrongLines s ≡ false → length (lines s) ≡ entries s + 2
@@ -59,13 +58,9 @@ unfolding words
 line-words s at end i l = ap (cut 32) (l .part ∙ ap (λ (k : ℕ). getD (lines s) k []) (add-one i))
 
 -- the answer
-pub values-wrong : (s : List ℕ) (n i : ℕ) → n ≡ entries s → i < n → isRow n (words s i) ≡ false → _≡_ {A = ℕ} 8 (cond (wrongValues s) 8 0)
+pub values-tested : (s : List ℕ) (n : ℕ) {b : Bool} → n ≡ entries s → b ≡ all (λ k. isRow n (words s k)) (below n) → _≡_ {A = ℕ} (cond (not b) 8 0) (cond (wrongValues s) 8 0)
 unfolding wrongValues
-values-wrong s n i is h e = rw (← is, below-false (λ k. isRow n (words s k)) n i h e)
-
-pub values-right : (s : List ℕ) (n : ℕ) → n ≡ entries s → all (λ k. isRow n (words s k)) (below n) ≡ true → _≡_ {A = ℕ} 0 (cond (wrongValues s) 8 0)
-unfolding wrongValues
-values-right s n is e = rw (← is, e)
+values-tested s n is e = rw (← is, e)
 
 -- slots before a run of stores, and those of the run
 before-sets : (vs l : List ℤ) (i k : ℕ) → i + length vs ≤ length l → k < i → getD (sets l i vs) k (pos 0) ≡ getD l k (pos 0)

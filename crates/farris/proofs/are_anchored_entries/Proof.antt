@@ -8,7 +8,7 @@ use lib.IntN.{pos}
 use Rattle.lists.specs.Lists.{below}
 use Rattle.integers.specs.Integers.{eqZ, even}
 use Rattle.clusters.specs.PairList.{score}
-use Rattle.matrix.proofs.Walk.{Passed, started, next-below, failed-below, ended-below}
+use Rattle.lists.proofs.Walk.{Passed, started, next-below, failed-below, ended-below}
 use Rattle.farris.proofs.are_anchored_entries.Statement.{statement}
 use Rattle.farris.proofs.are_anchored_entries.Tie as tie
 

@@ -6,7 +6,7 @@ use borrow.Author.Needs.{needs}
 use Rattle.lists.specs.Lists.{all, below}
 use Rattle.clusters.specs.PairList.{score}
 use Rattle.clusters.specs.Farris.{unfarris}
-use Rattle.matrix.proofs.Walk.{Passed, started, next-below, failed-below, ended-below}
+use Rattle.lists.proofs.Walk.{Passed, started, next-below, failed-below, ended-below}
 use Rattle.farris.specs.Distances.{isDistance}
 use Rattle.farris.proofs.Distances.{back-test}
 use Rattle.farris.proofs.are_distances_back.Statement.{statement}

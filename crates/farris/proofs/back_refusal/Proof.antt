@@ -1,18 +1,15 @@
 use mathlib.Core.Path.{_≡_, sym, ap, _∙_}
-use mathlib.Core.Bool.{Bool, false, not, _||_}
-use mathlib.Core.List.{List}
-use Prim.Native.Nat.{ℕ}
+use mathlib.Core.Bool.{false, not, _||_}
 use borrow.Author.Needs.{needs}
 use lib.Dec.{leb, ltb}
+use Rattle.lists.proofs.Tests.{or-first, or-second}
 use Rattle.clusters.specs.PairList.{rowStart, hasLength}
 use Rattle.clusters.specs.Refusals.{wrongCount}
+use Rattle.clusters.proofs.Refusals.{gives, first-yes, first-no, no-more, right-count, right-length}
 use Rattle.farris.specs.Calls.{backChecks, backRefusal}
-use Rattle.farris.proofs.Refusals.{gives, first-yes, first-no, no-more, or-first, or-second, right-count, right-length, in-place}
+use Rattle.farris.proofs.Refusals.{in-place}
 use Rattle.farris.proofs.back_refusal.Statement.{statement}
 use Rattle.farris.proofs.back_refusal.Tie as tie
-
-abbrev table : tie.Start → List (ℕ × Bool)
-table s = let a = s .args in backChecks (a .n) (a .x) (a .scores .now) (a .room)
 
 -- the checks passed so far
 passed-6 : (c : tie.Else1) → wrongCount (c .before .before .args .n) ≡ false
@@ -29,7 +26,7 @@ is-wrong-count-requires c κs = search needs
 
 returns : tie.Need-returns
 unfolding backRefusal backChecks
-returns c = gives (table (c .before .before)) (first-yes (sym (c .before .is-wrong-count .ensures) ∙ c .if1 .taken))
+returns c = gives (first-yes (sym (c .before .is-wrong-count .ensures) ∙ c .if1 .taken))
 
 has-length-requires : tie.Need-has-length-requires
 has-length-requires c κs = right-count _ (passed-6 c)
@@ -37,7 +34,7 @@ has-length-requires c κs = right-count _ (passed-6 c)
 returns-2 : tie.Need-returns-2
 unfolding backRefusal backChecks
 returns-2 c = let p = c .before .before in
-    gives (table (p .before .before)) (first-no (passed-6 p) (first-yes (ap not (sym (c .before .has-length .ensures)) ∙ c .if2 .taken)))
+    gives (first-no (passed-6 p) (first-yes (ap not (sym (c .before .has-length .ensures)) ∙ c .if2 .taken)))
 
 is-out-of-place-requires : tie.Need-is-out-of-place-requires
 is-out-of-place-requires c κs = right-count _ (passed-6 (c .before .before))
@@ -45,7 +42,7 @@ is-out-of-place-requires c κs = right-count _ (passed-6 (c .before .before))
 returns-3 : tie.Need-returns-3
 unfolding backRefusal backChecks
 returns-3 c = let q = c .before .before in let p = q .before .before in
-    gives (table (p .before .before)) (first-no (passed-6 p) (first-no (passed-10 q) (first-yes (or-first _ (sym (c .before .is-out-of-place .ensures) ∙ c .if3 .taken)))))
+    gives (first-no (passed-6 p) (first-no (passed-10 q) (first-yes (or-first _ (sym (c .before .is-out-of-place .ensures) ∙ c .if3 .taken)))))
 
 is-anchored-requires : tie.Need-is-anchored-requires
 is-anchored-requires c κs = let q = c .before .before in let p = q .before .before in
@@ -54,12 +51,12 @@ is-anchored-requires c κs = let q = c .before .before in let p = q .before .bef
 returns-4 : tie.Need-returns-4
 unfolding backRefusal backChecks
 returns-4 c = let r = c .before .before in let q = r .before .before in let p = q .before .before in
-    gives (table (p .before .before)) (first-no (passed-6 p) (first-no (passed-10 q) (first-yes (or-second (passed-15 r) (ap not (sym (c .before .is-anchored .ensures)) ∙ c .if4 .taken)))))
+    gives (first-no (passed-6 p) (first-no (passed-10 q) (first-yes (or-second (passed-15 r) (ap not (sym (c .before .is-anchored .ensures)) ∙ c .if4 .taken)))))
 
 returns-5 : tie.Need-returns-5
 unfolding backRefusal backChecks
 returns-5 c = let r = c .before .before in let q = r .before .before in let p = q .before .before in
-    gives (table (p .before .before)) (first-no (passed-6 p) (first-no (passed-10 q) (first-no (or-second (passed-15 r) (ap not (sym (c .before .is-anchored .ensures)) ∙ c .if4 .left)) no-more)))
+    gives (first-no (passed-6 p) (first-no (passed-10 q) (first-no (or-second (passed-15 r) (ap not (sym (c .before .is-anchored .ensures)) ∙ c .if4 .left)) no-more)))
 
 pub back-refusal-spec : {M : Type 1} → statement M
 back-refusal-spec =

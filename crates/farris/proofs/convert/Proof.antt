@@ -5,7 +5,7 @@ use borrow.Author.Needs.{needs}
 use lib.ListN.{length}
 use Rattle.clusters.specs.PairList.{score}
 use Rattle.farris.specs.Ways.{converted}
-use Rattle.farris.proofs.Rows.{Rows, rows-none, rows-row, rows-all}
+use Rattle.clusters.proofs.Rows.{Rows, rows-none, rows-row, rows-all}
 use Rattle.farris.proofs.convert.Statement.{statement}
 use Rattle.farris.proofs.convert.Tie as tie
 

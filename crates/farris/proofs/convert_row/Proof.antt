@@ -7,10 +7,9 @@ use mir.Syntax.{w32, w64}
 use mir.Val.{ofZ, toZ}
 use Rattle.integers.proofs.Held.{passed}
 use Rattle.clusters.specs.PairList.{rowStart, score}
-use Rattle.clusters.proofs.PairList.{row-lt}
-use Rattle.matrix.proofs.Places.{rowStart-le}
+use Rattle.clusters.proofs.PairList.{row-lt, rowStart-le}
 use Rattle.farris.specs.Ways.{converted}
-use Rattle.farris.proofs.Rows.{Row, row-none, row-value, row-all}
+use Rattle.clusters.proofs.Rows.{Row, row-none, row-value, row-all}
 use Rattle.farris.proofs.Bounds.{converted-small}
 use Rattle.farris.proofs.convert_row.Statement.{statement}
 use Rattle.farris.proofs.convert_row.Tie as tie

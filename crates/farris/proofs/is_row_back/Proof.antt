@@ -8,7 +8,7 @@ use Rattle.lists.specs.Lists.{below}
 use Rattle.integers.proofs.Held.{passed}
 use Rattle.clusters.specs.PairList.{score}
 use Rattle.clusters.specs.Farris.{unfarris}
-use Rattle.matrix.proofs.Walk.{Passed, started, next-below, failed-below, ended-below}
+use Rattle.lists.proofs.Walk.{Passed, started, next-below, failed-below, ended-below}
 use Rattle.farris.specs.Distances.{isDistance}
 use Rattle.farris.proofs.is_row_back.Statement.{statement}
 use Rattle.farris.proofs.is_row_back.Tie as tie

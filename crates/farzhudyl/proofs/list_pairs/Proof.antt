@@ -1,21 +1,20 @@
 use mathlib.Core.Path.{_≡_, refl, sym, ap, _∙_, subst}
-use mathlib.Core.Bool.{Bool, true, false}
+use mathlib.Core.Bool.{Bool, false, not}
 use mathlib.Core.List.{List}
 use Prim.Native.Nat.{ℕ, _<_, _≤_}
-use borrow.Author.Tests.{not-true, not-false}
-use lib.IntN.{ℤ}
+use borrow.Author.Tests.{lt-ltb, le-ltb, not-false}
 use lib.ListN.{length, take, length-take}
-use mir.Syntax.{w32}
-use mir.Val.{SFits, ofZ, toZ}
 use mir.Facts.{toZ-ofZ}
 use Rattle.lists.proofs.Tests.{true-T}
 use Rattle.clusters.specs.PairList.{inRange}
 use Rattle.clusters.specs.Refusals.{kindOf, wrongDistances}
+use Rattle.clusters.proofs.Refusals.{gives, first-yes, first-no, no-more}
 use Rattle.answers.proofs.WaysOut.{refused, counted}
+use Rattle.kinds.proofs.Listed.{told}
 use Rattle.groups.specs.Found.{Groups}
-use Rattle.farzhudyl.specs.Calls.{pairsListing}
+use Rattle.farzhudyl.specs.Calls.{pairsListing, pairsRefusal}
 use Rattle.farzhudyl.proofs.Found.{found-slots, found-listing}
-use Rattle.farzhudyl.proofs.Pairs.{refused-11, refused-12, refused-14, passed, written, copied}
+use Rattle.farzhudyl.proofs.Pairs.{written, copied}
 use native.Mathlib.Omega.{arith}
 use borrow.Author.Needs.{needs}
 use Rattle.farzhudyl.proofs.list_pairs.Statement.{statement}
@@ -25,23 +24,12 @@ use Rattle.farzhudyl.proofs.list_pairs.Tie as tie
 abbrev text : tie.Start → List ℕ
 text s = pairsListing (s .args .kind) (s .args .n) (s .args .pairs .now)
 
--- a signed argument reaches a callee through its bits
-told : {r t : Bool} {kind : ℤ} (f : ℤ → Bool) → SFits w32 kind → r ≡ f (toZ w32 (ofZ w32 kind)) → r ≡ t → f kind ≡ t
-told f k e p = sym (rw (toZ-ofZ k) at e) ∙ p
+-- the checks passed so far
+passed-11 : (c : tie.Else1) → not (inRange (c .before .before .before .args .pairs .now)) ≡ false
+passed-11 c = ap not (sym (c .before .in-range .ensures)) ∙ c .if1 .left
 
-in-range-false : (c : tie.Then1) → inRange (c .before .before .before .args .pairs .now) ≡ false
-in-range-false c = sym (c .before .in-range .ensures) ∙ not-true _ (c .if1 .taken)
-
-in-range-true : (c : tie.Else1) → inRange (c .before .before .before .args .pairs .now) ≡ true
-in-range-true c = sym (c .before .in-range .ensures) ∙ not-false _ (c .if1 .left)
-
-distances-wrong : (c : tie.Then2) → let s = c .before .before .before .before .before in wrongDistances (s .args .kind) (s .args .n) (s .args .pairs .now) ≡ true
-distances-wrong c = let s = c .before .before .before .before .before in
-    told (λ k. wrongDistances k (s .args .n) (s .args .pairs .now)) (s .fits .kind) (c .before .are-wrong-distances .ensures) (c .if2 .taken)
-
-distances-right : (c : tie.Else2) → let s = c .before .before .before .before .before in wrongDistances (s .args .kind) (s .args .n) (s .args .pairs .now) ≡ false
-distances-right c = let s = c .before .before .before .before .before in
-    told (λ k. wrongDistances k (s .args .n) (s .args .pairs .now)) (s .fits .kind) (c .before .are-wrong-distances .ensures) (c .if2 .left)
+asked-12 : (c : tie.After-are-wrong-distances) {t : Bool} → c .are-wrong-distances .result ≡ t → let s = c .before .before .before .before in wrongDistances (s .args .kind) (s .args .n) (s .args .pairs .now) ≡ t
+asked-12 c = let s = c .before .before .before .before in told (λ k. wrongDistances k (s .args .n) (s .args .pairs .now)) (s .fits .kind) (c .are-wrong-distances .ensures)
 
 -- the groups that were found
 these : (c : tie.After-find) → let s = c .before .before .before .before .before .before in Groups (kindOf (s .args .kind)) (s .args .n) (s .args .pairs .now) (c .find .result)
@@ -62,17 +50,19 @@ in-range-requires : tie.Need-in-range-requires
 in-range-requires c κs = search needs
 
 returns : tie.Need-returns
-returns c = let s = c .before .before .before in refused (length (text s)) (text s) (s .args .out .now) (refused-11 (s .args .kind) (s .args .n) (s .args .pairs .now) (length (s .args .out .now)) (in-range-false c)) (λ z. omega arith)
+unfolding pairsRefusal
+returns c = let s = c .before .before .before in refused (length (text s)) (text s) (s .args .out .now) (gives (first-yes (ap not (sym (c .before .in-range .ensures)) ∙ c .if1 .taken))) (λ z. omega arith)
 
 are-wrong-distances-requires : tie.Need-are-wrong-distances-requires
 are-wrong-distances-requires c κs = search needs
 
 returns-2 : tie.Need-returns-2
+unfolding pairsRefusal
 returns-2 c = let s = c .before .before .before .before .before in
-    refused (length (text s)) (text s) (s .args .out .now) (refused-12 (s .args .kind) (s .args .n) (s .args .pairs .now) (length (s .args .out .now)) (in-range-true (c .before .before)) (distances-wrong c)) (λ z. omega arith)
+    refused (length (text s)) (text s) (s .args .out .now) (gives (first-no (passed-11 (c .before .before)) (first-yes (asked-12 (c .before) (c .if2 .taken))))) (λ z. omega arith)
 
 find-requires : tie.Need-find-requires
-find-requires c κs = let s = c .before .before .before .before .before in record { some = s .pre .0; few = s .pre .1; long = s .pre .2; range = true-T (in-range-true (c .before .before)) }
+find-requires c κs = let s = c .before .before .before .before .before in record { some = s .pre .0; few = s .pre .1; long = s .pre .2; range = true-T (not-false (inRange _) (passed-11 (c .before .before))) }
 
 slice-aggregate-write : tie.Need-slice-aggregate-write
 slice-aggregate-write c = search needs
@@ -87,9 +77,10 @@ write-requires : tie.Need-write-requires
 write-requires c κs = let g = these (c .before .before .before .before .before) in (found-slots _ _ _ _ g, omega (arith, g .few))
 
 returns-3 : tie.Need-returns-3
+unfolding pairsRefusal
 returns-3 c = let w = c .before .before in let f = w .before .before .before .before .before .before in let s = f .before .before .before .before .before .before in
     let h : length (s .args .out .now) < length (text s) = omega (arith, wrote w .0, c .if3 .taken) in
-    refused (length (text s)) (text s) (s .args .out .now) (refused-14 (s .args .kind) (s .args .n) (s .args .pairs .now) (length (s .args .out .now)) (in-range-true (f .before .before .before)) (distances-right (f .before)) h) (λ z. omega arith)
+    refused (length (text s)) (text s) (s .args .out .now) (gives (first-no (passed-11 (f .before .before .before)) (first-no (asked-12 (f .before .before) (f .before .if2 .left)) (first-yes (lt-ltb _ _ h))))) (λ z. omega arith)
 
 array-share-prefix-text : tie.Need-array-share-prefix-text
 array-share-prefix-text c = let w = c .before .before in omega (arith, long w, length-take (w .write .result) (w .write .last .0))
@@ -104,9 +95,10 @@ same-length : tie.Need-same-length
 same-length c = search needs
 
 returns-4 : tie.Need-returns-4
+unfolding pairsRefusal
 returns-4 c = let o = c .before .before in let w = o .before .before .before .before .before in let f = w .before .before .before .before .before .before in let s = f .before .before .before .before .before .before in
     let h : length (text s) ≤ length (s .args .out .now) = omega (arith, wrote w .0, o .before .before .before .if3 .left) in
-    counted (length (text s)) (text s) (s .args .out .now) (passed (s .args .kind) (s .args .n) (s .args .pairs .now) (length (s .args .out .now)) (in-range-true (f .before .before .before)) (distances-right (f .before)) h) refl (wrote w .0) refl
+    counted (length (text s)) (text s) (s .args .out .now) (gives (first-no (passed-11 (f .before .before .before)) (first-no (asked-12 (f .before .before) (f .before .if2 .left)) (first-no (le-ltb _ _ h) no-more)))) refl (wrote w .0) refl
     (copied (s .args .out .now) (wrote w .1) (o .copy .ensures .1))
 
 pub list-pairs-spec : {M : Type 1} → statement M

@@ -4,8 +4,7 @@ use native.Mathlib.Omega.{arith}
 use borrow.Author.Needs.{needs}
 use lib.Dec.{lit<}
 use Rattle.clusters.specs.PairList.{rowStart, place, score}
-use Rattle.clusters.proofs.PairList.{place-row}
-use Rattle.matrix.proofs.Places.{rowStart-le}
+use Rattle.clusters.proofs.PairList.{rowStart-le, place-row}
 use Rattle.indices.specs.Margins.{number}
 use Rattle.indices.specs.Seen.{Seen}
 use Rattle.indices.proofs.Seen.{seen-none, seen-more, seen-end}

@@ -8,7 +8,7 @@ use lib.ListN.{length}
 use lib.Signed.{leZ}
 use mir.Syntax.{w64}
 use Rattle.integers.proofs.Held.{passed}
-use Rattle.matrix.proofs.Walk.{Passed, started, next, failed, ended}
+use Rattle.lists.proofs.Walk.{Passed, started, next, failed, ended}
 use Rattle.matrix.proofs.are_not_negative.Statement.{statement}
 use Rattle.matrix.proofs.are_not_negative.Tie as tie
 

@@ -9,7 +9,7 @@ use Rattle.lists.specs.Lists.{below}
 use Rattle.integers.specs.Integers.{eqZ}
 use Rattle.integers.proofs.Held.{passed}
 use Rattle.clusters.specs.PairList.{score}
-use Rattle.matrix.proofs.Walk.{Passed, started, next-below, failed-below, ended-below}
+use Rattle.lists.proofs.Walk.{Passed, started, next-below, failed-below, ended-below}
 use Rattle.matrix.proofs.Places.{score-asks}
 use Rattle.matrix.proofs.are_own_zero.Statement.{statement}
 use Rattle.matrix.proofs.are_own_zero.Tie as tie

@@ -10,7 +10,7 @@ use lib.Signed.{leZ}
 use mir.Syntax.{w64}
 use Rattle.integers.proofs.Held.{passed}
 use Rattle.clusters.specs.PairList.{inRange}
-use Rattle.matrix.proofs.Walk.{started, Passed, next, failed, ended}
+use Rattle.lists.proofs.Walk.{started, Passed, next, failed, ended}
 use Rattle.matrix.proofs.in_range.Statement.{statement}
 use Rattle.matrix.proofs.in_range.Tie as tie
 

@@ -2,7 +2,8 @@ use mathlib.Core.Path.{ap, sym, _≡_}
 use native.Mathlib.Omega.{arith}
 use borrow.Author.Needs.{needs}
 use Rattle.clusters.specs.PairList.{rowStart}
-use Rattle.matrix.proofs.Places.{rowStart-before, rowStart-le}
+use Rattle.clusters.proofs.PairList.{rowStart-le}
+use Rattle.matrix.proofs.Places.{rowStart-before}
 use Rattle.matrix.proofs.pair_count.Statement.{statement}
 use Rattle.matrix.proofs.pair_count.Tie as tie
 

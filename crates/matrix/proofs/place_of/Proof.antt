@@ -3,7 +3,7 @@ use Prim.Native.Nat.{max}
 use native.Mathlib.Omega.{arith}
 use borrow.Author.Needs.{needs}
 use Rattle.clusters.specs.PairList.{rowStart, place}
-use Rattle.matrix.proofs.Places.{rowStart-le}
+use Rattle.clusters.proofs.PairList.{rowStart-le}
 use Rattle.matrix.proofs.place_of.Statement.{statement}
 use Rattle.matrix.proofs.place_of.Tie as tie
 

@@ -1,24 +1,26 @@
 use mathlib.Core.Path.{_≡_, refl, ap, _∙_}
 use Prim.Native.Nat.{ℕ, _-_, _≤_}
+use native.Mathlib.Numerals.{add-one}
 use native.Mathlib.Omega.{arith}
 use borrow.Author.Needs.{needs}
 use lib.Seq.{sets}
-use Rattle.lists.specs.Lists.{below, each}
 use Rattle.clusters.specs.PairList.{pairList, rowStart}
+use Rattle.clusters.proofs.PairList.{rowStart-suc}
+use Rattle.clusters.proofs.Rows.{Rows, rows-none, rows-row}
 use Rattle.reader.specs.Answer.{square}
-use Rattle.reader.proofs.Slots.{row-next, row-room, fill-next}
+use Rattle.reader.proofs.Slots.{row-room}
 use Rattle.reader.proofs.fill.Statement.{statement}
 use Rattle.reader.proofs.fill.Tie as tie
 
 abbrev Inv-loop : tie.InvT-loop
-Inv-loop values n pairs₀ start₀ i₀ pairs start i = (i ≤ n) × (start ≡ rowStart i) × (pairs ≡ sets pairs₀ 0 (pairList i (square values)))
+Inv-loop values n pairs₀ start₀ i₀ pairs start i = (i ≤ n) × (start ≡ rowStart i) × Rows (square values) pairs₀ pairs i
 
 abbrev μ-loop : tie.MeasureT-loop
 μ-loop values n pairs₀ start₀ i₀ pairs start i = n - i
 
 loop-holds : tie.Need-loop-holds Inv-loop μ-loop
-unfolding pairList below each rowStart
-loop-holds c = (omega arith, refl, refl)
+unfolding rowStart
+loop-holds c = (omega arith, refl, rows-none)
 
 fill-row-requires : tie.Need-fill-row-requires Inv-loop μ-loop
 fill-row-requires c κs = (omega arith, omega (arith, row-room (c .before .before .loop .i) (omega arith)), omega arith)
@@ -37,18 +39,15 @@ loop-less c = search needs
 
 loop-again : tie.Need-loop-again Inv-loop μ-loop
 loop-again c =
-    let l = c .before .before .before .loop in (
-      omega arith,
-      omega (arith, row-next (l .i)),
-      c .fill-row .ensures ∙ fill-next (square (c .before .before .before .before .args .values .now)) (l .i) (l .start) (l .pairs) (c .before .before .before .before .args .pairs .now) (l .inv .1) (l .inv .2),
-    )
+    let l = c .before .before .before .loop in
+    (omega arith, omega (arith, rowStart-suc (l .i), ap rowStart (add-one (l .i))), rows-row (l .inv .2) (rw (l .inv .1) at (c .fill-row .ensures)))
 
 returns : tie.Need-returns Inv-loop μ-loop
 returns c =
     let a = c .before .before .args in
     let l = c .before .loop in
     let z : l .i ≡ a .n = omega arith in
-    l .inv .2 ∙ ap (λ (k : ℕ). sets (a .pairs .now) 0 (pairList k (square (a .values .now)))) z
+    l .inv .2 .is ∙ ap (λ (k : ℕ). sets (a .pairs .now) 0 (pairList k (square (a .values .now)))) z
 
 pub fill-spec : {M : Type 1} → statement M
 fill-spec =

@@ -1,20 +1,17 @@
-use mathlib.Core.Path.{_≡_, refl, ap, _∙_}
-use mathlib.Core.List.{map}
-use Prim.Native.Nat.{ℕ, suc, _-_, _≤_}
+use mathlib.Core.Path.{_≡_, refl}
+use Prim.Native.Nat.{suc, _-_, _≤_}
 use native.Mathlib.Omega.{arith}
 use borrow.Author.Needs.{needs}
-use lib.Seq.{sets}
 use mir.Val.{SFits}
 use mir.Syntax.{w32}
 use mir.Facts.{toZ-ofZ}
-use Rattle.lists.specs.Lists.{below}
+use Rattle.clusters.proofs.Rows.{Row, row-none, row-value, row-all}
 use Rattle.reader.specs.Answer.{square}
-use Rattle.reader.proofs.Slots.{row-store}
 use Rattle.reader.proofs.fill_row.Statement.{statement}
 use Rattle.reader.proofs.fill_row.Tie as tie
 
 abbrev Inv-loop : tie.InvT-loop
-Inv-loop values i start pairs₀ count j₀ pairs j = (j ≤ count) × (pairs ≡ sets pairs₀ start (map (square values i) (below j)))
+Inv-loop values i start pairs₀ count j₀ pairs j = (j ≤ count) × Row (square values i) start pairs₀ pairs j
 
 abbrev μ-loop : tie.MeasureT-loop
 μ-loop values i start pairs₀ count j₀ pairs j = count - j
@@ -23,8 +20,7 @@ add-count : tie.Need-add-count Inv-loop μ-loop
 add-count c = search needs
 
 loop-holds : tie.Need-loop-holds Inv-loop μ-loop
-unfolding below
-loop-holds c = (omega arith, refl)
+loop-holds c = (omega arith, row-none)
 
 mul-from : tie.Need-mul-from Inv-loop μ-loop
 mul-from c = search needs
@@ -60,14 +56,14 @@ loop-again c =
     let l = c .before .before .loop in
     let v = square (a .values .now) (a .i) in
     let f : SFits w32 (v (l .j)) = record { sfits = c .pairs .given } in
-    (omega arith, rw (toZ-ofZ f) (row-store v (l .pairs) (a .pairs .now) (a .start) (l .j) (l .inv .1)))
+    (omega arith, row-value (l .inv .1) refl (toZ-ofZ f))
 
 returns : tie.Need-returns Inv-loop μ-loop
 returns c =
     let a = c .before .before .args in
     let l = c .before .loop in
     let z : l .j ≡ suc (a .i) = omega arith in
-    l .inv .1 ∙ ap (λ (k : ℕ). sets (a .pairs .now) (a .start) (map (square (a .values .now) (a .i)) (below k))) z
+    row-all (a .start) (a .i) (l .inv .1) refl z
 
 pub fill-row-spec : {M : Type 1} → statement M
 fill-row-spec =

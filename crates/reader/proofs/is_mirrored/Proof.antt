@@ -1,35 +1,31 @@
-use mathlib.Core.Path.{_≡_, sym, _∙_}
-use mathlib.Core.Bool.{true}
+use mathlib.Core.Path.{sym, _∙_}
 use Prim.Native.Nat.{_-_, _≤_}
 use native.Mathlib.Omega.{arith}
 use borrow.Author.Tests.{not-true, not-false}
 use borrow.Author.Needs.{needs}
 use Rattle.lists.specs.Lists.{all, below}
+use Rattle.lists.proofs.Walk.{Passed, started, next-below, failed-below, ended-below}
 use Rattle.integers.specs.Integers.{eqZ}
 use Rattle.sheet.specs.Sheet.{mirrored}
 use Rattle.reader.specs.Answer.{square}
-use Rattle.reader.proofs.Below.{below-none, below-next, below-false}
 use Rattle.reader.proofs.is_mirrored.Statement.{statement}
 use Rattle.reader.proofs.is_mirrored.Tie as tie
 
 abbrev Inv-loop : tie.InvT-loop
-Inv-loop values n i₀ i = (i ≤ n) × (all (λ k. all (λ j. eqZ (square values k j) (square values j k)) (below n)) (below i) ≡ true)
+Inv-loop values n i₀ i = (i ≤ n) × Passed (λ k. all (λ j. eqZ (square values k j) (square values j k)) (below n)) (below n) i
 
 abbrev μ-loop : tie.MeasureT-loop
 μ-loop values n i₀ i = n - i
 
 loop-holds : tie.Need-loop-holds Inv-loop μ-loop
-loop-holds c = (omega arith, below-none _)
+loop-holds c = (omega arith, started)
 
 is-mirrored-row-requires : tie.Need-is-mirrored-row-requires Inv-loop μ-loop
 is-mirrored-row-requires c κs = search needs
 
 returns : tie.Need-returns Inv-loop μ-loop
 unfolding mirrored
-returns c =
-    let a = c .before .before .before .before .args in
-    let v = square (a .values .now) in
-    sym (below-false (λ k. all (λ j. eqZ (v k j) (v j k)) (below (a .n))) (a .n) (c .before .before .before .loop .i) (omega arith) (sym (c .before .is-mirrored-row .ensures) ∙ not-true _ (c .if1 .taken)))
+returns c = failed-below (c .before .before .before .loop .inv .1) (omega arith) (sym (c .before .is-mirrored-row .ensures) ∙ not-true _ (c .if1 .taken))
 
 add-i : tie.Need-add-i Inv-loop μ-loop
 add-i c = search needs
@@ -38,17 +34,11 @@ loop-less : tie.Need-loop-less Inv-loop μ-loop
 loop-less c = search needs
 
 loop-again : tie.Need-loop-again Inv-loop μ-loop
-loop-again c =
-    let a = c .before .before .before .before .args in
-    let v = square (a .values .now) in
-    (omega arith, below-next (λ k. all (λ j. eqZ (v k j) (v j k)) (below (a .n))) (c .before .before .before .loop .i) (c .before .before .before .loop .inv .1) (sym (c .before .is-mirrored-row .ensures) ∙ not-false _ (c .if1 .left)))
+loop-again c = (omega arith, next-below (c .before .before .before .loop .inv .1) (omega arith) (sym (c .before .is-mirrored-row .ensures) ∙ not-false _ (c .if1 .left)))
 
 returns-2 : tie.Need-returns-2 Inv-loop μ-loop
 unfolding mirrored
-returns-2 c =
-    let a = c .before .before .args in
-    let z : c .before .loop .i ≡ a .n = omega arith in
-    sym (rw z at (c .before .loop .inv .1))
+returns-2 c = ended-below (c .before .loop .inv .1) (omega arith)
 
 pub is-mirrored-spec : {M : Type 1} → statement M
 is-mirrored-spec =

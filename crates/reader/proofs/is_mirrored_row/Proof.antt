@@ -1,24 +1,24 @@
-use mathlib.Core.Path.{_≡_, sym}
+use mathlib.Core.Path.{_≡_}
 use mathlib.Core.Bool.{true, false}
 use Prim.Native.Nat.{_-_, _≤_}
 use native.Mathlib.Omega.{arith}
 use borrow.Author.Needs.{needs}
-use Rattle.lists.specs.Lists.{all, below}
+use Rattle.lists.specs.Lists.{below}
+use Rattle.lists.proofs.Walk.{Passed, started, next-below, failed-below, ended-below}
 use Rattle.integers.specs.Integers.{eqZ}
 use Rattle.reader.specs.Answer.{square}
-use Rattle.reader.proofs.Below.{below-none, below-next, below-false}
 use Rattle.reader.proofs.Slots.{bits-same, bits-other}
 use Rattle.reader.proofs.is_mirrored_row.Statement.{statement}
 use Rattle.reader.proofs.is_mirrored_row.Tie as tie
 
 abbrev Inv-loop : tie.InvT-loop
-Inv-loop values n i j₀ j = (j ≤ n) × (all (λ k. eqZ (square values i k) (square values k i)) (below j) ≡ true)
+Inv-loop values n i j₀ j = (j ≤ n) × Passed (λ k. eqZ (square values i k) (square values k i)) (below n) j
 
 abbrev μ-loop : tie.MeasureT-loop
 μ-loop values n i j₀ j = n - j
 
 loop-holds : tie.Need-loop-holds Inv-loop μ-loop
-loop-holds c = (omega arith, below-none _)
+loop-holds c = (omega arith, started)
 
 mul-a : tie.Need-mul-a Inv-loop μ-loop
 mul-a c = search needs
@@ -54,10 +54,7 @@ unfolding square
 other c = bits-other _ _ (c .if1 .taken)
 
 returns : tie.Need-returns Inv-loop μ-loop
-returns c =
-    let a = c .before .before .before .before .before .args in
-    let v = square (a .values .now) in
-    sym (below-false (λ k. eqZ (v (a .i) k) (v k (a .i))) (a .n) (c .before .before .before .before .loop .j) (omega arith) (other c))
+returns c = failed-below (c .before .before .before .before .loop .inv .1) (omega arith) (other c)
 
 add-j : tie.Need-add-j Inv-loop μ-loop
 add-j c = search needs
@@ -66,16 +63,10 @@ loop-less : tie.Need-loop-less Inv-loop μ-loop
 loop-less c = search needs
 
 loop-again : tie.Need-loop-again Inv-loop μ-loop
-loop-again c =
-    let a = c .before .before .before .before .before .args in
-    let v = square (a .values .now) in
-    (omega arith, below-next (λ k. eqZ (v (a .i) k) (v k (a .i))) (c .before .before .before .before .loop .j) (c .before .before .before .before .loop .inv .1) (same c))
+loop-again c = (omega arith, next-below (c .before .before .before .before .loop .inv .1) (omega arith) (same c))
 
 returns-2 : tie.Need-returns-2 Inv-loop μ-loop
-returns-2 c =
-    let a = c .before .before .args in
-    let z : c .before .loop .j ≡ a .n = omega arith in
-    sym (rw z at (c .before .loop .inv .1))
+returns-2 c = ended-below (c .before .loop .inv .1) (omega arith)
 
 pub is-mirrored-row-spec : {M : Type 1} → statement M
 is-mirrored-row-spec =

@@ -1,14 +1,15 @@
 use mathlib.Core.Path.{_≡_, sym, ap, _∙_}
 use mathlib.Core.Bool.{not}
+use mathlib.Core.List.{List}
 use Prim.Native.Nat.{ℕ, _≤_, _<_}
-use native.Mathlib.Omega.{arith}
 use borrow.Author.Needs.{needs}
 use lib.ListN.{length, drop}
-use Rattle.clusters.specs.Refusals.{firstOf, wrongCount}
+use Rattle.clusters.specs.Refusals.{wrongCount}
+use Rattle.clusters.proofs.Refusals.{Gives, first-yes, first-no, no-more, right-count}
 use Rattle.sheet.specs.Sheet.{entries, value, mirrored, sheetChecks}
 use Rattle.reader.specs.Answer.{Holds}
 use Rattle.reader.proofs.Rows.{refuses, passes}
-use Rattle.reader.proofs.Answers.{hit, skip, none, length-right, count-right, mirrored-same, refused, passed}
+use Rattle.reader.proofs.Answers.{length-right, mirrored-same, refused, passed}
 use Rattle.reader.proofs.read.Statement.{statement}
 use Rattle.reader.proofs.read.Tie as tie
 
@@ -17,49 +18,48 @@ wrong-length-requires c κs = search needs
 
 returns : tie.Need-returns
 unfolding sheetChecks
-returns c =
-    refused (c .before .before .before .args .sheet .now) _ 2 (hit 2 _ (sym (c .before .wrong-length .ensures) ∙ c .if1 .taken)) (λ z. omega (arith, z))
+returns c = refused _ _ (first-yes (sym (c .before .wrong-length .ensures) ∙ c .if1 .taken))
 
--- the lines of the table that are left at each place
-left3 : (c : tie.Else1) → firstOf (sheetChecks (c .before .before .before .args .sheet .now)) ≡ firstOf (drop 1 (sheetChecks (c .before .before .before .args .sheet .now)))
+-- the checks before place i have passed: what those left give, the table gives
+abbrev Left : List ℕ → ℕ → Type 0
+Left s i = (r : ℕ) → Gives (drop i (sheetChecks s)) r → Gives (sheetChecks s) r
+
+left3 : (c : tie.Else1) → Left (c .before .before .before .args .sheet .now) 1
 unfolding sheetChecks
-left3 c = skip 2 _ (sym (c .before .wrong-length .ensures) ∙ c .if1 .left)
+left3 c r g = first-no (sym (c .before .wrong-length .ensures) ∙ c .if1 .left) g
 
 wrong-byte-requires : tie.Need-wrong-byte-requires
 wrong-byte-requires c κs = search needs
 
 returns-2 : tie.Need-returns-2
 unfolding sheetChecks
-returns-2 c =
-    refused (c .before .before .before .before .before .args .sheet .now) _ 3 (left3 (c .before .before) ∙ hit 3 _ (sym (c .before .wrong-byte .ensures) ∙ c .if2 .taken)) (λ z. omega (arith, z))
+returns-2 c = refused _ _ (left3 (c .before .before) _ (first-yes (sym (c .before .wrong-byte .ensures) ∙ c .if2 .taken)))
 
-left4 : (c : tie.Else2) → firstOf (sheetChecks (c .before .before .before .before .before .args .sheet .now)) ≡ firstOf (drop 2 (sheetChecks (c .before .before .before .before .before .args .sheet .now)))
+left4 : (c : tie.Else2) → Left (c .before .before .before .before .before .args .sheet .now) 2
 unfolding sheetChecks
-left4 c = left3 (c .before .before) ∙ skip 3 _ (sym (c .before .wrong-byte .ensures) ∙ c .if2 .left)
+left4 c r g = left3 (c .before .before) r (first-no (sym (c .before .wrong-byte .ensures) ∙ c .if2 .left) g)
 
 wrong-names-requires : tie.Need-wrong-names-requires
 wrong-names-requires c κs = search needs
 
 returns-3 : tie.Need-returns-3
 unfolding sheetChecks
-returns-3 c =
-    refused (c .before .before .before .before .before .before .before .args .sheet .now) _ 4 (left4 (c .before .before) ∙ hit 4 _ (sym (c .before .wrong-names .ensures) ∙ c .if3 .taken)) (λ z. omega (arith, z))
+returns-3 c = refused _ _ (left4 (c .before .before) _ (first-yes (sym (c .before .wrong-names .ensures) ∙ c .if3 .taken)))
 
-left5 : (c : tie.Else3) → firstOf (sheetChecks (c .before .before .before .before .before .before .before .args .sheet .now)) ≡ firstOf (drop 3 (sheetChecks (c .before .before .before .before .before .before .before .args .sheet .now)))
+left5 : (c : tie.Else3) → Left (c .before .before .before .before .before .before .before .args .sheet .now) 3
 unfolding sheetChecks
-left5 c = left4 (c .before .before) ∙ skip 4 _ (sym (c .before .wrong-names .ensures) ∙ c .if3 .left)
+left5 c r g = left4 (c .before .before) r (first-no (sym (c .before .wrong-names .ensures) ∙ c .if3 .left) g)
 
 equal-names-requires : tie.Need-equal-names-requires
 equal-names-requires c κs = search needs
 
 returns-4 : tie.Need-returns-4
 unfolding sheetChecks
-returns-4 c =
-    refused (c .before .before .before .before .before .before .before .before .before .args .sheet .now) _ 5 (left5 (c .before .before) ∙ hit 5 _ (sym (c .before .equal-names .ensures) ∙ c .if4 .taken)) (λ z. omega (arith, z))
+returns-4 c = refused _ _ (left5 (c .before .before) _ (first-yes (sym (c .before .equal-names .ensures) ∙ c .if4 .taken)))
 
-left6 : (c : tie.Else4) → firstOf (sheetChecks (c .before .before .before .before .before .before .before .before .before .args .sheet .now)) ≡ firstOf (drop 4 (sheetChecks (c .before .before .before .before .before .before .before .before .before .args .sheet .now)))
+left6 : (c : tie.Else4) → Left (c .before .before .before .before .before .before .before .before .before .args .sheet .now) 4
 unfolding sheetChecks
-left6 c = left5 (c .before .before) ∙ skip 5 _ (sym (c .before .equal-names .ensures) ∙ c .if4 .left)
+left6 c r g = left5 (c .before .before) r (first-no (sym (c .before .equal-names .ensures) ∙ c .if4 .left) g)
 
 long : (c : tie.Else4) → (0 < length (c .before .before .before .before .before .before .before .before .before .args .sheet .now)) × (length (c .before .before .before .before .before .before .before .before .before .args .sheet .now) ≤ 12288)
 long c = length-right (c .before .before .before .before .before .before .before .before .before .args .sheet .now) (sym (c .before .before .before .before .before .before .before .wrong-length .ensures) ∙ c .before .before .before .before .before .before .if1 .left)
@@ -74,26 +74,25 @@ returns-5 : tie.Need-returns-5
 unfolding sheetChecks
 returns-5 c =
     let e = sym (c .before .wrong-count .ensures ∙ ap wrongCount (c .before .before .entry-count .ensures)) ∙ c .if5 .taken in
-    refused (c .before .before .before .before .before .before .before .before .before .before .before .before .args .sheet .now) _ 6 (left6 (c .before .before .before) ∙ hit 6 _ e) (λ z. omega (arith, z))
+    refused _ _ (left6 (c .before .before .before) _ (first-yes e))
 
-left7 : (c : tie.Else5) → firstOf (sheetChecks (c .before .before .before .before .before .before .before .before .before .before .before .before .args .sheet .now)) ≡ firstOf (drop 5 (sheetChecks (c .before .before .before .before .before .before .before .before .before .before .before .before .args .sheet .now)))
+left7 : (c : tie.Else5) → Left (c .before .before .before .before .before .before .before .before .before .before .before .before .args .sheet .now) 5
 unfolding sheetChecks
-left7 c = left6 (c .before .before .before) ∙ skip 6 _ (sym (c .before .wrong-count .ensures ∙ ap wrongCount (c .before .before .entry-count .ensures)) ∙ c .if5 .left)
+left7 c r g = left6 (c .before .before .before) r (first-no (sym (c .before .wrong-count .ensures ∙ ap wrongCount (c .before .before .entry-count .ensures)) ∙ c .if5 .left) g)
 
 few : (c : tie.Else5) → c .before .before .entry-count .result ≤ 32
-few c = count-right (c .before .before .entry-count .result) (sym (c .before .wrong-count .ensures) ∙ c .if5 .left)
+few c = right-count (c .before .before .entry-count .result) (sym (c .before .wrong-count .ensures) ∙ c .if5 .left)
 
 wrong-lines-requires : tie.Need-wrong-lines-requires
 wrong-lines-requires c κs = (long (c .before .before .before) .0, long (c .before .before .before) .1, c .before .before .entry-count .ensures, few c)
 
 returns-6 : tie.Need-returns-6
 unfolding sheetChecks
-returns-6 c =
-    refused (c .before .before .before .before .before .before .before .before .before .before .before .before .before .before .args .sheet .now) _ 7 (left7 (c .before .before) ∙ hit 7 _ (sym (c .before .wrong-lines .ensures) ∙ c .if6 .taken)) (λ z. omega (arith, z))
+returns-6 c = refused _ _ (left7 (c .before .before) _ (first-yes (sym (c .before .wrong-lines .ensures) ∙ c .if6 .taken)))
 
-left8 : (c : tie.Else6) → firstOf (sheetChecks (c .before .before .before .before .before .before .before .before .before .before .before .before .before .before .args .sheet .now)) ≡ firstOf (drop 6 (sheetChecks (c .before .before .before .before .before .before .before .before .before .before .before .before .before .before .args .sheet .now)))
+left8 : (c : tie.Else6) → Left (c .before .before .before .before .before .before .before .before .before .before .before .before .before .before .args .sheet .now) 6
 unfolding sheetChecks
-left8 c = left7 (c .before .before) ∙ skip 7 _ (sym (c .before .wrong-lines .ensures) ∙ c .if6 .left)
+left8 c r g = left7 (c .before .before) r (first-no (sym (c .before .wrong-lines .ensures) ∙ c .if6 .left) g)
 
 slice-aggregate-read-rows : tie.Need-slice-aggregate-read-rows
 slice-aggregate-read-rows c = search needs
@@ -103,12 +102,11 @@ read-rows-requires c κs = (c .before .before .before .before .before .entry-cou
 
 returns-7 : tie.Need-returns-7
 unfolding sheetChecks
-returns-7 c =
-    refused (c .before .before .before .before .before .before .before .before .before .before .before .before .before .before .before .before .before .before .args .sheet .now) _ 8 (left8 (c .before .before .before .before) ∙ hit 8 _ (refuses _ _ (c .before .before .read-rows .ensures .0) (c .if7 .taken))) (λ z. omega (arith, z))
+returns-7 c = refused _ _ (left8 (c .before .before .before .before) _ (first-yes (refuses _ _ (c .before .before .read-rows .ensures .0) (c .if7 .taken))))
 
-left9 : (c : tie.Else7) → firstOf (sheetChecks (c .before .before .before .before .before .before .before .before .before .before .before .before .before .before .before .before .before .before .args .sheet .now)) ≡ firstOf (drop 7 (sheetChecks (c .before .before .before .before .before .before .before .before .before .before .before .before .before .before .before .before .before .before .args .sheet .now)))
+left9 : (c : tie.Else7) → Left (c .before .before .before .before .before .before .before .before .before .before .before .before .before .before .before .before .before .before .args .sheet .now) 7
 unfolding sheetChecks
-left9 c = left8 (c .before .before .before .before) ∙ skip 8 _ (passes _ _ (c .before .before .read-rows .ensures .0) (c .if7 .left))
+left9 c r g = left8 (c .before .before .before .before) r (first-no (passes _ _ (c .before .before .read-rows .ensures .0) (c .if7 .left)) g)
 
 held : (c : tie.Else7) → Holds (c .before .before .read-rows .last .1 .1 .0) (c .before .before .before .before .before .before .before .before .entry-count .result) (value (c .before .before .before .before .before .before .before .before .before .before .before .before .before .before .before .before .before .before .args .sheet .now))
 held c = c .before .before .read-rows .ensures .1 (c .if7 .left)
@@ -126,8 +124,7 @@ mirror c =
 
 returns-8 : tie.Need-returns-8
 unfolding sheetChecks
-returns-8 c =
-    refused (c .before .before .before .before .before .before .before .before .before .before .before .before .before .before .before .before .before .before .before .before .before .args .sheet .now) _ 9 (left9 (c .before .before .before) ∙ hit 9 _ (sym (mirror (c .before)) ∙ c .if8 .taken)) (λ z. omega (arith, z))
+returns-8 c = refused _ _ (left9 (c .before .before .before) _ (first-yes (sym (mirror (c .before)) ∙ c .if8 .taken)))
 
 slice-aggregate-fill : tie.Need-slice-aggregate-fill
 slice-aggregate-fill c = sym (c .before .before .before .before .before .before .read-rows .kept .1 .1 .0)
@@ -138,10 +135,11 @@ fill-requires c κs = (few (c .before .before .before .before .before .before .b
 returns-9 : tie.Need-returns-9
 unfolding sheetChecks
 returns-9 c =
-    let s = c .before .before .before .before .before .before .before .before .before .before .before .before .before .before .before .before .before .before .before .before .before .before .before .before .args .sheet .now in
-    let z = left9 (c .before .before .before .before .before .before) ∙ skip 9 _ (sym (mirror (c .before .before .before .before)) ∙ c .before .before .before .if8 .left) ∙ none in
-    let p = passed s (c .before .before .before .before .before .before .before .before .before .before .before .before .before .before .before .before .before .before .before .before .before .before .before .before .args .pairs .now) (c .before .before .before .before .before .before .before .before .before .before .before .before .before .before .entry-count .result) (c .before .before .before .before .before .before .before .before .read-rows .last .1 .1 .0) z (c .before .before .before .before .before .before .before .before .before .before .before .before .before .before .entry-count .ensures) (held (c .before .before .before .before .before .before)) in
-    (p .0, c .fill .ensures ∙ p .1)
+    let o = c .before .before .before .before .before .before in
+    let t = o .before .before .before .before .before .before .before .before .entry-count in
+    let g = left9 o _ (first-no (sym (mirror (c .before .before .before .before)) ∙ c .before .before .before .if8 .left) no-more) in
+    let (p, q) = passed _ _ (t .result) _ g (t .ensures) (held o) in
+    (p, c .fill .ensures ∙ q)
 
 pub read-spec : {M : Type 1} → statement M
 read-spec =

@@ -1,19 +1,19 @@
 use mathlib.Core.List.{map}
 use mathlib.Core.Path.{_≡_, sym, ap, _∙_}
-use mathlib.Core.Bool.{true, not, cond}
+use mathlib.Core.Bool.{not, cond}
 use Prim.Native.Nat.{ℕ, _+_, _-_, _*_, _≤_, _<_}
 use native.Mathlib.Omega.{arith}
 use borrow.Author.Tests.{not-true, not-false}
 use borrow.Author.Needs.{needs}
 use lib.Seq.{sets}
 use lib.ListN.{length, drop}
-use Rattle.lists.specs.Lists.{all, below}
+use Rattle.lists.specs.Lists.{below}
+use Rattle.lists.proofs.Walk.{Passed, started, next-below, failed-below, ended-below}
 use Rattle.text.specs.Text.{valueOf, cut}
 use Rattle.sheet.specs.Sheet.{lines, words, value, isRow}
 use Rattle.reader.specs.Answer.{square}
-use Rattle.reader.proofs.Below.{below-none, below-next}
 use Rattle.reader.proofs.Rows.{row-length, refuses, passes}
-use Rattle.reader.proofs.Values.{Line, line-count, line-at, first-at, line-words, values-wrong, values-right, square-next, value-at}
+use Rattle.reader.proofs.Values.{Line, line-count, line-at, first-at, line-words, values-tested, square-next, value-at}
 use Rattle.reader.proofs.read_rows.Statement.{statement}
 use Rattle.reader.proofs.read_rows.Tie as tie
 
@@ -22,7 +22,7 @@ Inv-loop sheet n values₀ at₀ i₀ values at i =
     (i ≤ n)
     × (at ≤ length sheet)
     × (cut 10 (drop at sheet) ≡ drop (i + 1) (lines sheet))
-    × (all (λ k. isRow n (words sheet k)) (below i) ≡ true)
+    × Passed (λ k. isRow n (words sheet k)) (below n) i
     × ((a b : ℕ) → a < i → b < n → square values a b ≡ value sheet a b)
     × (length values ≡ 1024)
 
@@ -44,7 +44,7 @@ add-at c = omega (arith, first c .inside)
 loop-holds : tie.Need-loop-holds Inv-loop μ-loop
 loop-holds c =
     let s = c .before .before .args .sheet .now in
-    (omega arith, omega (arith, first c .inside), first c .next, below-none _, λ a b p q. absurd (omega arith), c .before .before .pre .3)
+    (omega arith, omega (arith, first c .inside), first c .next, started, λ a b p q. absurd (omega arith), c .before .before .pre .3)
 
 line-end-requires-2 : tie.Need-line-end-requires-2 Inv-loop μ-loop
 line-end-requires-2 c κs = search needs
@@ -82,7 +82,7 @@ returns : tie.Need-returns Inv-loop μ-loop
 returns c =
     let a = c .before .before .before .before .before .before .before .before .before .before .args in
     let n = not-true _ (refuses _ _ (answer (c .before .before)) (c .if1 .taken)) in
-    (values-wrong (a .sheet .now) (a .n) (c .before .before .before .before .before .before .before .loop .i) (c .before .before .before .before .before .before .before .before .before .before .pre .0) (omega arith) n, λ z. absurd (omega (arith, z)))
+    (values-tested (a .sheet .now) (a .n) (c .before .before .before .before .before .before .before .before .before .before .pre .0) (failed-below (c .before .before .before .before .before .before .before .loop .inv .3) (omega arith) n), λ z. absurd (omega (arith, z)))
 
 add-at-2 : tie.Need-add-at-2 Inv-loop μ-loop
 add-at-2 c = omega (arith, line (c .before .before .before .before .before) .inside)
@@ -104,7 +104,7 @@ loop-again c =
       omega arith,
       omega (arith, line (c .before .before .before .before .before) .inside),
       line (c .before .before .before .before .before) .next,
-      below-next (λ k. isRow (a .n) (words s k)) (l .i) (l .inv .3) y,
+      next-below (l .inv .3) (omega arith) y,
       square-next (value s) (l .values) _ (words s (l .i)) (a .n) (l .i) (omega arith) (omega arith) (l .inv .5) (row-length (a .n) _ y) m (value-at s (l .i)) (l .inv .4),
       r .kept .1 .1 .1 .0 ∙ l .inv .5,
     )
@@ -116,8 +116,7 @@ returns-2 : tie.Need-returns-2 Inv-loop μ-loop
 returns-2 c =
     let a = c .before .before .before .before .args in
     let l = c .before .loop in
-    let z : l .i ≡ a .n = omega arith in
-    (values-right (a .sheet .now) (a .n) (c .before .before .before .before .pre .0) (rw z at (l .inv .3)), λ e i j p q. l .inv .4 i j (omega arith) q)
+    (values-tested (a .sheet .now) (a .n) (c .before .before .before .before .pre .0) (ended-below (l .inv .3) (omega arith)), λ e i j p q. l .inv .4 i j (omega arith) q)
 
 pub read-rows-spec : {M : Type 1} → statement M
 read-rows-spec =

@@ -17,7 +17,7 @@ returns : tie.Need-returns
 returns c = sym (entries-is (c .before .before .before .before .before .args .sheet .now) _ (sym (c .before .before .read .ensures .0) ∙ c .enum-told .given .1) .0)
 
 returns-2 : tie.Need-returns-2
-returns-2 c = number-is (c .before .before .before .before .before .before .args .sheet .now) _ (sym (c .before .before .before .read .ensures .0) ∙ c .before .number .given .1)
+returns-2 c = number-is (c .before .before .before .before .before .before .args .sheet .now) _ (sym (c .before .before .before .read .ensures .0) ∙ c .before .number .given .1) .0
 
 pub refusal-spec : {M : Type 1} → statement M
 refusal-spec = tie.close (tie.spec read-requires enum-known-number enum-told returns returns-2)

@@ -1,7 +1,7 @@
 use mathlib.Core.Path.{sym}
 use borrow.Author.Needs.{needs}
 use lib.Seq.{length-take-le}
-use Rattle.matrix.proofs.Places.{rowStart-le}
+use Rattle.clusters.proofs.PairList.{rowStart-le}
 use Rattle.linkage.specs.Blocks.{linkageOf}
 use Rattle.trees.proofs.Merging.{Front, front-fits, front-long, front-bounded, merged-splits}
 use Rattle.trees.proofs.merge_anchored.Statement.{statement}

@@ -9,14 +9,9 @@ use lib.ListN.{length, length-map, drop, set}
 use lib.Seq.{sets, sets-eq}
 use Rattle.lists.specs.Lists.{below, each}
 use Rattle.lists.proofs.Lists.{count-below}
+use Rattle.lists.proofs.Written.{sets-sets}
 use Rattle.clusters.specs.PairList.{Similarity, rowStart, pairList}
 use Rattle.clusters.proofs.PairList.{pairList-suc, length-pairList}
-
-sets-append : (l : List ℤ) (i : ℕ) (v w : List ℤ) → sets l i (v ++ w) ≡ sets (sets l i v) (i + length v) w
-sets-append l i [] w = let e : i ≡ i + 0 = omega arith in ap (λ (j : ℕ). sets l j w) e
-sets-append l i (x ∷ v) w =
-    let e : suc i + length v ≡ i + suc (length v) = omega arith in
-    sets-append (set l i x) (suc i) v w ∙ ap (λ (j : ℕ). sets (sets (set l i x) (suc i) v) j w) e
 
 -- o is what was lent with b values of a row written, from slot i on
 pub record Row (f : ℕ → ℤ) (i : ℕ) (lent o : List ℤ) (b : ℕ) : Type 0 where
@@ -33,7 +28,7 @@ row-value {f} {lent} {o} {o′} {i} {b} {z} r q p =
     let more : map f (below (b + 1)) ≡ map f (below b) ++ (f b ∷ []) = rw (add-one b) (map-append f (below b) (b ∷ [])) in
     record {
       is = q ∙ ap₂ (λ (l : List ℤ) (y : ℤ). set l (i + b) y) (r .is) p ∙ ap (λ (j : ℕ). set (sets lent i (map f (below b))) j (f b)) long
-          ∙ sym (sets-append lent i (map f (below b)) (f b ∷ [])) ∙ ap (sets lent i) (sym more);
+          ∙ sets-sets (map f (below b)) lent i (f b ∷ []) ∙ ap (sets lent i) (sym more);
     }
 
 pub row-all : {f : ℕ → ℤ} {i b : ℕ} {lent o : List ℤ} (j a : ℕ) → Row f i lent o b → i ≡ j → b ≡ suc a → o ≡ sets lent j (map f (below (suc a)))
@@ -51,7 +46,7 @@ pub rows-row : {s : Similarity} {lent o o′ : List ℤ} {a : ℕ} → Rows s le
 rows-row {s} {lent} {o} {o′} {a} r q =
     let row = map (s a) (below (suc a)) in
     let long : rowStart a ≡ 0 + length (pairList a s) = omega (arith, length-pairList a s) in
-    record { is = q ∙ ap₂ (λ (l : List ℤ) (j : ℕ). sets l j row) (r .is) long ∙ sym (sets-append lent 0 (pairList a s) row) ∙ ap (sets lent 0) (sym (pairList-suc a s)) ∙ rw (add-one a) }
+    record { is = q ∙ ap₂ (λ (l : List ℤ) (j : ℕ). sets l j row) (r .is) long ∙ sets-sets (pairList a s) lent 0 row ∙ ap (sets lent 0) (sym (pairList-suc a s)) ∙ rw (add-one a) }
 
 pub rows-all : {s : Similarity} {lent o : List ℤ} {a : ℕ} (n : ℕ) → Rows s lent o a → a ≡ n → rowStart n ≤ length lent → o ≡ pairList n s ++ drop (rowStart n) lent
 rows-all {s} {lent} n r e h =
