@@ -12,10 +12,13 @@ use Rattle.integers.specs.Range.{Within, Bounded}
 use Rattle.integers.proofs.Held.{passed}
 use Rattle.integers.proofs.Range.{within-grow, within-sum, within-difference}
 use Rattle.clusters.specs.PairList.{score, inRange}
-use Rattle.clusters.specs.Farris.{farris, unfarris, anchoredScores, distancesBack}
+use Rattle.clusters.specs.Farris.{farris, anchoredScores, distancesBack}
 use Rattle.clusters.proofs.PairList.{of-pairList}
 use Rattle.clusters.proofs.Farris.{score-back}
 use Rattle.matrix.proofs.Scores.{score-within}
+use Rattle.farris.specs.declared.Way.{Way}
+use Rattle.farris.specs.declared.Way.the-variants.{Anchored, Back}
+use Rattle.farris.specs.Ways.{converted, Convertible}
 
 -- the results of two calls, numbers of 32 bits, and the result of a call that adds them: each may be added or subtracted
 pub addend : {u : ℤ} → mag u < 2 ^ hbits w64 → Within (2 ^ 31) u → Within (2 ^ 61) (toZ w64 (ofZ w64 u))
@@ -33,11 +36,10 @@ unfolding farris
 farris-within l x a b t = within-difference (within-sum (score-within l a x t) (score-within l b x t)) (score-within l a b t)
 
 -- what is written fits 32 bits
-pub farris-small : (l : List ℤ) (x a b : ℕ) → T (inRange l) → Within (2 ^ 31 - 1) (farris (score l) x a b)
-farris-small l x a b t = within-grow (omega arith) (farris-within l x a b t)
-
-pub unfarris-small : (n : ℕ) (l : List ℤ) (a b : ℕ) → T (inRange (distancesBack n l)) → a < n → b < n → Within (2 ^ 31 - 1) (unfarris (score l) a b)
-unfarris-small n l a b t h k = within-grow (omega arith) (subst (Within 1000000) (score-back n l a b h k) (score-within (distancesBack n l) a b t))
+pub converted-small : (w : Way) (n : ℕ) (l : List ℤ) (a b : ℕ) → Convertible w n l → a < n → b < n → Within (2 ^ 31 - 1) (converted w (score l) a b)
+unfolding converted Convertible
+converted-small (Anchored x) n l a b (_, t) h k = within-grow (omega arith) (farris-within l x a b t)
+converted-small Back n l a b t h k = within-grow (omega arith) (subst (Within 1000000) (score-back n l a b h k) (score-within (distancesBack n l) a b t))
 
 pub anchored-bounded : (n x : ℕ) (l : List ℤ) → T (inRange l) → Bounded (2 ^ 22) (anchoredScores n x l)
 unfolding anchoredScores

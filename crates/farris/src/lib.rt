@@ -10,13 +10,20 @@ ghost use lib.Seq.{sets};
 ghost use Rattle.lists.specs.Lists.{all, below};
 ghost use Rattle.integers.specs.Integers.{eqZ, even};
 ghost use Rattle.integers.specs.Range.{Within};
-ghost use Rattle.clusters.specs.PairList.{rowStart, place, score, inRange, areDistances};
+ghost use Rattle.clusters.specs.PairList.{rowStart, place, score, pairList, inRange, areDistances};
 ghost use Rattle.clusters.specs.Farris.{farris, unfarris, anchoredScores, distancesBack, isAnchored};
 ghost use Rattle.clusters.specs.Refusals.{wrongCount};
 ghost use Rattle.answers.specs.Answers.{answer, slots};
 ghost use Rattle.farris.specs.Calls.{anchoredRefusal, backRefusal};
 ghost use Rattle.farris.specs.Distances.{isDistance};
+ghost use Rattle.farris.specs.Ways.{converted, Convertible};
 use answers::Answer;
+
+// To the anchored scores, at an anchor, or back.
+enum Way {
+    Anchored(usize),
+    Back,
+}
 
 // The score of a and b in any list; it has 32 bits, so sums of a few do not wrap.
 fn listed_score(pairs: &[i32], a: usize, b: usize) -> i64
@@ -35,14 +42,45 @@ fn anchored_score(n: usize, x: usize, pairs: &[i32], a: usize, b: usize) -> i64
     integers::difference(to_anchor, listed_score(pairs, a, b))
 }
 
-// Row a of the anchored scores.
-fn anchor_row(n: usize, x: usize, pairs: &[i32], a: usize, out: &mut [i32])
-    requires { ⌜ (n ≤ 32) × (x < n) × (length (now pairs) ≡ rowStart n) × T (inRange (now pairs)) × (a < n) × (rowStart n ≤ length (now out)) ⌝ }
-    ensures { λ _. ⌜ now (out .exit) ≡ sets (now (out .entry)) (rowStart a) (map (farris (score (now (pairs .entry))) x a) (below (suc a))) ⌝ }
+// d(a,b), found back from the anchored scores.
+fn distance_back(n: usize, scores: &[i32], a: usize, b: usize) -> i64
+    requires { ⌜ (n ≤ 32) × (length (now scores) ≡ rowStart n) × (a < n) × (b < n) ⌝ }
+    ensures { λ r. ⌜ r ≡ unfarris (score (now (scores .entry))) a b ⌝ }
+{
+    let own = integers::sum(listed_score(scores, a, a), listed_score(scores, b, b));
+    let between = listed_score(scores, a, b);
+    integers::half(integers::difference(own, integers::sum(between, between)))
+}
+
+// The value at a and b, either way.
+fn converted(way: Way, n: usize, pairs: &[i32], a: usize, b: usize) -> i64
+    requires { ⌜ (n ≤ 32) × (length (now pairs) ≡ rowStart n) × Convertible way n (now pairs) × (a < n) × (b < n) ⌝ }
+    ensures { λ r. ⌜ r ≡ converted way (score (now (pairs .entry))) a b ⌝ }
+{
+    match way {
+        Way::Anchored(x) => anchored_score(n, x, pairs, a, b),
+        Way::Back => distance_back(n, pairs, a, b),
+    }
+}
+
+// Row a of the list, converted.
+fn convert_row(way: Way, n: usize, pairs: &[i32], a: usize, out: &mut [i32])
+    requires { ⌜ (n ≤ 32) × (length (now pairs) ≡ rowStart n) × Convertible way n (now pairs) × (a < n) × (rowStart n ≤ length (now out)) ⌝ }
+    ensures { λ _. ⌜ now (out .exit) ≡ sets (now (out .entry)) (rowStart a) (map (converted way (score (now (pairs .entry))) a) (below (suc a))) ⌝ }
 {
     let start = matrix::row_start(a);
     for b in 0..a + 1 {
-        out[start + b] = integers::narrow(anchored_score(n, x, pairs, a, b));
+        out[start + b] = integers::narrow(converted(way, n, pairs, a, b));
+    }
+}
+
+// A pair list that passed its checks, converted.
+fn convert(way: Way, n: usize, pairs: &[i32], out: &mut [i32])
+    requires { ⌜ (n ≤ 32) × (length (now pairs) ≡ rowStart n) × Convertible way n (now pairs) × (rowStart n ≤ length (now out)) ⌝ }
+    ensures { λ _. ⌜ now (out .exit) ≡ pairList n (converted way (score (now (pairs .entry)))) ++ drop (rowStart n) (now (out .entry)) ⌝ }
+{
+    for a in 0..n {
+        convert_row(way, n, pairs, a, out);
     }
 }
 
@@ -51,9 +89,21 @@ pub fn anchor(n: usize, x: usize, pairs: &[i32], out: &mut [i32])
     requires { ⌜ (n ≤ 32) × (x < n) × (length (now pairs) ≡ rowStart n) × T (inRange (now pairs)) × (rowStart n ≤ length (now out)) ⌝ }
     ensures { λ _. ⌜ now (out .exit) ≡ anchoredScores n x (now (pairs .entry)) ++ drop (rowStart n) (now (out .entry)) ⌝ }
 {
-    for a in 0..n {
-        anchor_row(n, x, pairs, a, out);
+    convert(Way::Anchored(x), n, pairs, out);
+}
+
+// The answer of either call whose table gives this number; if that is 0, the list is converted.
+fn answered(refusal: usize, way: Way, n: usize, pairs: &[i32], out: &mut [i32]) -> Answer
+    requires { ⌜ (refusal ≡ 0 → (n ≤ 32) × (length (now pairs) ≡ rowStart n) × Convertible way n (now pairs) × (rowStart n ≤ length (now out))) ⌝ }
+    ensures { λ r. ⌜ r ≡ answer refusal (rowStart n) ⌝ }
+    ensures { λ _. ⌜ now (out .exit) ≡ slots refusal (pairList n (converted way (score (now (pairs .entry))))) (now (out .entry)) ⌝ }
+{
+    if refusal != 0 {
+        return Answer::Refused(refusal);
     }
+    let count = matrix::pair_count(n);
+    convert(way, n, pairs, out);
+    Answer::Count(count)
 }
 
 // Check 6.
@@ -105,22 +155,7 @@ pub fn anchored_scores(n: usize, x: usize, pairs: &[i32], out: &mut [i32]) -> An
     ensures { λ _. ⌜ now (out .exit) ≡ slots (anchoredRefusal n x (now (pairs .entry)) (length (now (out .entry)))) (anchoredScores n x (now (pairs .entry))) (now (out .entry)) ⌝ }
 {
     let refusal = anchored_refusal(n, x, pairs, out.len());
-    if refusal != 0 {
-        return Answer::Refused(refusal);
-    }
-    let count = matrix::pair_count(n);
-    anchor(n, x, pairs, out);
-    Answer::Count(count)
-}
-
-// d(a,b), found back from the anchored scores.
-fn distance_back(n: usize, scores: &[i32], a: usize, b: usize) -> i64
-    requires { ⌜ (n ≤ 32) × (length (now scores) ≡ rowStart n) × (a < n) × (b < n) ⌝ }
-    ensures { λ r. ⌜ r ≡ unfarris (score (now (scores .entry))) a b ⌝ }
-{
-    let own = integers::sum(listed_score(scores, a, a), listed_score(scores, b, b));
-    let between = listed_score(scores, a, b);
-    integers::half(integers::difference(own, integers::sum(between, between)))
+    answered(refusal, Way::Anchored(x), n, pairs, out)
 }
 
 // What 11 and 12 ask of one distance.
@@ -186,27 +221,6 @@ fn is_anchored(n: usize, x: usize, scores: &[i32]) -> bool
     are_anchored_entries(n, x, scores) && are_distances_back(n, scores)
 }
 
-// Row a of the distances back.
-fn back_row(n: usize, scores: &[i32], a: usize, out: &mut [i32])
-    requires { ⌜ (n ≤ 32) × (length (now scores) ≡ rowStart n) × T (inRange (distancesBack n (now scores))) × (a < n) × (rowStart n ≤ length (now out)) ⌝ }
-    ensures { λ _. ⌜ now (out .exit) ≡ sets (now (out .entry)) (rowStart a) (map (unfarris (score (now (scores .entry))) a) (below (suc a))) ⌝ }
-{
-    let start = matrix::row_start(a);
-    for b in 0..a + 1 {
-        out[start + b] = integers::narrow(distance_back(n, scores, a, b));
-    }
-}
-
-// The distances back of scores that passed their checks.
-fn back(n: usize, scores: &[i32], out: &mut [i32])
-    requires { ⌜ (n ≤ 32) × (length (now scores) ≡ rowStart n) × T (inRange (distancesBack n (now scores))) × (rowStart n ≤ length (now out)) ⌝ }
-    ensures { λ _. ⌜ now (out .exit) ≡ distancesBack n (now (scores .entry)) ++ drop (rowStart n) (now (out .entry)) ⌝ }
-{
-    for a in 0..n {
-        back_row(n, scores, a, out);
-    }
-}
-
 // The first number of the way back's table whose condition holds, 0 if none does.
 fn back_refusal(n: usize, x: usize, scores: &[i32], room: usize) -> usize
     ensures { λ r. ⌜ r ≡ backRefusal n x (now (scores .entry)) room ⌝ }
@@ -232,10 +246,5 @@ pub fn distances_back(n: usize, x: usize, scores: &[i32], out: &mut [i32]) -> An
     ensures { λ _. ⌜ now (out .exit) ≡ slots (backRefusal n x (now (scores .entry)) (length (now (out .entry)))) (distancesBack n (now (scores .entry))) (now (out .entry)) ⌝ }
 {
     let refusal = back_refusal(n, x, scores, out.len());
-    if refusal != 0 {
-        return Answer::Refused(refusal);
-    }
-    let count = matrix::pair_count(n);
-    back(n, scores, out);
-    Answer::Count(count)
+    answered(refusal, Way::Back, n, scores, out)
 }

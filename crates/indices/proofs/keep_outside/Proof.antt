@@ -1,10 +1,11 @@
 use mathlib.Core.Path.{_≡_, sym, ap, ap₂, _∙_}
 use mathlib.Core.Bool.{not}
 use mathlib.Core.Logic.{⊎-elim}
-use Prim.Native.Nat.{_-_, _≤_}
+use Prim.Native.Nat.{_-_, _<_, _≤_}
 use native.Mathlib.Omega.{arith}
 use borrow.Author.Needs.{needs}
 use lib.IntN.{_-ℤ_}
+use lib.ListN.{length}
 use mir.Syntax.{w64}
 use Rattle.integers.specs.Integers.{maxZ}
 use Rattle.integers.proofs.Held.{passed}
@@ -40,15 +41,15 @@ loop-holds c = (omega arith, c .before .place-of .ensures, c .place-of2 .ensures
 has-requires : tie.Need-has-requires Inv-loop μ-loop
 has-requires c κs = search needs
 
+-- the pairs of a and c and of b and c
+asked : (c : tie.In-loop Inv-loop μ-loop) → let a = c .before .before .before .before .before .args in (place (a .a) (c .before .loop .c) < length (a .pairs .now)) × (place (a .b) (c .before .loop .c) < length (a .pairs .now))
+asked c = let g = c .before .before .before .before .before in (score-asked (g .pre .0) {a = g .args .a} {b = c .before .loop .c} (omega arith) (omega arith) .2, score-asked (g .pre .0) {a = g .args .b} {b = c .before .loop .c} (omega arith) (omega arith) .2)
+
 value-requires : tie.Need-value-requires Inv-loop μ-loop
-value-requires c κs = let s = c .before .before .before in
-    let g = s .before .before .before .before in
-    omega (arith, score-asked (g .pre .0) {a = g .args .a} {b = s .loop .c} (omega arith) (omega arith) .2)
+value-requires c κs = let (p, q) = asked (c .before .before) in omega (arith, p, q)
 
 value-requires-2 : tie.Need-value-requires-2 Inv-loop μ-loop
-value-requires-2 c κs = let s = c .before .before .before .before in
-    let g = s .before .before .before .before in
-    omega (arith, score-asked (g .pre .0) {a = g .args .b} {b = s .loop .c} (omega arith) (omega arith) .2)
+value-requires-2 c κs = let (p, q) = asked (c .before .before .before) in omega (arith, p, q)
 
 larger-requires : tie.Need-larger-requires Inv-loop μ-loop
 larger-requires c κs = search needs

@@ -23,7 +23,7 @@ abbrev μ-loop : tie.MeasureT-loop
 μ-loop n pairs set a inside outside least₀ x₀ least x = n - x
 
 row-requires : tie.Need-row-requires Inv-loop μ-loop
-row-requires c κs = (c .pre .0, c .pre .2)
+row-requires c κs = (c .pre .0, omega arith)
 
 part-requires : tie.Need-part-requires Inv-loop μ-loop
 part-requires c κs = c .before .pre .0 .few
@@ -45,7 +45,7 @@ spread-requires c κs = let h = c .before .before .before .before .before .befor
     let r = h .before in
     let g = r .before .pre in
     let (inside, outside) = separation-tables (g .0) (g .1) (r .before .args .a) (r .row .ensures) (h .part .ensures) in
-    (g .0, omega arith, inside, outside)
+    (g .0, omega arith, search (inside, outside), search (inside, outside))
 
 smaller-requires : tie.Need-smaller-requires Inv-loop μ-loop
 smaller-requires c κs = search needs

@@ -41,7 +41,7 @@ spread-requires : tie.Need-spread-requires Inv-loop μ-loop
 spread-requires c κs = let h = c .before .before .before .before .before .before .before .before in
     let g = h .before .pre in
     let (inside, outside) = strong-tables (g .0) (g .1) (h .part .ensures) in
-    (g .0, omega arith, inside, outside)
+    (g .0, omega arith, search (inside, outside), search (inside, outside))
 
 smaller-requires : tie.Need-smaller-requires Inv-loop μ-loop
 smaller-requires c κs = search needs

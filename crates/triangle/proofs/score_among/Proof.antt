@@ -33,12 +33,13 @@ returns-3 c = let s = c .before .before .before .before .args in simp (le-leb _ 
 
 returns-4 : tie.Need-returns-4
 unfolding scoreAmong isPair
-returns-4 c = simp (le-leb _ _ (c .before .before .before .before .if1 .left), has (c .before .before), lt-ltb _ _ (c .before .if3 .left), le-ltb _ _ (c .if4 .taken))
+returns-4 c = let s = c .before .before .before .before .before .args in
+    simp (le-leb _ _ (c .before .before .before .before .if1 .left), has (c .before .before), lt-ltb _ _ (c .before .if3 .left), le-ltb (s .b) (s .n) (omega arith))
 
 score-requires : tie.Need-score-requires
 unfolding hasLength
 score-requires c κs = let s = c .before .before .before .before in
-    score-asks (s .before .args .pairs .now) (s .if1 .left) (eqb-true _ _ (has (c .before .before))) (c .before .if3 .left) (c .if4 .left)
+    score-asks (s .before .args .pairs .now) (s .if1 .left) (eqb-true _ _ (has (c .before .before))) (omega arith) (omega arith)
 
 returns-5 : tie.Need-returns-5
 unfolding hasLength
