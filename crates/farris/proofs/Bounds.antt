@@ -15,7 +15,7 @@ use Rattle.clusters.specs.PairList.{score, inRange}
 use Rattle.clusters.specs.Farris.{farris, anchoredScores, distancesBack}
 use Rattle.clusters.proofs.PairList.{of-pairList}
 use Rattle.clusters.proofs.Farris.{score-back}
-use Rattle.matrix.proofs.Scores.{score-within}
+use Rattle.matrix.proofs.Scores.{million, score-within}
 use Rattle.farris.specs.declared.Way.{Way}
 use Rattle.farris.specs.declared.Way.the-variants.{Anchored, Back}
 use Rattle.farris.specs.Ways.{converted, Convertible}
@@ -33,13 +33,13 @@ addends {u} {v} h k m e p q =
 
 farris-within : (l : List ℤ) (x a b : ℕ) → T (inRange l) → Within 3000000 (farris (score l) x a b)
 unfolding farris
-farris-within l x a b t = within-difference (within-sum (score-within l a x t) (score-within l b x t)) (score-within l a b t)
+farris-within l x a b t = within-difference (within-sum (score-within (million l t) a x) (score-within (million l t) b x)) (score-within (million l t) a b)
 
 -- what is written fits 32 bits
 pub converted-small : (w : Way) (n : ℕ) (l : List ℤ) (a b : ℕ) → Convertible w n l → a < n → b < n → Within (2 ^ 31 - 1) (converted w (score l) a b)
 unfolding converted Convertible
 converted-small (Anchored x) n l a b (_, t) h k = within-grow (omega arith) (farris-within l x a b t)
-converted-small Back n l a b t h k = within-grow (omega arith) (subst (Within 1000000) (score-back n l a b h k) (score-within (distancesBack n l) a b t))
+converted-small Back n l a b t h k = within-grow (omega arith) (subst (Within 1000000) (score-back n l a b h k) (score-within (million (distancesBack n l) t) a b))
 
 pub anchored-bounded : (n x : ℕ) (l : List ℤ) → T (inRange l) → Bounded (2 ^ 22) (anchoredScores n x l)
 unfolding anchoredScores

@@ -1,35 +1,26 @@
 -- Bounds of the indices: of a pair list whose numbers are between −k and k, the strong index is within 2k, the separation index
 -- within 4k, the clean index of up to 32 entries within 62k.
 use mathlib.Core.Path.{_≡_, refl}
-use mathlib.Core.List.{List, [], _∷_, map, List·Memᴰ·head, List·Memᴰ·tail, List·Memᴰ·head}
-use Prim.Native.Nat.{ℕ, zero, suc, _-_, _*_, _≤_}
+use mathlib.Core.List.{List, [], _∷_, map, List·Memᴰ·head}
+use Prim.Native.Nat.{ℕ, _-_, _*_, _≤_}
 use native.Mathlib.Omega.{arith}
-use lib.IntN.{ℤ, pos}
-use lib.ListN.{take, getD, length-take}
+use lib.IntN.{ℤ}
+use lib.ListN.{take, length-take}
 use Rattle.lists.specs.Lists.{_∈_}
 use Rattle.lists.proofs.Lists.{of-each, of-map}
 use Rattle.integers.specs.Integers.{least, sort, sumOfSmallest}
 use Rattle.integers.specs.Range.{Within, Bounded}
-use Rattle.integers.proofs.Linear.{up, dn}
 use Rattle.integers.proofs.Least.{least-of}
-use Rattle.integers.proofs.Range.{within, within-grow, within-equal, within-sum, within-difference, within-max}
+use Rattle.integers.proofs.Range.{zero-within, within-grow, within-equal, within-sum, within-difference, within-max}
 use Rattle.integers.proofs.Smallest.{of-sort}
 use Rattle.sets.specs.Sets.{others, size}
 use Rattle.sets.proofs.Sets.{size-le}
-use Rattle.clusters.specs.PairList.{Similarity, place, score}
+use Rattle.clusters.specs.PairList.{Similarity, score}
 use Rattle.clusters.specs.Indices.{strongValues, strongIndex, weight, pairsOf, weights, cleanIndex, separationValues, separationIndex}
 use Rattle.clusters.proofs.Strong.{of-strongValues, of-separationValues}
+use Rattle.matrix.proofs.Scores.{score-within}
 use Rattle.indices.proofs.Smallest.{of-take}
 use Rattle.indices.proofs.Totals.{sum-within}
-
-pub zero-within : {k : ℕ} → Within k (pos 0)
-unfolding up dn
-zero-within = within (omega arith) (omega arith)
-
-pub value-within : {k : ℕ} (l : List ℤ) (i : ℕ) → Bounded k l → Within k (getD l i (pos 0))
-value-within [] i b = zero-within
-value-within (z ∷ l) zero b = b z (List·Memᴰ·head refl)
-value-within (z ∷ l) (suc i) b = value-within l i (λ y m. b y (List·Memᴰ·tail m))
 
 least-within : {k : ℕ} (l : List ℤ) → Bounded k l → Within k (least l)
 unfolding least
@@ -44,26 +35,22 @@ of-weights n s A m =
     (ab .0, ab .1, c, e)
 
 module _ {l : List ℤ} {k : ℕ} (b : Bounded k l) where
-  pub score-within : (x y : ℕ) → Within k (score l x y)
-  unfolding score
-  score-within x y = value-within l (place x y) b
-
   pub weights-within : (n A : ℕ) → Bounded (2 * k) (weights n (score l) A)
   unfolding weight
   weights-within n A z m = let (x, y, w, e) = of-weights n (score l) A m in
-      within-grow (omega arith) (within-equal e (within-difference (score-within x y) (within-max (score-within x w) (score-within y w))))
+      within-grow (omega arith) (within-equal e (within-difference (score-within b x y) (within-max (score-within b x w) (score-within b y w))))
 
   pub strong-within : (n A : ℕ) → Within (2 * k) (strongIndex n (score l) A)
   unfolding strongIndex
   strong-within n A = least-within (strongValues n (score l) A) (λ z m.
       let (x, y, w, _, _, _, _, _, _, e) = of-strongValues n (score l) A m in
-      within-grow (omega arith) (within-equal e (within-difference (score-within x y) (score-within x w))))
+      within-grow (omega arith) (within-equal e (within-difference (score-within b x y) (score-within b x w))))
 
   pub separation-within : (n A : ℕ) → Within (4 * k) (separationIndex n (score l) A)
   unfolding separationIndex
   separation-within n A = least-within (separationValues n (score l) A) (λ z m.
       let (x, y, v, w, _, _, _, _, _, _, _, _, e) = of-separationValues n (score l) A m in
-      within-grow (omega arith) (within-equal e (within-difference (within-difference (within-sum (score-within x v) (score-within y w)) (score-within x y)) (score-within v w))))
+      within-grow (omega arith) (within-equal e (within-difference (within-difference (within-sum (score-within b x v) (score-within b y w)) (score-within b x y)) (score-within b v w))))
 
   pub clean-within : (n A : ℕ) → n ≤ 32 → Within (62 * k) (cleanIndex n (score l) A)
   unfolding cleanIndex sumOfSmallest

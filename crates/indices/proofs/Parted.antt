@@ -14,17 +14,17 @@ use Rattle.lists.proofs.Lists.{below-lt, lt-below, in-map, of-map, map-cong}
 use Rattle.lists.proofs.Tests.{T-true, T-false, cond-elim}
 use Rattle.lists.proofs.Written.{place-more, getD-default}
 use Rattle.integers.specs.Integers.{least, greatest}
-use Rattle.integers.specs.Range.{Within, Bounded}
+use Rattle.integers.specs.Range.{Within}
 use Rattle.integers.proofs.Linear.{zarith, up, dn, -at}
-use Rattle.integers.proofs.Range.{within, within-grow, within-equal, within-neg}
+use Rattle.integers.proofs.Range.{within, zero-within, within-grow, within-equal, within-neg}
 use Rattle.integers.proofs.Least.{least-le, least-of, greatest-ge, greatest-of}
 use Rattle.sets.specs.Sets.{has, _∋_, _∌_, members, others}
 use Rattle.sets.proofs.Sets.{yes-has, no-has, in-or-out, in-members, of-members, in-others, of-others}
 use Rattle.clusters.specs.PairList.{score}
 use Rattle.clusters.proofs.PairList.{score-symm}
+use Rattle.matrix.proofs.Scores.{score-within}
 use Rattle.indices.specs.Asked.{Scores, Proper, Table}
 use Rattle.indices.specs.Margins.{margin, nearness, number, spread, Row, Parted, AtMost}
-use Rattle.indices.proofs.Bounds.{zero-within, score-within}
 use Rattle.indices.proofs.Margins.{a-member, an-other}
 
 far-within : {k : ℕ} → Within k (pos k)

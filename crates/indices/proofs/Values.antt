@@ -12,15 +12,15 @@ use Rattle.lists.proofs.Lists.{in-map, of-map}
 use Rattle.integers.specs.Integers.{minZ, least, greatest}
 use Rattle.integers.specs.Range.{Within, Bounded}
 use Rattle.integers.proofs.Least.{least-of, greatest-of}
-use Rattle.integers.proofs.Range.{within-grow, within-equal, within-difference}
+use Rattle.integers.proofs.Range.{value-within, within-grow, within-equal, within-difference}
 use Rattle.integers.proofs.Held.{Held, held-result}
 use Rattle.integers.proofs.Running.{Run, run-least}
 use Rattle.sets.specs.Sets.{has, members, others}
 use Rattle.clusters.specs.PairList.{place, score}
 use Rattle.matrix.proofs.Places.{score-asks}
+use Rattle.matrix.proofs.Scores.{score-within}
 use Rattle.indices.specs.Asked.{Scores, Proper}
 use Rattle.indices.specs.Margins.{margin, nearness, separationFrom}
-use Rattle.indices.proofs.Bounds.{value-within, score-within}
 use Rattle.indices.proofs.Margins.{a-member, an-other}
 
 -- values between −k and k, and a margin of them

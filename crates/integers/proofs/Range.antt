@@ -1,16 +1,18 @@
 -- Laws of bounded numbers: sums, differences, products, the smaller and the larger; and which numbers fit a machine's width.
-use mathlib.Core.Path.{_≡_}
-use Prim.Native.Nat.{ℕ, _+_, _*_, _≤_, _<_, _^_}
+use mathlib.Core.Path.{_≡_, refl}
+use mathlib.Core.List.{List, [], _∷_, List·Memᴰ·head, List·Memᴰ·tail}
+use Prim.Native.Nat.{ℕ, zero, suc, _+_, _*_, _≤_, _<_, _^_}
 use native.Mathlib.Nat.{mul-le-mul}
 use native.Mathlib.Omega.{arith}
 use lib.Dec.{lit<}
 use lib.IntN.{ℤ, pos, negsuc, negℤ, _+ℤ_, _-ℤ_, _*ℤ_}
+use lib.ListN.{getD}
 use lib.Signed.{_≤ℤ_, leZ}
 use mir.Syntax.{Width, w32, w64}
 use mir.Val.{SFits, hbits}
 use Rattle.lists.proofs.Tests.{cond-elim}
 use Rattle.integers.specs.Integers.{minZ, maxZ}
-use Rattle.integers.specs.Range.{Within}
+use Rattle.integers.specs.Range.{Within, Bounded}
 use Rattle.integers.proofs.Linear.{up, dn, zarith, +at, *at, neg-up, neg-dn}
 
 -- the bounds as `omega` reads them
@@ -40,6 +42,15 @@ pub within-grow : {j k : ℕ} {z : ℤ} → j ≤ k → Within j z → Within k 
 within-grow l h = within (omega (arith, up-le h)) (omega (arith, dn-le h))
 
 -- of an equal number: what a call reads is equal to what the call before gave (`passed` of Held)
+pub zero-within : {k : ℕ} → Within k (pos 0)
+unfolding up dn
+zero-within = within (omega arith) (omega arith)
+
+pub value-within : {k : ℕ} (l : List ℤ) (i : ℕ) → Bounded k l → Within k (getD l i (pos 0))
+value-within [] i b = zero-within
+value-within (z ∷ l) zero b = b z (List·Memᴰ·head refl)
+value-within (z ∷ l) (suc i) b = value-within l i (λ y m. b y (List·Memᴰ·tail m))
+
 pub within-equal : {k : ℕ} {x z : ℤ} → x ≡ z → Within k z → Within k x
 within-equal e h = rw e h
 

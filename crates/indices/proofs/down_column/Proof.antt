@@ -1,7 +1,6 @@
 use mathlib.Core.Path.{_≡_, ap}
 use Prim.Native.Nat.{_-_, _<_, _≤_}
 use native.Mathlib.Omega.{arith}
-use borrow.Author.Needs.{needs}
 use Rattle.clusters.specs.PairList.{place, score}
 use Rattle.matrix.proofs.Places.{next-column, place-few}
 use Rattle.indices.specs.Margins.{number}

@@ -1,5 +1,4 @@
 use native.Mathlib.Omega.{arith}
-use borrow.Author.Needs.{needs}
 use Rattle.indices.proofs.Values.{score-asked}
 use Rattle.indices.proofs.extremes_of.Statement.{statement}
 use Rattle.indices.proofs.extremes_of.Tie as tie

@@ -3,7 +3,7 @@ use borrow.Author.Needs.{needs, sfits-of}
 use mir.Syntax.{w32}
 use mir.Facts.{toZ-ofZ}
 use Rattle.integers.proofs.Linear.{zarith}
-use Rattle.indices.proofs.Bounds.{score-within}
+use Rattle.matrix.proofs.Scores.{score-within}
 use Rattle.indices.proofs.Seen.{seen-greatest}
 use Rattle.indices.proofs.greatest_of.Statement.{statement}
 use Rattle.indices.proofs.greatest_of.Tie as tie

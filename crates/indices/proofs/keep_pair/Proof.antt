@@ -1,17 +1,16 @@
-use mathlib.Core.Path.{_≡_, sym, ap, ap₂, _∙_}
-use Prim.Native.Nat.{ℕ, suc, _-_}
+use mathlib.Core.Path.{sym, ap₂, _∙_}
+use Prim.Native.Nat.{_-_}
 use native.Mathlib.Omega.{arith}
 use borrow.Author.Needs.{needs, sfits-of}
 use lib.IntN.{pos}
 use lib.Signed.{leZ}
-use lib.ListN.{take, getD}
+use lib.ListN.{take}
 use lib.Seq.{getD-take, length-take-le}
 use mir.Syntax.{w64}
 use mir.Facts.{toZ-ofZ}
 use Rattle.integers.proofs.Held.{passed}
 use Rattle.integers.proofs.Tests.{leZ-true}
 use Rattle.clusters.specs.PairList.{score}
-use Rattle.indices.specs.Smallest.{keepOutside}
 use Rattle.indices.proofs.Smallest.{pair-still}
 use Rattle.indices.proofs.keep_pair.Statement.{statement}
 use Rattle.indices.proofs.keep_pair.Tie as tie

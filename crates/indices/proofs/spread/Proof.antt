@@ -7,7 +7,7 @@ use mir.Val.{ofZ, toZ}
 use mir.Facts.{toZ-ofZ}
 use Rattle.integers.proofs.Held.{passed}
 use Rattle.integers.proofs.Range.{within-equal}
-use Rattle.indices.proofs.Bounds.{score-within}
+use Rattle.matrix.proofs.Scores.{score-within}
 use Rattle.indices.proofs.Seen.{seen-within, seen-spread}
 use Rattle.indices.proofs.spread.Statement.{statement}
 use Rattle.indices.proofs.spread.Tie as tie

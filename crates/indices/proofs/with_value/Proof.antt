@@ -7,9 +7,8 @@ use mir.Val.{ofZ, toZ}
 use mir.Facts.{toZ-ofZ}
 use Rattle.integers.specs.Integers.{minZ, maxZ}
 use Rattle.integers.proofs.Held.{passed}
-use Rattle.integers.proofs.Range.{within-equal}
+use Rattle.integers.proofs.Range.{within-equal, value-within}
 use Rattle.indices.specs.Margins.{number}
-use Rattle.indices.proofs.Bounds.{value-within}
 use Rattle.indices.proofs.with_value.Statement.{statement}
 use Rattle.indices.proofs.with_value.Tie as tie
 

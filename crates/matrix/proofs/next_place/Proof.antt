@@ -1,5 +1,4 @@
 use native.Mathlib.Omega.{arith}
-use borrow.Author.Needs.{needs}
 use Rattle.matrix.proofs.Places.{next-row, next-column, place-few}
 use Rattle.matrix.proofs.next_place.Statement.{statement}
 use Rattle.matrix.proofs.next_place.Tie as tie
