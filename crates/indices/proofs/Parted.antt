@@ -1,7 +1,7 @@
 -- Values less the numbers of two tables, of which each has the numbers of one side of a set: the spread is the margin.
 use mathlib.Core.Path.{_≡_, sym, subst₂, ap, ap₂, _∙_}
 use mathlib.Core.Logic.{⊎-elim}
-use mathlib.Core.Bool.{Bool, cond}
+use mathlib.Core.Bool.{Bool, true, false, cond, Bool·beq}
 use mathlib.Core.List.{List, map}
 use Prim.Native.Nat.{ℕ, _+_, _^_, _<_}
 use native.Mathlib.Omega.{arith}
@@ -9,23 +9,28 @@ use lib.Dec.{lit≤}
 use lib.IntN.{ℤ, pos, negℤ, _-ℤ_}
 use lib.ListN.{length, set, replicate, length-set}
 use lib.Signed.{_≤ℤ_}
-use Rattle.lists.specs.Lists.{below}
+use mir.Syntax.{w64}
+use mir.Val.{toZ}
+use Rattle.lists.specs.Lists.{below, keep}
 use Rattle.lists.proofs.Lists.{below-lt, lt-below, in-map, of-map, map-cong}
 use Rattle.lists.proofs.Tests.{T-true, T-false, cond-elim}
 use Rattle.lists.proofs.Written.{place-more, getD-default}
-use Rattle.integers.specs.Integers.{least, greatest}
+use Rattle.integers.specs.Integers.{minZ, least, greatest}
 use Rattle.integers.specs.Range.{Within}
 use Rattle.integers.proofs.Linear.{zarith, up, dn, -at}
 use Rattle.integers.proofs.Range.{within, zero-within, within-grow, within-equal, within-neg}
+use Rattle.integers.proofs.Running.{Run}
 use Rattle.integers.proofs.Least.{least-le, least-of, greatest-ge, greatest-of}
 use Rattle.sets.specs.Sets.{has, _∋_, _∌_, members, others}
 use Rattle.sets.proofs.Sets.{yes-has, no-has, in-or-out, in-members, of-members, in-others, of-others}
 use Rattle.clusters.specs.PairList.{score}
+use Rattle.clusters.specs.Indices.{strongIndex}
 use Rattle.clusters.proofs.PairList.{score-symm}
 use Rattle.matrix.proofs.Scores.{score-within}
 use Rattle.indices.specs.Asked.{Scores, Proper, Table}
-use Rattle.indices.specs.Margins.{margin, nearness, number, spread, Row, Parted, AtMost}
-use Rattle.indices.proofs.Margins.{a-member, an-other}
+use Rattle.indices.specs.Margins.{margin, nearness, separationFrom, leastMargin, number, spread, Row, Numbers, Parted, AtMost}
+use Rattle.indices.proofs.Margins.{a-member, an-other, strong-margins}
+use Rattle.indices.proofs.Values.{top, side-members, side-others, least-side, margin-beyond}
 
 far-within : {k : ℕ} → Within k (pos k)
 unfolding up dn
@@ -68,7 +73,7 @@ module _ {n A : ℕ} (p : Proper n A) (f h : ℕ → ℤ) where
       (in-or-out A c)
 
 module _ {n A : ℕ} (p : Proper n A) {numbers inside outside : List ℤ} (t : Parted n numbers A inside outside) {f : ℕ → ℤ}
-    (b : (y : ℕ) → Within (2 ^ 22) (f y)) (c : (y : ℕ) → y < n → Within (2 ^ 22) (number numbers y)) where
+    (b : (y : ℕ) → Within (2 ^ 22) (f y)) (c : Numbers n numbers) where
   at-member : (y : ℕ) → y < n → A ∋ y → (number inside y ≡ number numbers y) × (number outside y ≡ pos (2 ^ 30))
   at-member y h k = let e = T-true {b = has A y} (yes-has A y k) in
       (t .members y h ∙ ap (λ (b : Bool). cond b (number numbers y) (negℤ (pos (2 ^ 30)))) e, t .others y h ∙ ap (λ (b : Bool). cond b (pos (2 ^ 30)) (number numbers y)) e)
@@ -106,29 +111,45 @@ unfolding margin
 margin-cong n A {f} {g} e = ap₂ (λ (l m : List ℤ). least l -ℤ greatest m)
     (map-cong f g (members n A) (λ y m. e y (of-members n A m .0))) (map-cong f g (others n A) (λ y m. e y (of-others n A {i = y} m .0)))
 
+pub zeros : (n : ℕ) → Numbers n (replicate 32 (pos 0))
+zeros n y _ = within-equal (getD-default (pos 0) 32 y) zero-within
+
 module _ {n A : ℕ} {l inside outside : List ℤ} (s : Scores n l) (p : Proper n A) where
-  pub strong-tables : Parted n (replicate 32 (pos 0)) A inside outside → Table n inside × Table n outside
-  strong-tables t = parted-tables p t (score-within (s .small) 0) (λ y _. within-equal (getD-default (pos 0) 32 y) zero-within)
+  pub tables : (numbers : List ℤ) → Numbers n numbers → Parted n numbers A inside outside → Table n inside × Table n outside
+  tables _ u t = parted-tables p t (score-within (s .small) 0) u
 
-  pub strong-spread : Parted n (replicate 32 (pos 0)) A inside outside → (a : ℕ) → spread n (score l a) inside outside ≡ margin n (score l a) A
-  unfolding up dn
-  strong-spread t a = parted-spread p t (score-within (s .small) a) (λ y _. within-equal (getD-default (pos 0) 32 y) zero-within)
-      ∙ margin-cong n A (λ y _. omega (zarith, -at (score l a y) (number (replicate 32 (pos 0)) y), getD-default (pos 0) 32 y))
+  spread-margin : (numbers : List ℤ) → Numbers n numbers → Parted n numbers A inside outside → (x : ℕ) → spread n (score l x) inside outside ≡ margin n (λ y. score l x y -ℤ number numbers y) A
+  spread-margin _ u t x = parted-spread p t (score-within (s .small) x) u
 
-  pub separation-tables : {numbers : List ℤ} (a : ℕ) → Row n (score l a) numbers → Parted n numbers A inside outside → Table n inside × Table n outside
-  separation-tables a r t = parted-tables p t (score-within (s .small) 0) (λ y h. within-equal (r y h) (score-within (s .small) a y))
-
-  pub separation-spread : {numbers : List ℤ} (a : ℕ) → Row n (score l a) numbers → Parted n numbers A inside outside → (x : ℕ)
-      → spread n (score l x) inside outside ≡ margin n (nearness (score l) a x) A
-  unfolding nearness
-  separation-spread a r t x = parted-spread p t (score-within (s .small) x) (λ y h. within-equal (r y h) (score-within (s .small) a y))
-      ∙ margin-cong n A (λ y h. ap₂ _-ℤ_ (score-symm l x y) (r y h))
+  -- a loop over one side has found the least margin
+  pub least-spread : (t : List ℤ) → Numbers n t → Parted n t A inside outside → {x i : ℕ} → x ≡ n → (inner : Bool)
+      → Run minZ top (λ y. Bool·beq (has A y) inner) (λ y. spread n (score l y) inside outside) x i → toZ w64 i ≡ leastMargin n (score l) A t inner
+  unfolding leastMargin
+  least-spread t u v e inner r =
+      least-side p (λ x. within-equal (spread-margin t u v x) (margin-beyond s p t u x)) e inner r
+      ∙ ap least (map-cong (λ y. spread n (score l y) inside outside) (λ x. margin n (λ y. score l x y -ℤ number t y) A) (keep (λ y. Bool·beq (has A y) inner) (below n)) (λ x _. spread-margin t u v x))
 
   -- the scores of a member with the entries outside
   pub near-most : Parted n (replicate 32 (pos 0)) A inside outside → (a : ℕ) {z : ℤ} → AtMost n (score l a) outside z → (c : ℕ) → c < n → A ∌ c → score l a c ≤ℤ z
   unfolding up dn
   near-most t a v c h k =
-      omega (zarith, v c h, -at (score l a c) (number outside c), at-other p t (score-within (s .small) a) zeros c h k .1, getD-default (pos 0) 32 c)
-    where
-      zeros : (y : ℕ) → y < n → Within (2 ^ 22) (number (replicate 32 (pos 0)) y)
-      zeros y _ = within-equal (getD-default (pos 0) 32 y) zero-within
+      omega (zarith, v c h, -at (score l a c) (number outside c), at-other p t (score-within (s .small) a) (zeros n) c h k .1, getD-default (pos 0) 32 c)
+
+-- the strong index and the separation from an entry as least margins, less no number and less the entry's distances
+module _ {n A : ℕ} (l : List ℤ) (p : Proper n A) where
+  of-entry : List ℤ → ℕ → ℤ
+  of-entry t x = margin n (λ y. score l x y -ℤ number t y) A
+
+  pub strong-least : leastMargin n (score l) A (replicate 32 (pos 0)) true ≡ strongIndex n (score l) A
+  unfolding leastMargin of-entry up dn
+  strong-least = let none : List ℤ = replicate 32 (pos 0) in
+      ap (λ (m : List ℕ). least (map (of-entry none) m)) (side-members n A)
+      ∙ ap least (map-cong (of-entry none) (λ a. margin n (score l a) A) (members n A) λ x _.
+      margin-cong n A (λ y _. omega (zarith, -at (score l x y) (number none y), getD-default (pos 0) 32 y)))
+      ∙ strong-margins n (score l) A p
+
+  pub separation-least : (t : List ℤ) (a : ℕ) → Row n (score l a) t → leastMargin n (score l) A t false ≡ separationFrom n (score l) A a
+  unfolding leastMargin of-entry separationFrom nearness
+  separation-least t a r =
+      ap (λ (m : List ℕ). least (map (of-entry t) m)) (side-others n A)
+      ∙ ap least (map-cong (of-entry t) (λ x. margin n (nearness (score l) a x) A) (others n A) λ x _. margin-cong n A (λ y h. ap₂ _-ℤ_ (score-symm l x y) (r y h)))

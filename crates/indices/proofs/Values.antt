@@ -1,14 +1,15 @@
 -- The values that the loops over a pair list see are bounded; a loop finds the least of them.
-use mathlib.Core.Path.{_≡_, refl, subst}
-use mathlib.Core.Bool.{not}
+use mathlib.Core.Path.{_≡_, refl, sym, subst}
+use mathlib.Core.Bool.{Bool, true, false, not, Bool·beq}
 use mathlib.Core.List.{List, map}
 use Prim.Native.Nat.{ℕ, _+_, _^_, _<_}
 use lib.Dec.{lit<, lit≤}
 use lib.ListN.{length, getD}
-use lib.IntN.{ℤ, pos}
+use lib.IntN.{ℤ, pos, _-ℤ_}
 use mir.Syntax.{w64}
 use mir.Val.{ofZ, toZ}
-use Rattle.lists.proofs.Lists.{in-map, of-map}
+use Rattle.lists.specs.Lists.{_∈_, below, keep}
+use Rattle.lists.proofs.Lists.{in-map, of-map, keep-cong}
 use Rattle.integers.specs.Integers.{minZ, least, greatest}
 use Rattle.integers.specs.Range.{Within, Bounded}
 use Rattle.integers.proofs.Least.{least-of, greatest-of}
@@ -16,26 +17,30 @@ use Rattle.integers.proofs.Range.{value-within, within-grow, within-equal, with
 use Rattle.integers.proofs.Held.{Held, held-result}
 use Rattle.integers.proofs.Running.{Run, run-least}
 use Rattle.sets.specs.Sets.{has, members, others}
+use Rattle.sets.proofs.Sets.{of-members, of-others}
 use Rattle.clusters.specs.PairList.{place, score}
 use Rattle.matrix.proofs.Places.{score-asks}
 use Rattle.matrix.proofs.Scores.{score-within}
 use Rattle.indices.specs.Asked.{Scores, Proper}
-use Rattle.indices.specs.Margins.{margin, nearness, separationFrom}
+use Rattle.indices.specs.Margins.{margin, nearness, separationFrom, number, Numbers}
 use Rattle.indices.proofs.Margins.{a-member, an-other}
 
 -- values between −k and k, and a margin of them
-module _ {n A k : ℕ} (p : Proper n A) {f : ℕ → ℤ} (b : (y : ℕ) → Within k (f y)) where
-  map-bounded : (l : List ℕ) → Bounded k (map f l)
-  map-bounded l z m = let (y, _, e) = of-map f l m in within-equal e (b y)
+module _ {n A k : ℕ} (p : Proper n A) {f : ℕ → ℤ} (b : (y : ℕ) → y < n → Within k (f y)) where
+  in-bounded : Bounded k (map f (members n A))
+  in-bounded z m = let (y, my, e) = of-map f (members n A) m in within-equal e (b y (of-members n A my .0))
+
+  out-bounded : Bounded k (map f (others n A))
+  out-bounded z m = let (y, my, e) = of-map f (others n A) m in within-equal e (b y (of-others n A {i = y} my .0))
 
   least-in-within : Within k (least (map f (members n A)))
-  least-in-within = map-bounded (members n A) (least (map f (members n A))) (least-of (map f (members n A)) (in-map f (a-member p .1)))
+  least-in-within = in-bounded (least (map f (members n A))) (least-of (map f (members n A)) (in-map f (a-member p .1)))
 
   least-out-within : Within k (least (map f (others n A)))
-  least-out-within = map-bounded (others n A) (least (map f (others n A))) (least-of (map f (others n A)) (in-map f (an-other p .1)))
+  least-out-within = out-bounded (least (map f (others n A))) (least-of (map f (others n A)) (in-map f (an-other p .1)))
 
   greatest-out-within : Within k (greatest (map f (others n A)))
-  greatest-out-within = map-bounded (others n A) (greatest (map f (others n A))) (greatest-of (map f (others n A)) (in-map f (an-other p .1)))
+  greatest-out-within = out-bounded (greatest (map f (others n A))) (greatest-of (map f (others n A)) (in-map f (an-other p .1)))
 
   margin-within : Within (k + k) (margin n f A)
   unfolding margin
@@ -48,15 +53,35 @@ top = pos (2 ^ 30)
 pub top-held : Held w64 (ofZ w64 top) top
 top-held = held-result refl (lit< tt) refl
 
+-- the entries of one side, and that there is one
+pub side-members : (n A : ℕ) → keep (λ y. Bool·beq (has A y) true) (below n) ≡ members n A
+unfolding members
+side-members n A = keep-cong (λ y. Bool·beq (has A y) true) (has A) (λ y. go (has A y)) (below n)
+  where
+    go : (b : Bool) → Bool·beq b true ≡ b
+    go true = refl
+    go false = refl
+
+pub side-others : (n A : ℕ) → keep (λ y. Bool·beq (has A y) false) (below n) ≡ others n A
+unfolding others
+side-others n A = keep-cong (λ y. Bool·beq (has A y) false) (λ y. not (has A y)) (λ y. go (has A y)) (below n)
+  where
+    go : (b : Bool) → Bool·beq b false ≡ not b
+    go true = refl
+    go false = refl
+
+on-side : {n A : ℕ} → Proper n A → (inner : Bool) → (y : ℕ) × (y ∈ keep (λ y. Bool·beq (has A y) inner) (below n))
+on-side {n} {A} p true = let (y, m) = a-member p in (y, subst (λ (l : List ℕ). y ∈ l) (sym (side-members n A)) m)
+on-side {n} {A} p false = let (y, m) = an-other p in (y, subst (λ (l : List ℕ). y ∈ l) (sym (side-others n A)) m)
+
 -- the least, once the loop is through
 module _ {n A : ℕ} (p : Proper n A) {f : ℕ → ℤ} (b : (y : ℕ) → Within (2 ^ 30) (f y)) {x i : ℕ} (e : x ≡ n) where
   pub least-member : Run minZ top (has A) f x i → toZ w64 i ≡ least (map f (members n A))
   unfolding members
   least-member r = let (a, m) = a-member p in run-least m (subst (λ (y : ℕ). Run minZ top (has A) f y i) e r) (b a .top)
 
-  pub least-other : Run minZ top (λ y. not (has A y)) f x i → toZ w64 i ≡ least (map f (others n A))
-  unfolding others
-  least-other r = let (y, m) = an-other p in run-least m (subst (λ (y : ℕ). Run minZ top (λ y. not (has A y)) f y i) e r) (b y .top)
+  pub least-side : (inner : Bool) → Run minZ top (λ y. Bool·beq (has A y) inner) f x i → toZ w64 i ≡ least (map f (keep (λ y. Bool·beq (has A y) inner) (below n)))
+  least-side inner r = let (y, m) = on-side p inner in run-least m (subst (λ (y : ℕ). Run minZ top (λ y. Bool·beq (has A y) inner) f y i) e r) (b y .top)
 
 -- the values that the loops over a pair list see
 module _ {n : ℕ} {l : List ℤ} (s : Scores n l) where
@@ -74,12 +99,12 @@ module _ {n : ℕ} {l : List ℤ} (s : Scores n l) where
   nearness-within a x y = within-difference (score-within (s .small) y x) (score-within (s .small) a y)
 
   module _ {A : ℕ} (p : Proper n A) where
-    pub strong-beyond : (a : ℕ) → Within (2 ^ 30) (margin n (score l a) A)
-    strong-beyond a = within-grow (lit≤ tt) (margin-within p (score-within (s .small) a))
+    pub margin-beyond : (t : List ℤ) → Numbers n t → (x : ℕ) → Within (2 ^ 30) (margin n (λ y. score l x y -ℤ number t y) A)
+    margin-beyond t u x = within-grow (lit≤ tt) (margin-within p (λ y h. within-difference (score-within (s .small) x y) (u y h)))
 
-    pub split-beyond : (a x : ℕ) → Within (2 ^ 30) (margin n (nearness (score l) a x) A)
-    split-beyond a x = within-grow (lit≤ tt) (margin-within p (nearness-within a x))
+    split-beyond : (a x : ℕ) → Within (2 ^ 30) (margin n (nearness (score l) a x) A)
+    split-beyond a x = within-grow (lit≤ tt) (margin-within p (λ y _. nearness-within a x y))
 
     pub separation-beyond : (a : ℕ) → Within (2 ^ 30) (separationFrom n (score l) A a)
     unfolding separationFrom
-    separation-beyond a = least-out-within p (split-beyond a)
+    separation-beyond a = least-out-within p (λ x _. split-beyond a x)

@@ -1,13 +1,14 @@
 -- The indices of differences (document 01, Definitions: strong index, separation index) by their margins.
 use mathlib.Core.Path.{_≡_}
-use mathlib.Core.Bool.{cond}
+use mathlib.Core.Bool.{Bool, Bool·beq, cond}
 use mathlib.Core.List.{List, map}
 use Prim.Native.Nat.{ℕ, _^_, _≤_, _<_}
 use lib.IntN.{ℤ, pos, negℤ, _-ℤ_}
 use lib.Signed.{_≤ℤ_}
 use lib.ListN.{length, getD}
-use Rattle.lists.specs.Lists.{below}
+use Rattle.lists.specs.Lists.{below, keep}
 use Rattle.integers.specs.Integers.{least, greatest}
+use Rattle.integers.specs.Range.{Within}
 use Rattle.sets.specs.Sets.{has, members, others}
 use Rattle.clusters.specs.PairList.{Similarity}
 
@@ -29,6 +30,14 @@ number t y = getD t y (pos 0)
 
 abbrev pub Row : ℕ → (ℕ → ℤ) → List ℤ → Type 0
 Row n f t = (y : ℕ) → y < n → number t y ≡ f y
+
+-- numbers as small as scores
+abbrev pub Numbers : ℕ → List ℤ → Type 0
+Numbers n t = (y : ℕ) → y < n → Within (2 ^ 22) (number t y)
+
+-- the least margin of the scores of x, less the numbers of a table, over the x in A, or over those outside
+unfoldable pub leastMargin : ℕ → Similarity → ℕ → List ℤ → Bool → ℤ
+leastMargin n s A t inner = least (map (λ x. margin n (λ y. s x y -ℤ number t y) A) (keep (λ x. Bool·beq (has A x) inner) (below n)))
 
 -- no value less the number of a table exceeds z
 abbrev pub AtMost : ℕ → (ℕ → ℤ) → List ℤ → ℤ → Type 0

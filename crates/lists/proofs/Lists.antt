@@ -109,6 +109,11 @@ module _ {ℓ} {A : Type ℓ} (p : A → Bool) where
       go true e = ap (λ r. x ∷ r) e
       go false e = e
 
+pub keep-cong : {A : Type 0} (p q : A → Bool) → ((x : A) → p x ≡ q x) → (l : List A) → keep p l ≡ keep q l
+unfolding keep
+keep-cong p q e [] = refl
+keep-cong p q e (x ∷ l) = rw (e x, keep-cong p q e l)
+
 pub count-below : (n : ℕ) → length (below n) ≡ n
 unfolding below
 count-below zero = refl

@@ -13,7 +13,7 @@ use Rattle.integers.proofs.Held.{passed}
 use Rattle.sets.proofs.Sets.{has-no}
 use Rattle.clusters.specs.PairList.{score}
 use Rattle.indices.specs.Smallest.{Near}
-use Rattle.indices.proofs.Parted.{strong-tables, near-most}
+use Rattle.indices.proofs.Parted.{zeros, tables, near-most}
 use Rattle.indices.proofs.Smallest.{near-more, near-none}
 use Rattle.indices.proofs.nearest.Statement.{statement}
 use Rattle.indices.proofs.nearest.Tie as tie
@@ -42,7 +42,7 @@ slice-aggregate-greatest-of-2 c = search needs
 greatest-of-requires : tie.Need-greatest-of-requires Inv-loop μ-loop
 greatest-of-requires c κs = let h = c .before .before .before .before .before .before .before .before in
     let g = h .before .pre in
-    let (inside, outside) = strong-tables (g .0) (g .1) (h .part .ensures) in
+    let (inside, outside) = tables (g .0) (g .1) _ (zeros _) (h .part .ensures) in
     (g .0, omega arith, inside, outside)
 
 mul-found : tie.Need-mul-found Inv-loop μ-loop

@@ -1,97 +1,25 @@
-use mathlib.Core.Path.{sym, ap, _∙_}
-use mathlib.Core.Bool.{not}
-use mathlib.Core.Logic.{⊎-elim}
-use Prim.Native.Nat.{_-_, _≤_}
+use mathlib.Core.Path.{_∙_}
 use native.Mathlib.Omega.{arith}
 use borrow.Author.Needs.{needs}
 use mir.Syntax.{w64}
-use Rattle.integers.specs.Integers.{minZ}
 use Rattle.integers.proofs.Held.{passed}
-use Rattle.integers.proofs.Running.{Run, run-start, run-yes, run-no}
-use Rattle.sets.specs.Sets.{has}
-use Rattle.clusters.specs.PairList.{score}
-use Rattle.indices.specs.Margins.{margin, nearness, separationFrom}
-use Rattle.indices.proofs.Parted.{separation-tables, separation-spread}
-use Rattle.indices.proofs.Values.{top, top-held, least-other, split-beyond}
+use Rattle.integers.proofs.Range.{within-equal}
+use Rattle.matrix.proofs.Scores.{score-within}
+use Rattle.indices.proofs.Parted.{separation-least}
 use Rattle.indices.proofs.separation_from.Statement.{statement}
 use Rattle.indices.proofs.separation_from.Tie as tie
 
-abbrev Inv-loop : tie.InvT-loop
-Inv-loop n pairs set a inside outside least₀ x₀ least x = (x ≤ n) × Run minZ top (λ x. not (has set x)) (λ x. margin n (nearness (score pairs) a x) set) x least
-
-abbrev μ-loop : tie.MeasureT-loop
-μ-loop n pairs set a inside outside least₀ x₀ least x = n - x
-
-row-requires : tie.Need-row-requires Inv-loop μ-loop
+row-requires : tie.Need-row-requires
 row-requires c κs = (c .pre .0, omega arith)
 
-part-requires : tie.Need-part-requires Inv-loop μ-loop
-part-requires c κs = c .before .pre .0 .few
+least-margin-requires : tie.Need-least-margin-requires
+least-margin-requires c κs = let g = c .before in
+    (g .pre .0, g .pre .1, λ y h. within-equal (c .row .ensures y h) (score-within (g .pre .0 .small) _ y))
 
-loop-holds : tie.Need-loop-holds Inv-loop μ-loop
-loop-holds c = (omega arith, run-start top-held)
-
-has-requires : tie.Need-has-requires Inv-loop μ-loop
-has-requires c κs = search needs
-
-slice-aggregate-spread : tie.Need-slice-aggregate-spread Inv-loop μ-loop
-slice-aggregate-spread c = search needs
-
-slice-aggregate-spread-2 : tie.Need-slice-aggregate-spread-2 Inv-loop μ-loop
-slice-aggregate-spread-2 c = search needs
-
-spread-requires : tie.Need-spread-requires Inv-loop μ-loop
-spread-requires c κs = let h = c .before .before .before .before .before .before .before .before in
-    let r = h .before in
-    let g = r .before .pre in
-    let (inside, outside) = separation-tables (g .0) (g .1) (r .before .args .a) (r .row .ensures) (h .part .ensures) in
-    (g .0, omega arith, search (inside, outside), search (inside, outside))
-
-smaller-requires : tie.Need-smaller-requires Inv-loop μ-loop
-smaller-requires c κs = search needs
-
-add-x : tie.Need-add-x Inv-loop μ-loop
-add-x c = search needs
-
-loop-less : tie.Need-loop-less Inv-loop μ-loop
-loop-less c = search needs
-
-loop-again : tie.Need-loop-again Inv-loop μ-loop
-loop-again c = let s = c .before .before .before in
-    let h = s .before .before .before in
-    let r = h .before in
+returns : tie.Need-returns
+returns c = let r = c .before in
     let g = r .before in
-    let t = ap not (c .before .has .ensures) in
-    ⊎-elim
-    (λ w. (
-      omega arith,
-      run-yes (s .loop .inv .1) (sym t ∙ w .0 .taken) (w .5) (w .4 .ok)
-          (w .4 .ensures ∙ ap (minZ _) (passed w64 (w .3 .ok) (w .3 .ensures ∙ separation-spread (g .pre .0) (g .pre .1) (g .args .a) (r .row .ensures) (h .part .ensures) (s .loop .x)))),
-    ))
-    (λ w. (omega arith, run-no (s .loop .inv .1) (sym t ∙ w .0 .left) (w .1)))
-    (c .if1 .came)
-
-returns : tie.Need-returns Inv-loop μ-loop
-unfolding separationFrom
-returns c = let s = c .before in
-    let g = s .before .before .before .before .before in
-    least-other (g .pre .1) (split-beyond (g .pre .0) (g .pre .1) (g .args .a)) (omega arith) (s .loop .inv .1)
+    passed w64 (c .least-margin .ok) (c .least-margin .ensures ∙ separation-least (g .args .pairs .now) (g .pre .1) (r .row .result) (g .args .a) (r .row .ensures))
 
 pub separation-from-spec : {M : Type 1} → statement M
-separation-from-spec =
-    tie.close
-    (tie.spec
-    Inv-loop
-    μ-loop
-    row-requires
-    part-requires
-    loop-holds
-    has-requires
-    slice-aggregate-spread
-    slice-aggregate-spread-2
-    spread-requires
-    smaller-requires
-    add-x
-    loop-less
-    loop-again
-    returns)
+separation-from-spec = tie.close (tie.spec row-requires least-margin-requires returns)

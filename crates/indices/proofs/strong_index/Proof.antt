@@ -1,90 +1,16 @@
-use mathlib.Core.Path.{sym, ap, _∙_}
-use mathlib.Core.Logic.{⊎-elim}
-use Prim.Native.Nat.{_-_, _≤_}
-use native.Mathlib.Omega.{arith}
+use mathlib.Core.Path.{_∙_}
 use borrow.Author.Needs.{needs}
 use mir.Syntax.{w64}
-use Rattle.integers.specs.Integers.{minZ}
 use Rattle.integers.proofs.Held.{passed}
-use Rattle.integers.proofs.Running.{Run, run-start, run-yes, run-no}
-use Rattle.sets.specs.Sets.{has}
-use Rattle.clusters.specs.PairList.{score}
-use Rattle.indices.specs.Margins.{margin}
-use Rattle.indices.proofs.Margins.{strong-margins}
-use Rattle.indices.proofs.Parted.{strong-tables, strong-spread}
-use Rattle.indices.proofs.Values.{top, top-held, least-member, strong-beyond}
+use Rattle.indices.proofs.Parted.{zeros, strong-least}
 use Rattle.indices.proofs.strong_index.Statement.{statement}
 use Rattle.indices.proofs.strong_index.Tie as tie
 
-abbrev Inv-loop : tie.InvT-loop
-Inv-loop n pairs set inside outside least₀ a₀ least a = (a ≤ n) × Run minZ top (has set) (λ a. margin n (score pairs a) set) a least
+least-margin-requires : tie.Need-least-margin-requires
+least-margin-requires c κs = (c .pre .0, c .pre .1, zeros (c .args .n))
 
-abbrev μ-loop : tie.MeasureT-loop
-μ-loop n pairs set inside outside least₀ a₀ least a = n - a
-
-part-requires : tie.Need-part-requires Inv-loop μ-loop
-part-requires c κs = c .pre .0 .few
-
-loop-holds : tie.Need-loop-holds Inv-loop μ-loop
-loop-holds c = (omega arith, run-start top-held)
-
-has-requires : tie.Need-has-requires Inv-loop μ-loop
-has-requires c κs = search needs
-
-slice-aggregate-spread : tie.Need-slice-aggregate-spread Inv-loop μ-loop
-slice-aggregate-spread c = search needs
-
-slice-aggregate-spread-2 : tie.Need-slice-aggregate-spread-2 Inv-loop μ-loop
-slice-aggregate-spread-2 c = search needs
-
-spread-requires : tie.Need-spread-requires Inv-loop μ-loop
-spread-requires c κs = let h = c .before .before .before .before .before .before .before .before in
-    let g = h .before .pre in
-    let (inside, outside) = strong-tables (g .0) (g .1) (h .part .ensures) in
-    (g .0, omega arith, search (inside, outside), search (inside, outside))
-
-smaller-requires : tie.Need-smaller-requires Inv-loop μ-loop
-smaller-requires c κs = search needs
-
-add-a : tie.Need-add-a Inv-loop μ-loop
-add-a c = search needs
-
-loop-less : tie.Need-loop-less Inv-loop μ-loop
-loop-less c = search needs
-
-loop-again : tie.Need-loop-again Inv-loop μ-loop
-loop-again c = let s = c .before .before .before in
-    let h = s .before .before .before in
-    let t = c .before .has .ensures in
-    ⊎-elim
-    (λ w. (
-      omega arith,
-      run-yes (s .loop .inv .1) (sym t ∙ w .0 .taken) (w .5) (w .4 .ok)
-          (w .4 .ensures ∙ ap (minZ _) (passed w64 (w .3 .ok) (w .3 .ensures ∙ strong-spread (h .before .pre .0) (h .before .pre .1) (h .part .ensures) (s .loop .a)))),
-    ))
-    (λ w. (omega arith, run-no (s .loop .inv .1) (sym t ∙ w .0 .left) (w .1)))
-    (c .if1 .came)
-
-returns : tie.Need-returns Inv-loop μ-loop
-returns c = let s = c .before in
-    let g = s .before .before .before .before in
-    least-member (g .pre .1) (strong-beyond (g .pre .0) (g .pre .1)) (omega arith) (s .loop .inv .1)
-    ∙ strong-margins (g .args .n) (score (g .args .pairs .now)) (g .args .set) (g .pre .1)
+returns : tie.Need-returns
+returns c = let g = c .before in passed w64 (c .least-margin .ok) (c .least-margin .ensures ∙ strong-least (g .args .pairs .now) (g .pre .1))
 
 pub strong-index-spec : {M : Type 1} → statement M
-strong-index-spec =
-    tie.close
-    (tie.spec
-    Inv-loop
-    μ-loop
-    part-requires
-    loop-holds
-    has-requires
-    slice-aggregate-spread
-    slice-aggregate-spread-2
-    spread-requires
-    smaller-requires
-    add-a
-    loop-less
-    loop-again
-    returns)
+strong-index-spec = tie.close (tie.spec least-margin-requires returns)
