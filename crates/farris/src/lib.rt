@@ -106,16 +106,6 @@ fn answered(refusal: usize, way: Way, n: usize, pairs: &[i32], out: &mut [i32]) 
     Answer::Count(count)
 }
 
-// Check 6.
-pub fn is_wrong_count(n: usize) -> bool
-    ensures { λ r. ⌜ r ≡ wrongCount n ⌝ }
-{
-    if n == 0 {
-        return true;
-    }
-    32 < n
-}
-
 // Check 15, of every call on a list with an anchor: the anchor, and the room for the result.
 fn is_out_of_place(n: usize, x: usize, room: usize) -> bool
     requires { ⌜ n ≤ 32 ⌝ }
@@ -131,7 +121,7 @@ fn is_out_of_place(n: usize, x: usize, room: usize) -> bool
 fn anchored_refusal(n: usize, x: usize, pairs: &[i32], room: usize) -> usize
     ensures { λ r. ⌜ r ≡ anchoredRefusal n x (now (pairs .entry)) room ⌝ }
 {
-    if is_wrong_count(n) {
+    if matrix::is_wrong_count(n) {
         return 6;
     }
     if !matrix::has_length(n, pairs) {
@@ -225,7 +215,7 @@ fn is_anchored(n: usize, x: usize, scores: &[i32]) -> bool
 fn back_refusal(n: usize, x: usize, scores: &[i32], room: usize) -> usize
     ensures { λ r. ⌜ r ≡ backRefusal n x (now (scores .entry)) room ⌝ }
 {
-    if is_wrong_count(n) {
+    if matrix::is_wrong_count(n) {
         return 6;
     }
     if !matrix::has_length(n, scores) {

@@ -89,10 +89,7 @@ pub fn merge_all(average: bool, n: usize, pairs: &[i32], out: &mut [u32])
 fn linkage(average: bool, n: usize, pairs: &[i32], blocks: &mut [u32]) -> Answer
     ensures { λ r. ⌜ Linked (linkageOf average) n (now (pairs .entry)) (now (blocks .entry)) r (now (blocks .exit)) ⌝ }
 {
-    if n == 0 {
-        return Answer::Refused(6);
-    }
-    if 32 < n {
+    if matrix::is_wrong_count(n) {
         return Answer::Refused(6);
     }
     if !matrix::has_length(n, pairs) {

@@ -1,4 +1,4 @@
-// The pair list as lent: scores looked up by two entries, and checks 10 to 12 (document 01, Where a call is turned away).
+// The pair list as lent: scores looked up by two entries, and checks 6 and 10 to 12 (document 01, Where a call is turned away).
 ghost use mathlib.Core.Path.{_≡_};
 ghost use mathlib.Core.Bool.{_&&_};
 ghost use Prim.Native.Nat.{_+_, _<_, _≤_};
@@ -8,6 +8,7 @@ ghost use lib.Signed.{leZ};
 ghost use Rattle.lists.specs.Lists.{all, below};
 ghost use Rattle.integers.specs.Integers.{eqZ};
 ghost use Rattle.clusters.specs.PairList.{rowStart, place, score, hasLength, inRange, areDistances};
+ghost use Rattle.clusters.specs.Refusals.{wrongCount};
 
 // The row starts: row i of the lower triangle starts at i(i+1)/2.
 const ROW_STARTS: [u16; 32] = [
@@ -103,6 +104,16 @@ pub fn score(pairs: &[i32], a: usize, b: usize) -> i64
     ensures { λ r. ⌜ r ≡ score (now (pairs .entry)) a b ⌝ }
 {
     value(pairs, place_of(a, b))
+}
+
+// Check 6.
+pub fn is_wrong_count(n: usize) -> bool
+    ensures { λ r. ⌜ r ≡ wrongCount n ⌝ }
+{
+    if n == 0 {
+        return true;
+    }
+    32 < n
 }
 
 // Check 10.

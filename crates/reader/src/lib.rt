@@ -133,7 +133,7 @@ pub fn read(sheet: &[u8], pairs: &mut [i32; 528]) -> Reading
         return Reading::Refused(5);
     }
     let n = sheet::entry_count(sheet);
-    if sheet::wrong_count(n) {
+    if matrix::is_wrong_count(n) {
         return Reading::Refused(6);
     }
     if sheet::wrong_lines(sheet, n) {

@@ -3,7 +3,6 @@ ghost use Prim.Native.Nat.{_≤_, _<_};
 ghost use lib.ListN.{length};
 ghost use Rattle.lists.specs.Lists.{all};
 ghost use Rattle.text.specs.Text.{space, cut, isName};
-ghost use Rattle.clusters.specs.Refusals.{wrongCount};
 ghost use Rattle.sheet.specs.Sheet.{entries, sameBytes, isAmong, hasEqual, wrongLength, wrongByte, wrongNames, equalNames, wrongLines};
 use text::Class;
 
@@ -118,16 +117,6 @@ pub fn entry_count(sheet: &[u8]) -> usize
 {
     let end = text::line_end(sheet, 0);
     text::piece_count(&sheet[..end], b' ')
-}
-
-// Check 6.
-pub fn wrong_count(n: usize) -> bool
-    ensures { λ r. ⌜ r ≡ wrongCount n ⌝ }
-{
-    if n == 0 {
-        return true;
-    }
-    n > 32
 }
 
 // Check 7.

@@ -1,5 +1,4 @@
 use mathlib.Core.Path.{_∙_}
-use borrow.Author.Needs.{needs}
 use mir.Syntax.{w64}
 use Rattle.integers.proofs.Held.{passed}
 use Rattle.indices.proofs.Parted.{zeros, strong-least}

@@ -67,21 +67,21 @@ long c = length-right (c .before .before .before .before .before .before .before
 entry-count-requires : tie.Need-entry-count-requires
 entry-count-requires c κs = long c .1
 
-wrong-count-requires : tie.Need-wrong-count-requires
-wrong-count-requires c κs = search needs
+is-wrong-count-requires : tie.Need-is-wrong-count-requires
+is-wrong-count-requires c κs = search needs
 
 returns-5 : tie.Need-returns-5
 unfolding sheetChecks
 returns-5 c =
-    let e = sym (c .before .wrong-count .ensures ∙ ap wrongCount (c .before .before .entry-count .ensures)) ∙ c .if5 .taken in
+    let e = sym (c .before .is-wrong-count .ensures ∙ ap wrongCount (c .before .before .entry-count .ensures)) ∙ c .if5 .taken in
     refused _ _ (left6 (c .before .before .before) _ (first-yes e))
 
 left7 : (c : tie.Else5) → Left (c .before .before .before .before .before .before .before .before .before .before .before .before .args .sheet .now) 5
 unfolding sheetChecks
-left7 c r g = left6 (c .before .before .before) r (first-no (sym (c .before .wrong-count .ensures ∙ ap wrongCount (c .before .before .entry-count .ensures)) ∙ c .if5 .left) g)
+left7 c r g = left6 (c .before .before .before) r (first-no (sym (c .before .is-wrong-count .ensures ∙ ap wrongCount (c .before .before .entry-count .ensures)) ∙ c .if5 .left) g)
 
 few : (c : tie.Else5) → c .before .before .entry-count .result ≤ 32
-few c = right-count (c .before .before .entry-count .result) (sym (c .before .wrong-count .ensures) ∙ c .if5 .left)
+few c = right-count (c .before .before .entry-count .result) (sym (c .before .is-wrong-count .ensures) ∙ c .if5 .left)
 
 wrong-lines-requires : tie.Need-wrong-lines-requires
 wrong-lines-requires c κs = (long (c .before .before .before) .0, long (c .before .before .before) .1, c .before .before .entry-count .ensures, few c)
@@ -154,7 +154,7 @@ read-spec =
     equal-names-requires
     returns-4
     entry-count-requires
-    wrong-count-requires
+    is-wrong-count-requires
     returns-5
     wrong-lines-requires
     returns-6

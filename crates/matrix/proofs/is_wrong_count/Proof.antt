@@ -1,7 +1,7 @@
 use borrow.Author.Tests.{eq-eqb, ne-eqb}
 use Rattle.clusters.specs.Refusals.{wrongCount}
-use Rattle.sheet.proofs.wrong_count.Statement.{statement}
-use Rattle.sheet.proofs.wrong_count.Tie as tie
+use Rattle.matrix.proofs.is_wrong_count.Statement.{statement}
+use Rattle.matrix.proofs.is_wrong_count.Tie as tie
 
 returns : tie.Need-returns
 unfolding wrongCount
@@ -11,5 +11,5 @@ returns-2 : tie.Need-returns-2
 unfolding wrongCount
 returns-2 c = simp (ne-eqb _ _ (c .if1 .left))
 
-pub wrong-count-spec : {M : Type 1} → statement M
-wrong-count-spec = tie.close (tie.spec returns returns-2)
+pub is-wrong-count-spec : {M : Type 1} → statement M
+is-wrong-count-spec = tie.close (tie.spec returns returns-2)
