@@ -14,6 +14,5 @@ pub mod Weights
 pub mod Stable
 pub mod Average
 pub mod Theorems
-pub mod Refusals
 pub mod Reindex
 pub mod Reordering

@@ -8,6 +8,7 @@ use lib.IntN.{ℤ, pos}
 use lib.Signed.{leZ}
 use lib.Dec.{eqb, leb, ltb}
 use Rattle.lists.specs.Lists.{_∈_, below, each, keep}
+use Rattle.integers.specs.Integers.{eqZ}
 use Rattle.sets.specs.Sets.{has, size, complement}
 use Rattle.clusters.specs.PairList.{Similarity}
 use Rattle.clusters.specs.Indices.{strongIndex, cleanIndex, separationIndex}
@@ -17,6 +18,10 @@ use Rattle.clusters.specs.Linkage.{Linkage, single, average}
 -- "kind 1 strong groups (Apresjan clusters), kind 2 clean groups, kind 3 Buneman splits"
 pub data Kind : Type 0 where
   strong clean splits : Kind
+
+-- the kind of each of these numbers; check 1 refuses any other
+unfoldable pub kindOf : ℤ → Kind
+kindOf k = cond (eqZ k (pos 1)) strong (cond (eqZ k (pos 2)) clean splits)
 
 unfoldable pub index : Kind → ℕ → Similarity → ℕ → ℤ
 index strong n s A = strongIndex n s A

@@ -3,7 +3,6 @@ pub mod Indices
 pub mod Farris
 pub mod Linkage
 pub mod Groups
-pub mod Refusals
 pub mod Reordering
 pub mod Stability
 pub mod Bench

@@ -34,12 +34,16 @@ score l a b = getD l (place a b) (pos 0)
 unfoldable pub pairList : ℕ → Similarity → List ℤ
 pairList n s = each (below n) λ a. map (s a) (below (suc a))
 
--- what checks 10, 11 and 12 pass (Where a call is turned away)
+-- what checks 10, 11 and 12 pass (Where a call is turned away); the range of 11 is from −scoreLimit to scoreLimit, and no theorem knows
+-- the number
+unfoldable pub scoreLimit : ℕ
+scoreLimit = 1000000
+
 unfoldable pub hasLength : ℕ → List ℤ → Bool
 hasLength n l = eqb (length l) (rowStart n)
 
 unfoldable pub inRange : List ℤ → Bool
-inRange l = all (λ v. leZ (negℤ (pos 1000000)) v && leZ v (pos 1000000)) l
+inRange l = all (λ v. leZ (negℤ (pos scoreLimit)) v && leZ v (pos scoreLimit)) l
 
 unfoldable pub areDistances : ℕ → List ℤ → Bool
 areDistances n l = all (leZ (pos 0)) l && all (λ a. eqZ (score l a a) (pos 0)) (below n)

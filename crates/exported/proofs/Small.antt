@@ -9,16 +9,15 @@ use lib.IntN.{ℤ}
 use lib.ListN.{length}
 use Rattle.lists.specs.Lists.{all}
 use Rattle.clusters.specs.PairList.{rowStart}
-use Rattle.clusters.specs.Refusals.{firstOf, wrongKind, kindOf, wrongCount}
+use Rattle.interface.specs.Refusals.{firstOf, wrongKind, wrongCount, linkageChecks, linkageRefusal, anchoredChecks, anchoredRefusal, backChecks, backRefusal, numbersChecks, numbersRefusal, readerChecks}
+use Rattle.clusters.specs.Groups.{kindOf}
 use Rattle.clusters.proofs.PairList.{rowStart-le}
-use Rattle.clusters.proofs.Refusals.{no-first, first-le, right-count}
+use Rattle.interface.proofs.Refusals.{no-first, first-le, right-count}
 use Rattle.answers.specs.declared.Answer.{Answer}
 use Rattle.answers.specs.Answers.{numberOf, countOf, answer}
 use Rattle.answers.proofs.Answers.{number-answer}
-use Rattle.linkage.specs.Calls.{linkageChecks, linkageRefusal}
-use Rattle.farris.specs.Calls.{anchoredChecks, anchoredRefusal, backChecks, backRefusal}
-use Rattle.groups.specs.Calls.{numbersChecks, numbersRefusal, groupsFound}
-use Rattle.sheet.specs.Sheet.{entries, sheetChecks}
+use Rattle.interface.specs.Listing.{groupsFound}
+use Rattle.interface.specs.Sheet.{entries}
 use Rattle.reader.proofs.Answers.{passes-few}
 use Rattle.farzhudyl.proofs.Numbers.{count-most}
 use Rattle.farzhudyl.proofs.Room.{groups-few}
@@ -53,6 +52,6 @@ module _ {a : Answer} (n : ℕ) (l : List ℤ) where
   numbers-small kind sets indices e = small (numbersChecks kind n l sets indices) tt e
       (λ z. let h = groups-few (kindOf kind) n l (few n _ (no-first 1 (wrongKind kind) _ (lit< tt) z .1)) in omega arith)
 
-pub read-small : {a : Answer} (s : List ℕ) → a ≡ answer (firstOf (sheetChecks s)) (entries s) → Small a
-unfolding sheetChecks all
-read-small s e = small (sheetChecks s) tt e (λ z. let h = passes-few s z in omega arith)
+pub read-small : {a : Answer} (s : List ℕ) → a ≡ answer (firstOf (readerChecks s)) (entries s) → Small a
+unfolding readerChecks all
+read-small s e = small (readerChecks s) tt e (λ z. let h = passes-few s z in omega arith)

@@ -7,7 +7,7 @@ use lib.Dec.{leb}
 use lib.IntN.{ℤ}
 use lib.ListN.{length, drop}
 use Rattle.answers.specs.declared.Answer.{Answer}
-use Rattle.farzhudyl.specs.Calls.{cNumber}
+use Rattle.interface.specs.Calls.{cNumber}
 
 -- the number of an answer of which P holds
 pub record NumberOf (P : Answer → Type 0) (r : ℤ) : Type 0 where

@@ -4,15 +4,11 @@ ghost use lib.ListN.{length};
 ghost use Rattle.clusters.specs.PairList.{rowStart};
 ghost use Rattle.clusters.specs.Linkage.{single, average};
 ghost use Rattle.clusters.specs.Farris.{anchoredScores, distancesBack};
-ghost use Rattle.clusters.specs.Refusals.{firstOf};
+ghost use Rattle.interface.specs.Refusals.{firstOf, anchoredRefusal, backRefusal, readerChecks};
 ghost use Rattle.answers.specs.Answers.{answer, slots};
-ghost use Rattle.triangle.specs.Triangle.{scoreAmong};
-ghost use Rattle.linkage.specs.Calls.{Linked};
-ghost use Rattle.farris.specs.Calls.{anchoredRefusal, backRefusal};
-ghost use Rattle.groups.specs.Calls.{Numbered};
-ghost use Rattle.sheet.specs.Sheet.{entries, sheetChecks, nameOf};
+ghost use Rattle.interface.specs.Calls.{scoreAmong, LinkageCall, NumbersCall, nameOf, cNumber};
+ghost use Rattle.interface.specs.Sheet.{entries};
 ghost use Rattle.reader.specs.Answer as read;
-ghost use Rattle.farzhudyl.specs.Calls.{cNumber};
 ghost use Rattle.exported.specs.Calls.{NumberOf, copied};
 use answers::Answer;
 use reader::Reading;
@@ -25,21 +21,21 @@ pub extern "C" fn exported_numbers(
     sets: &mut [u32],
     indices: &mut [i64],
 ) -> i64
-    ensures { λ r. ⌜ NumberOf (λ a. Numbered kind n (now (pairs .entry)) (now (sets .entry)) (now (indices .entry)) a (now (sets .exit)) (now (indices .exit))) r ⌝ }
+    ensures { λ r. ⌜ NumberOf (λ a. NumbersCall kind n (now (pairs .entry)) (now (sets .entry)) (now (indices .entry)) a (now (sets .exit)) (now (indices .exit))) r ⌝ }
 {
     farzhudyl::as_number(groups::numbers(kind, n, pairs, sets, indices))
 }
 
 #[no_mangle]
 pub extern "C" fn exported_single_linkage(n: usize, pairs: &[i32], blocks: &mut [u32]) -> i64
-    ensures { λ r. ⌜ NumberOf (λ a. Linked single n (now (pairs .entry)) (now (blocks .entry)) a (now (blocks .exit))) r ⌝ }
+    ensures { λ r. ⌜ NumberOf (λ a. LinkageCall single n (now (pairs .entry)) (now (blocks .entry)) a (now (blocks .exit))) r ⌝ }
 {
     farzhudyl::as_number(linkage::single_linkage(n, pairs, blocks))
 }
 
 #[no_mangle]
 pub extern "C" fn exported_average_linkage(n: usize, pairs: &[i32], blocks: &mut [u32]) -> i64
-    ensures { λ r. ⌜ NumberOf (λ a. Linked average n (now (pairs .entry)) (now (blocks .entry)) a (now (blocks .exit))) r ⌝ }
+    ensures { λ r. ⌜ NumberOf (λ a. LinkageCall average n (now (pairs .entry)) (now (blocks .entry)) a (now (blocks .exit))) r ⌝ }
 {
     farzhudyl::as_number(linkage::average_linkage(n, pairs, blocks))
 }
@@ -79,7 +75,7 @@ pub extern "C" fn exported_score(pairs: &[i32], n: usize, a: usize, b: usize) ->
 
 #[no_mangle]
 pub extern "C" fn exported_read(sheet: &[u8], pairs: &mut [i32; 528]) -> i64
-    ensures { λ r. ⌜ r ≡ cNumber (answer (firstOf (sheetChecks (now (sheet .entry)))) (entries (now (sheet .entry)))) ⌝ }
+    ensures { λ r. ⌜ r ≡ cNumber (answer (firstOf (readerChecks (now (sheet .entry)))) (entries (now (sheet .entry)))) ⌝ }
     ensures { λ _. ⌜ now (pairs .exit) ≡ read.slots (now (sheet .entry)) (now (pairs .entry)) ⌝ }
 {
     let reading = reader::read(sheet, pairs);
@@ -91,7 +87,7 @@ pub extern "C" fn exported_read(sheet: &[u8], pairs: &mut [i32; 528]) -> i64
 
 #[no_mangle]
 pub extern "C" fn exported_refusal(sheet: &[u8]) -> usize
-    ensures { λ r. ⌜ r ≡ firstOf (sheetChecks (now (sheet .entry))) ⌝ }
+    ensures { λ r. ⌜ r ≡ firstOf (readerChecks (now (sheet .entry))) ⌝ }
 {
     reader::refusal(sheet)
 }

@@ -10,9 +10,8 @@ use lib.ListN.{length}
 use Rattle.lists.proofs.Tests.{true-T, or-none}
 use Rattle.clusters.specs.PairList.{rowStart, hasLength, inRange, areDistances}
 use Rattle.clusters.specs.Farris.{distancesBack, isAnchored}
-use Rattle.clusters.specs.Refusals.{wrongCount}
-use Rattle.clusters.proofs.Refusals.{no-first, right-count, right-length}
-use Rattle.farris.specs.Calls.{anchoredChecks, anchoredRefusal, backChecks, backRefusal}
+use Rattle.interface.specs.Refusals.{wrongCount, anchoredChecks, anchoredRefusal, backChecks, backRefusal}
+use Rattle.interface.proofs.Refusals.{no-first, right-count, right-length}
 use Rattle.farris.proofs.Distances.{anchored-ranged}
 
 pub in-place : (n x room : ℕ) → leb n x || ltb room (rowStart n) ≡ false → (x < n) × (rowStart n ≤ room)

@@ -12,23 +12,22 @@ use Rattle.lists.specs.Lists.{_∈_}
 use Rattle.lists.proofs.Tests.{T-true, true-T}
 use Rattle.clusters.specs.PairList.{Similarity, Symmetric, rowStart, score, hasLength, inRange, areDistances}
 use Rattle.clusters.specs.Farris.{farris, anchoredScores, distancesBack, isAnchored}
-use Rattle.clusters.specs.Groups.{Kind, index, groupSets, groups}
-use Rattle.clusters.specs.Refusals.{firstOf, kindOf, wrongCount}
+use Rattle.clusters.specs.Groups.{Kind, index, groupSets, groups, kindOf}
+use Rattle.interface.specs.Refusals.{firstOf, wrongCount, numbersRefusal, anchoredChecks, anchoredRefusal, backChecks, backRefusal, sheetCallChecks, sheetRefusal}
 use Rattle.clusters.proofs.PairList.{score-symm, length-pairList}
 use Rattle.clusters.proofs.Farris.{anchored-back, anchored-iff}
 use Rattle.clusters.proofs.Groups.{in-groups, in-groupSets, groups-rise, rising-distinct, of-listed, listed-index, is-listed, groups-sets}
 use Rattle.clusters.proofs.Theorems.{group-in-tree, groups-nested, groups-bound}
 use Rattle.clusters.proofs.Reordering.{groups-image}
-use Rattle.clusters.proofs.Refusals.{first-iff, no-first}
+use Rattle.interface.proofs.Refusals.{first-iff, no-first}
 use Rattle.answers.specs.declared.Answer.{Answer}
 use Rattle.answers.specs.Answers.{numberOf, countOf, answer, slots, filled}
 use Rattle.answers.proofs.Answers.{number-answer, count-answer, count-refused, slots-refused, slots-written, filled-written}
-use Rattle.groups.specs.Calls.{numbersRefusal, groupsFound, setsFound, indicesFound, Numbered}
-use Rattle.sheet.specs.Sheet.{entries, pairs}
-use Rattle.text.specs.Text.{cut}
-use Rattle.farris.specs.Calls.{anchoredChecks, anchoredRefusal, backChecks, backRefusal}
+use Rattle.interface.specs.Listing.{groupsFound, sheetListing}
+use Rattle.interface.specs.Calls.{setsFound, indicesFound, NumbersCall}
+use Rattle.interface.specs.Sheet.{entries, pairs, cut}
 use Rattle.farris.proofs.Refusals.{anchored-passes}
-use Rattle.farzhudyl.specs.Calls.{sheetGroups, sheetListing, sheetCallChecks, sheetRefusal}
+use Rattle.farzhudyl.specs.Calls.{sheetGroups}
 use Rattle.farzhudyl.specs.Demands.{Demand1, Demand2, Demand3, SameGroups, Answered, WholeDemand3}
 use Rattle.farzhudyl.proofs.Lines.{listing-lines}
 
@@ -129,7 +128,7 @@ demand-3 kind = record {
 }
   where
     -- the slots below the count
-    taken : (n : ℕ) (l : List ℤ) (sets : List ℕ) (indices : List ℤ) (r : Answer) {sets′ : List ℕ} {indices′ : List ℤ} → Numbered kind n l sets indices r sets′ indices′ → numberOf r ≡ 0
+    taken : (n : ℕ) (l : List ℤ) (sets : List ℕ) (indices : List ℤ) (r : Answer) {sets′ : List ℕ} {indices′ : List ℤ} → NumbersCall kind n l sets indices r sets′ indices′ → numberOf r ≡ 0
         → (take (countOf r) sets′ ≡ map (λ (g : ℕ × ℤ). g .0) (groupsFound kind n l)) × (take (countOf r) indices′ ≡ map (λ (g : ℕ × ℤ). g .1) (groupsFound kind n l))
     taken n l sets indices r c z =
         let k = numbersRefusal kind n l (length sets) (length indices) in

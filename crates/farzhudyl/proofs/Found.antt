@@ -13,8 +13,9 @@ use Rattle.sets.proofs.Sizes.{size-wide}
 use Rattle.clusters.specs.PairList.{score}
 use Rattle.clusters.specs.Groups.{Kind, index, groupSets, groups}
 use Rattle.clusters.proofs.Groups.{in-groups, listed-index, groups-sets, groups-indices}
-use Rattle.listing.specs.Listing.{hexadecimal, decimal, signedDecimal, firstLine, lineText, line, listing}
-use Rattle.listing.specs.Slots.{groupsOf, Slots}
+use Rattle.interface.specs.Listing.{hexadecimal, decimal, signedDecimal, firstLine, lineText, line, listing}
+use Rattle.interface.specs.Calls.{groupsOf}
+use Rattle.listing.specs.Slots.{Slots}
 use Rattle.listing.proofs.Slots.{groups-slots}
 use Rattle.groups.specs.declared.Found.{Found}
 use Rattle.groups.specs.Found.{Groups}

@@ -1,5 +1,4 @@
 pub mod Lines
-pub mod Table
 pub mod Room
 pub mod Numbers
 pub mod Found

@@ -9,8 +9,8 @@ use lib.Dec.{T, eqb, ltb, lt→ltb, ltb→lt, eqb→eq, not-T}
 use Rattle.lists.specs.Lists.{each, all}
 use Rattle.lists.proofs.Tests.{and-T, T-and, cond-elim, T-false}
 use Rattle.sets.specs.Sets.{size}
-use Rattle.text.specs.Text.{longer, cut}
-use Rattle.listing.specs.Listing.{digit, digits, hexadecimal, decimalFrom, decimal, signedDecimal, firstText, lineText, firstLine, line, listing}
+use Rattle.interface.specs.Sheet.{longer, cut}
+use Rattle.interface.specs.Listing.{digit, digits, hexadecimal, decimalFrom, decimal, signedDecimal, firstText, lineText, firstLine, line, listing}
 
 -- every byte is above 10, the line feed
 abbrev printed : List ℕ → Type 0

@@ -12,13 +12,15 @@ use Rattle.lists.specs.Lists.{_∈_, all}
 use Rattle.lists.proofs.Lists.{all-in}
 use Rattle.lists.proofs.Tests.{T-false, true-T}
 use Rattle.clusters.specs.PairList.{inRange}
-use Rattle.clusters.specs.Refusals.{wrongCount, kindOf}
-use Rattle.clusters.proofs.Refusals.{first-none, first-le, right-count}
+use Rattle.interface.specs.Refusals.{wrongCount, sheetCallChecks, sheetRefusal}
+use Rattle.clusters.specs.Groups.{kindOf}
+use Rattle.interface.proofs.Refusals.{first-none, first-le, right-count}
 use Rattle.matrix.proofs.Scores.{range-bounded}
 use Rattle.answers.specs.Answers.{numberOf, countOf, answer}
 use Rattle.answers.proofs.Answers.{number-answer}
-use Rattle.sheet.specs.Sheet.{entries, pairs}
-use Rattle.farzhudyl.specs.Calls.{sheetListing, sheetGroups, sheetCallChecks, sheetRefusal}
+use Rattle.interface.specs.Sheet.{entries, pairs}
+use Rattle.interface.specs.Listing.{sheetListing}
+use Rattle.farzhudyl.specs.Calls.{sheetGroups}
 use Rattle.farzhudyl.proofs.Room.{listing-room}
 
 -- the count is 0 on refusal

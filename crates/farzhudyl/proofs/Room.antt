@@ -18,7 +18,7 @@ use Rattle.clusters.proofs.PairList.{score-symm}
 use Rattle.clusters.proofs.Groups.{in-groups, listed-index}
 use Rattle.clusters.proofs.Theorems.{groups-bound}
 use Rattle.indices.proofs.Bounds.{strong-within, clean-within, separation-within}
-use Rattle.listing.specs.Listing.{decimal, line, listing}
+use Rattle.interface.specs.Listing.{decimal, line, listing}
 use Rattle.listing.proofs.Numbers.{length-decimal}
 use Rattle.listing.proofs.Lines.{length-line, length-listing}
 

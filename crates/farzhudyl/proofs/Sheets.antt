@@ -10,21 +10,22 @@ use lib.IntN.{ℤ}
 use lib.ListN.{length, take, length-take}
 use Rattle.lists.specs.Lists.{all}
 use Rattle.clusters.specs.PairList.{rowStart}
-use Rattle.clusters.specs.Refusals.{firstOf, wrongKind}
-use Rattle.clusters.proofs.Refusals.{gives, first-yes, first-no, first-append}
+use Rattle.interface.specs.Refusals.{firstOf, wrongKind, readerChecks, sheetCallChecks, sheetRefusal}
+use Rattle.interface.proofs.Refusals.{gives, first-yes, first-no, first-append}
 use Rattle.answers.specs.declared.Answer.{Answer}
 use Rattle.answers.specs.declared.Answer.the-variants.{Refused}
 use Rattle.answers.specs.Answers.{answer, slots}
 use Rattle.answers.proofs.WaysOut.{refused}
-use Rattle.text.specs.Text.{space}
+use Rattle.interface.specs.Sheet.{space, names, entries, pairs}
 use Rattle.text.proofs.Pieces.{some-piece}
-use Rattle.sheet.specs.Sheet.{names, entries, pairs, sheetChecks}
 use Rattle.reader.specs.declared.Reading.the-variants.{Entries}
 use Rattle.reader.specs.declared.Reading.the-variants as variants
 use Rattle.reader.specs.Answer.{reading}
 use Rattle.reader.specs.Answer as read
 use Rattle.reader.proofs.Answers.{number-is, entries-is, passes-few, pairs-length, slots-pairs}
-use Rattle.farzhudyl.specs.Calls.{sheetGroups, sheetListing, sheetCallChecks, sheetRefusal, pairsListing, pairsRefusal}
+use Rattle.farzhudyl.specs.Calls.{sheetGroups}
+use Rattle.interface.specs.Listing.{sheetListing, pairsListing}
+use Rattle.farzhudyl.specs.Pairs.{pairsRefusal}
 
 -- the call's checks: check 1, then the sheet's, then the pair list's
 module _ (kind : ℤ) (s : List ℕ) (room : ℕ) where
@@ -32,9 +33,9 @@ module _ (kind : ℤ) (s : List ℕ) (room : ℕ) where
   unfolding sheetRefusal sheetCallChecks
   wrong-kind e = gives (first-yes e)
 
-  right-kind : wrongKind kind ≡ false → sheetRefusal kind s room ≡ cond (eqb (firstOf (sheetChecks s)) 0) (pairsRefusal kind (entries s) (pairs s) room) (firstOf (sheetChecks s))
-  unfolding sheetRefusal sheetCallChecks sheetListing sheetGroups pairsRefusal pairsListing sheetChecks all
-  right-kind e = sym (gives (first-no e (record { is = sym (first-append (sheetChecks s) _ tt) })))
+  right-kind : wrongKind kind ≡ false → sheetRefusal kind s room ≡ cond (eqb (firstOf (readerChecks s)) 0) (pairsRefusal kind (entries s) (pairs s) room) (firstOf (readerChecks s))
+  unfolding sheetRefusal sheetCallChecks sheetListing sheetGroups pairsRefusal pairsListing readerChecks all
+  right-kind e = sym (gives (first-no e (record { is = sym (first-append (readerChecks s) _ tt) })))
 
 -- the entries and the pair list of a sheet that was read
 module _ (s : List ℕ) {n : ℕ} (e : reading s ≡ Entries n) where

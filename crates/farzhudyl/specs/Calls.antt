@@ -6,12 +6,12 @@ use lib.IntN.{ℤ, pos, negℤ}
 use lib.Dec.{ltb}
 use lib.ListN.{length}
 use Rattle.clusters.specs.PairList.{score, inRange}
-use Rattle.clusters.specs.Groups.{groups}
-use Rattle.clusters.specs.Refusals.{firstOf, wrongKind, kindOf, wrongCount, wrongDistances}
+use Rattle.clusters.specs.Groups.{groups, kindOf}
+use Rattle.interface.specs.Refusals.{firstOf, wrongKind, wrongCount, wrongDistances, wrongLength, wrongByte, wrongNames, equalNames, wrongLines, wrongValues}
 use Rattle.answers.specs.declared.Answer.{Answer}
 use Rattle.answers.specs.declared.Answer.the-variants.{Count, Refused}
-use Rattle.sheet.specs.Sheet.{entries, pairs, value, wrongLength, wrongByte, wrongNames, equalNames, wrongLines, wrongValues, mirrored}
-use Rattle.listing.specs.Listing.{listing}
+use Rattle.interface.specs.Sheet.{entries, pairs, value, mirrored}
+use Rattle.interface.specs.Listing.{listing}
 
 -- the listing of a pair list; the groups of a sheet, and its listing
 unfoldable pub pairsListing : ℤ → ℕ → List ℤ → List ℕ

@@ -5,7 +5,10 @@ ghost use lib.IntN.{pos, negℤ};
 ghost use lib.ListN.{length};
 ghost use Rattle.clusters.specs.PairList.{rowStart};
 ghost use Rattle.answers.specs.Answers.{numberOf, countOf, answer, slots};
-ghost use Rattle.farzhudyl.specs.Calls.{sheetListing, sheetRefusal, pairsListing, pairsRefusal, cNumber};
+ghost use Rattle.interface.specs.Listing.{sheetListing, pairsListing};
+ghost use Rattle.interface.specs.Refusals.{sheetRefusal};
+ghost use Rattle.farzhudyl.specs.Pairs.{pairsRefusal};
+ghost use Rattle.interface.specs.Calls.{cNumber};
 use answers::Answer;
 use reader::Reading;
 

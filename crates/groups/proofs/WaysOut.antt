@@ -9,15 +9,16 @@ use lib.Dec.{ltb, lit<}
 use lib.IntN.{ℤ, pos}
 use lib.ListN.{length, replicate, length-take, length-map}
 use Rattle.lists.proofs.Tests.{true-T, or-none}
-use Rattle.clusters.specs.Groups.{Kind, index, groupSets, groups}
+use Rattle.clusters.specs.Groups.{Kind, index, groupSets, groups, kindOf}
 use Rattle.clusters.specs.PairList.{score, hasLength, inRange}
-use Rattle.clusters.specs.Refusals.{wrongKind, kindOf, wrongCount, wrongDistances}
-use Rattle.clusters.proofs.Refusals.{no-first, some-count, right-count, right-length}
+use Rattle.interface.specs.Refusals.{wrongKind, wrongCount, wrongDistances, numbersChecks, numbersRefusal}
+use Rattle.interface.proofs.Refusals.{no-first, some-count, right-count, right-length}
 use Rattle.answers.specs.Answers.{answer, filled}
 use Rattle.answers.specs.declared.Answer.the-variants.{Count, Refused}
 use Rattle.answers.proofs.WaysOut.{refused}
 use Rattle.kinds.specs.Checked.{Checked}
-use Rattle.groups.specs.Calls.{numbersChecks, numbersRefusal, groupsFound, setsFound, indicesFound, Numbered}
+use Rattle.interface.specs.Listing.{groupsFound}
+use Rattle.interface.specs.Calls.{setsFound, indicesFound, NumbersCall}
 use Rattle.groups.specs.Found.{setsOf, indicesOf, Groups}
 use Rattle.groups.specs.declared.Found.{Found}
 use Rattle.groups.proofs.Listing.{groups-few}
@@ -72,7 +73,7 @@ module _ {kind : Kind} {n : ℕ} {l : List ℤ} {f : Found} (g : Groups kind n l
   indices-fit = omega (arith, indices-long, length-take (f .count) (f .indices))
 
 module _ {kind : ℤ} {n : ℕ} {l : List ℤ} {sets : List ℕ} {indices : List ℤ} {r : ℕ} (e : r ≡ numbersRefusal kind n l (length sets) (length indices)) where
-  pub numbers-refused : (r ≡ 0 → ⊥) → Numbered kind n l sets indices (Refused r) sets indices
+  pub numbers-refused : (r ≡ 0 → ⊥) → NumbersCall kind n l sets indices (Refused r) sets indices
   unfolding filled
   numbers-refused f = record {
     answered = refused (length (groupsFound kind n l)) sets sets e f .0;
@@ -82,7 +83,7 @@ module _ {kind : ℤ} {n : ℕ} {l : List ℤ} {sets : List ℕ} {indices : List
 
   pub numbers-counted : {found : Found} {sets′ : List ℕ} {indices′ : List ℤ} → r ≡ 0 → Groups (kindOf kind) n l found
       → sets′ ≡ setsOf found ++ replicate (length sets - length (setsOf found)) 0 → indices′ ≡ indicesOf found ++ replicate (length indices - length (indicesOf found)) (pos 0)
-      → Numbered kind n l sets indices (Count (found .count)) sets′ indices′
+      → NumbersCall kind n l sets indices (Count (found .count)) sets′ indices′
   unfolding filled answer
   numbers-counted z g s x = record {
     answered = rw (sym e ∙ z) (ap Count (g .count ∙ sym (count-found kind n l)));

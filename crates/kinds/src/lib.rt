@@ -7,8 +7,8 @@ ghost use lib.ListN.{length};
 ghost use Rattle.integers.specs.Integers.{eqZ};
 ghost use Rattle.sets.specs.Sets.{size};
 ghost use Rattle.clusters.specs.PairList.{rowStart, score};
-ghost use Rattle.clusters.specs.Groups.{index, proper, speaksOf};
-ghost use Rattle.clusters.specs.Refusals.{wrongKind, kindOf, wrongDistances};
+ghost use Rattle.clusters.specs.Groups.{index, proper, speaksOf, kindOf};
+ghost use Rattle.interface.specs.Refusals.{wrongKind, wrongDistances};
 ghost use Rattle.kinds.specs.Kinds.{kindFor};
 ghost use Rattle.kinds.specs.Checked.{Checked};
 

@@ -9,20 +9,21 @@ use Rattle.sets.specs.Sets.{_∪_}
 use Rattle.clusters.specs.PairList.{score}
 use Rattle.clusters.specs.Linkage.{Linkage, mergedBlocks}
 use Rattle.clusters.proofs.Exists.{tree-length}
-use Rattle.clusters.proofs.Refusals.{Gives}
+use Rattle.interface.proofs.Refusals.{Gives}
 use Rattle.answers.specs.declared.Answer.the-variants.{Count, Refused}
 use Rattle.answers.proofs.WaysOut as ways
-use Rattle.linkage.specs.Calls.{linkageChecks, linkageRefusal, Linked}
+use Rattle.interface.specs.Refusals.{linkageChecks, linkageRefusal}
+use Rattle.interface.specs.Calls.{LinkageCall}
 use Rattle.linkage.specs.Steps.{Merged}
 
 -- the two ways out
 module _ {linkage : Linkage} {n : ℕ} {l : List ℤ} {lent : List ℕ} where
-  pub refused : {k : ℕ} → Gives (linkageChecks n l (length lent)) (suc k) → Linked linkage n l lent (Refused (suc k)) lent
+  pub refused : {k : ℕ} → Gives (linkageChecks n l (length lent)) (suc k) → LinkageCall linkage n l lent (Refused (suc k)) lent
   unfolding linkageRefusal
   refused g = let (a, w) = ways.refused (n - 1) (mergedBlocks []) lent (g .is) (λ z. omega (arith, z)) in
       record { answered = a; merges = []; tree = λ z. absurd (omega (arith, g .is, z)); written = w }
 
-  pub accepted : {after : List ℕ} → Gives (linkageChecks n l (length lent)) 0 → Merged linkage n l lent after → Linked linkage n l lent (Count (n - 1)) after
+  pub accepted : {after : List ℕ} → Gives (linkageChecks n l (length lent)) 0 → Merged linkage n l lent after → LinkageCall linkage n l lent (Count (n - 1)) after
   unfolding linkageRefusal mergedBlocks
   accepted g m =
       let long : length (mergedBlocks (m .merges)) ≡ n - 1 = omega (arith, length-map (m .merges) (λ x. x .0 ∪ x .1), tree-length linkage n (score l) (m .merges) (m .tree)) in

@@ -8,7 +8,7 @@ ghost use Rattle.clusters.specs.PairList.{rowStart};
 ghost use Rattle.clusters.specs.Linkage.{single, average, singles};
 ghost use Rattle.linkage.specs.Blocks.{blocksOf, mergedAt, linkageOf};
 ghost use Rattle.linkage.specs.Steps.{weight, Merged};
-ghost use Rattle.linkage.specs.Calls.{Linked};
+ghost use Rattle.interface.specs.Calls.{LinkageCall};
 
 // "The blocks of a linkage number at most 32": the first `count` of the sets.
 pub struct Blocks {
@@ -87,7 +87,7 @@ pub fn merge_all(average: bool, n: usize, pairs: &[i32], out: &mut [u32])
 
 // The checks of a linkage call, in the table's order, and the merges.
 fn linkage(average: bool, n: usize, pairs: &[i32], blocks: &mut [u32]) -> Answer
-    ensures { λ r. ⌜ Linked (linkageOf average) n (now (pairs .entry)) (now (blocks .entry)) r (now (blocks .exit)) ⌝ }
+    ensures { λ r. ⌜ LinkageCall (linkageOf average) n (now (pairs .entry)) (now (blocks .entry)) r (now (blocks .exit)) ⌝ }
 {
     if matrix::is_wrong_count(n) {
         return Answer::Refused(6);
@@ -106,13 +106,13 @@ fn linkage(average: bool, n: usize, pairs: &[i32], blocks: &mut [u32]) -> Answer
 }
 
 pub fn single_linkage(n: usize, pairs: &[i32], blocks: &mut [u32]) -> Answer
-    ensures { λ r. ⌜ Linked single n (now (pairs .entry)) (now (blocks .entry)) r (now (blocks .exit)) ⌝ }
+    ensures { λ r. ⌜ LinkageCall single n (now (pairs .entry)) (now (blocks .entry)) r (now (blocks .exit)) ⌝ }
 {
     linkage(false, n, pairs, blocks)
 }
 
 pub fn average_linkage(n: usize, pairs: &[i32], blocks: &mut [u32]) -> Answer
-    ensures { λ r. ⌜ Linked average n (now (pairs .entry)) (now (blocks .entry)) r (now (blocks .exit)) ⌝ }
+    ensures { λ r. ⌜ LinkageCall average n (now (pairs .entry)) (now (blocks .entry)) r (now (blocks .exit)) ⌝ }
 {
     linkage(true, n, pairs, blocks)
 }

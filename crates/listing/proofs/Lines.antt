@@ -10,8 +10,9 @@ use lib.Signed.{_≤ℤ_}
 use Rattle.lists.specs.Lists.{_∈_, each}
 use Rattle.sets.specs.Sets.{size}
 use Rattle.sets.proofs.Sets.{size-le}
-use Rattle.listing.specs.Listing.{hexadecimal, decimal, signedDecimal, firstText, lineText, firstLine, line, listing}
-use Rattle.listing.specs.Slots.{groupsOf, Slots}
+use Rattle.interface.specs.Listing.{hexadecimal, decimal, signedDecimal, firstText, lineText, firstLine, line, listing}
+use Rattle.interface.specs.Calls.{groupsOf}
+use Rattle.listing.specs.Slots.{Slots}
 use Rattle.listing.proofs.Numbers.{length-hexadecimal, length-decimal}
 
 -- the three fields, each with the byte after it

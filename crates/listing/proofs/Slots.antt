@@ -4,7 +4,7 @@ use mathlib.Core.List.{List, [], _∷_, _++_, map}
 use Prim.Native.Nat.{ℕ}
 use lib.IntN.{ℤ}
 use lib.ListN.{length}
-use Rattle.listing.specs.Slots.{groupsOf}
+use Rattle.interface.specs.Calls.{groupsOf}
 
 module _ (groups : List (ℕ × ℤ)) (sets : List ℕ) (indices : List ℤ) where
   pub groups-slots : groupsOf (length groups) (map (λ g. g .0) groups ++ sets) (map (λ g. g .1) groups ++ indices) ≡ groups

@@ -7,9 +7,10 @@ ghost use lib.ListN.{length, drop, getD};
 ghost use lib.Seq.{sets};
 ghost use lib.Signed.{_≤ℤ_};
 ghost use Rattle.lists.specs.Lists.{each};
-ghost use Rattle.listing.specs.Listing.{digit, digits, hexadecimal, decimal, line, listing};
+ghost use Rattle.interface.specs.Listing.{digit, digits, hexadecimal, decimal, line, listing};
 ghost use Rattle.listing.specs.Put.{Put};
-ghost use Rattle.listing.specs.Slots.{groupsOf, Slots};
+ghost use Rattle.interface.specs.Calls.{groupsOf};
+ghost use Rattle.listing.specs.Slots.{Slots};
 
 fn digit(k: usize) -> u8
     requires { ⌜ k < 16 ⌝ }

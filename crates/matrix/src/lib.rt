@@ -8,7 +8,7 @@ ghost use lib.Signed.{leZ};
 ghost use Rattle.lists.specs.Lists.{all, below};
 ghost use Rattle.integers.specs.Integers.{eqZ};
 ghost use Rattle.clusters.specs.PairList.{rowStart, place, score, hasLength, inRange, areDistances};
-ghost use Rattle.clusters.specs.Refusals.{wrongCount};
+ghost use Rattle.interface.specs.Refusals.{wrongCount};
 
 // The row starts: row i of the lower triangle starts at i(i+1)/2.
 const ROW_STARTS: [u16; 32] = [

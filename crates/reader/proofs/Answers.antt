@@ -14,10 +14,11 @@ use Rattle.lists.proofs.Lists.{below-lt, all-cong}
 use Rattle.lists.proofs.Tests.{or-none}
 use Rattle.integers.specs.Integers.{eqZ}
 use Rattle.clusters.specs.PairList.{Similarity, pairList, rowStart}
-use Rattle.clusters.specs.Refusals.{firstOf, wrongCount}
+use Rattle.interface.specs.Refusals.{firstOf, wrongCount, readerChecks, wrongLength, wrongByte, wrongNames, equalNames}
 use Rattle.clusters.proofs.PairList.{rowStart-le, pairList-cong, length-pairList}
-use Rattle.clusters.proofs.Refusals.{Gives, no-first, right-count}
-use Rattle.sheet.specs.Sheet.{names, entries, value, pairs, mirrored, sheetChecks, nameOf, wrongLength, wrongByte, wrongNames, equalNames}
+use Rattle.interface.proofs.Refusals.{Gives, no-first, right-count}
+use Rattle.interface.specs.Sheet.{names, entries, value, pairs, mirrored}
+use Rattle.interface.specs.Calls.{nameOf}
 use Rattle.reader.specs.declared.Reading.the-variants.{Entries, Refused}
 use Rattle.reader.specs.Answer.{reading, slots, square, Holds}
 use Rattle.reader.proofs.Slots.{pairs-taken}
@@ -38,29 +39,29 @@ mirrored-same l n v h =
 
 -- the answers
 module _ (s : List ℕ) (l : List ℤ) where
-  pub refused : {k : ℕ} → Gives (sheetChecks s) (suc k) → (Refused (suc k) ≡ reading s) × (l ≡ slots s l)
+  pub refused : {k : ℕ} → Gives (readerChecks s) (suc k) → (Refused (suc k) ≡ reading s) × (l ≡ slots s l)
   unfolding reading slots
   refused {k} g = let z = ne-eqb (suc k) 0 (λ e. omega arith) in (rw (sym (g .is), z), rw (sym (g .is), z))
 
-  pub passed : (n : ℕ) (m : List ℤ) → Gives (sheetChecks s) 0 → n ≡ entries s → Holds m n (value s) → (Entries n ≡ reading s) × (sets l 0 (pairList n (square m)) ≡ slots s l)
+  pub passed : (n : ℕ) (m : List ℤ) → Gives (readerChecks s) 0 → n ≡ entries s → Holds m n (value s) → (Entries n ≡ reading s) × (sets l 0 (pairList n (square m)) ≡ slots s l)
   unfolding reading slots pairs
   passed n m g is h = (rw (sym (g .is), is), rw (sym (g .is), pairList-cong n (square m) (value s) (λ a b p q. h a b p (omega arith)), is))
 
 -- the number of the refusal in an answer, which is not 0, and the entries
-pub number-is : (s : List ℕ) (k : ℕ) → reading s ≡ Refused k → (k ≡ firstOf (sheetChecks s)) × (k ≡ 0 → ⊥)
+pub number-is : (s : List ℕ) (k : ℕ) → reading s ≡ Refused k → (k ≡ firstOf (readerChecks s)) × (k ≡ 0 → ⊥)
 unfolding reading
-number-is s k e = go (eqb (firstOf (sheetChecks s)) 0) refl e
+number-is s k e = go (eqb (firstOf (readerChecks s)) 0) refl e
   where
-    go : (b : Bool) → eqb (firstOf (sheetChecks s)) 0 ≡ b → cond b (Entries (entries s)) (Refused (firstOf (sheetChecks s))) ≡ Refused k → (k ≡ firstOf (sheetChecks s)) × (k ≡ 0 → ⊥)
+    go : (b : Bool) → eqb (firstOf (readerChecks s)) 0 ≡ b → cond b (Entries (entries s)) (Refused (firstOf (readerChecks s))) ≡ Refused k → (k ≡ firstOf (readerChecks s)) × (k ≡ 0 → ⊥)
     go true q e = let z : _≡_ {A = ℕ} 0 1 = cc in absurd (omega arith)
-    go false q e = let is : k ≡ firstOf (sheetChecks s) = cc in (is, λ z. eqb-false _ 0 q (sym is ∙ z))
+    go false q e = let is : k ≡ firstOf (readerChecks s) = cc in (is, λ z. eqb-false _ 0 q (sym is ∙ z))
 
-pub entries-is : (s : List ℕ) (n : ℕ) → reading s ≡ Entries n → (firstOf (sheetChecks s) ≡ 0) × (n ≡ entries s)
+pub entries-is : (s : List ℕ) (n : ℕ) → reading s ≡ Entries n → (firstOf (readerChecks s) ≡ 0) × (n ≡ entries s)
 unfolding reading
-entries-is s n e = go (eqb (firstOf (sheetChecks s)) 0) refl e
+entries-is s n e = go (eqb (firstOf (readerChecks s)) 0) refl e
   where
-    go : (b : Bool) → eqb (firstOf (sheetChecks s)) 0 ≡ b → cond b (Entries (entries s)) (Refused (firstOf (sheetChecks s))) ≡ Entries n → (firstOf (sheetChecks s) ≡ 0) × (n ≡ entries s)
-    go true q e = (eqb-true (firstOf (sheetChecks s)) 0 q, cc)
+    go : (b : Bool) → eqb (firstOf (readerChecks s)) 0 ≡ b → cond b (Entries (entries s)) (Refused (firstOf (readerChecks s))) ≡ Entries n → (firstOf (readerChecks s) ≡ 0) × (n ≡ entries s)
+    go true q e = (eqb-true (firstOf (readerChecks s)) 0 q, cc)
     go false q e = let z : _≡_ {A = ℕ} 0 1 = cc in absurd (omega arith)
 
 -- the name of an entry
@@ -82,8 +83,8 @@ module _ (s : List ℕ) (i : ℕ) where
       rw (q .0, lt-ltb i (entries s) (omega arith))
 
 -- a sheet that passes
-pub passes-few : (s : List ℕ) → firstOf (sheetChecks s) ≡ 0 → entries s ≤ 32
-unfolding sheetChecks
+pub passes-few : (s : List ℕ) → firstOf (readerChecks s) ≡ 0 → entries s ≤ 32
+unfolding readerChecks
 passes-few s e₁ =
     let (_, e₂) = no-first 2 (wrongLength s) _ (lit< tt) e₁ in
     let (_, e₃) = no-first 3 (wrongByte s) _ (lit< tt) e₂ in
@@ -96,6 +97,6 @@ unfolding pairs
 pairs-length s = length-pairList (entries s) (value s)
 
 -- the first slots of a sheet that passes are its pair list
-pub slots-pairs : (s : List ℕ) (l : List ℤ) → length l ≡ 528 → firstOf (sheetChecks s) ≡ 0 → take (rowStart (entries s)) (slots s l) ≡ pairs s
+pub slots-pairs : (s : List ℕ) (l : List ℤ) → length l ≡ 528 → firstOf (readerChecks s) ≡ 0 → take (rowStart (entries s)) (slots s l) ≡ pairs s
 unfolding slots pairs
 slots-pairs s l h e = rw e (pairs-taken (value s) (entries s) l (omega (arith, rowStart-le (entries s) (passes-few s e))))

@@ -6,10 +6,9 @@ use native.Mathlib.Omega.{arith}
 use native.Mathlib.Decide.{decLt}
 use lib.ListN.{length, getD, take, drop}
 use lib.Seq.{take-take}
-use Rattle.text.specs.Text.{cut}
+use Rattle.interface.specs.Sheet.{cut, names, entries}
 use Rattle.text.specs.Reading.{pieceAt}
 use Rattle.text.proofs.Pieces.{piece-inside, piece-part, pieces-more, pieces-last}
-use Rattle.sheet.specs.Sheet.{names, entries}
 use Rattle.sheet.proofs.Lines.{line-inside, line-length, first-line}
 
 -- a further piece stands behind the end of this one

@@ -11,13 +11,13 @@ use lib.IntN.{ℤ}
 use lib.ListN.{length, set, drop}
 use lib.Seq.{sets}
 use Rattle.lists.specs.Lists.{all}
-use Rattle.text.specs.Text.{cut, isValue, valueOf}
+use Rattle.interface.specs.Sheet.{cut, isValue, valueOf}
 use Rattle.text.specs.Reading.{pieceAt, valueAt}
 use Rattle.text.specs.declared.Cursor.{Cursor}
 use Rattle.text.specs.declared.ValueRead.the-variants.{Value, Refused}
 use Rattle.text.proofs.Pieces.{some-piece, pieces-more, pieces-last}
 use Rattle.text.proofs.Words.{and-left}
-use Rattle.sheet.specs.Sheet.{isRow}
+use Rattle.interface.specs.Refusals.{isRow}
 use Rattle.sheet.proofs.Lines.{pieces-from}
 
 -- what an answer of `read_value` says

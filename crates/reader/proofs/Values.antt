@@ -16,10 +16,10 @@ use lib.Seq.{sets, sets-eq, getD-take, getD-drop, getD-append-add, length-take-l
 use Rattle.lists.specs.Lists.{below, all}
 use Rattle.lists.proofs.Tests.{or-none}
 use Rattle.clusters.specs.PairList.{Similarity}
-use Rattle.text.specs.Text.{cut, valueOf}
+use Rattle.interface.specs.Sheet.{cut, valueOf, lines, entries, words, value}
 use Rattle.text.specs.Reading.{pieceAt}
 use Rattle.text.proofs.Pieces.{piece-part, pieces-more, pieces-last}
-use Rattle.sheet.specs.Sheet.{lines, entries, words, value, isRow, wrongLines, wrongValues}
+use Rattle.interface.specs.Refusals.{isRow, wrongLines, wrongValues}
 use Rattle.reader.specs.Answer.{square}
 
 -- what check 7 leaves

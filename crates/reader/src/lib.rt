@@ -6,11 +6,11 @@ ghost use lib.ListN.{length, getD};
 ghost use lib.Seq.{sets};
 ghost use Rattle.lists.specs.Lists.{all, below};
 ghost use Rattle.integers.specs.Integers.{eqZ};
-ghost use Rattle.text.specs.Text.{space, cut, valueOf};
+ghost use Rattle.interface.specs.Sheet.{space, cut, valueOf, entries, value, mirrored};
 ghost use Rattle.text.specs.Reading.{pieceAt};
 ghost use Rattle.clusters.specs.PairList.{pairList};
-ghost use Rattle.clusters.specs.Refusals.{firstOf};
-ghost use Rattle.sheet.specs.Sheet.{entries, value, isRow, mirrored, wrongLines, wrongValues, sheetChecks, nameOf};
+ghost use Rattle.interface.specs.Refusals.{firstOf, isRow, wrongLines, wrongValues, readerChecks};
+ghost use Rattle.interface.specs.Calls.{nameOf};
 ghost use Rattle.reader.specs.Answer.{reading, slots, square, Holds};
 use text::ValueRead;
 
@@ -152,7 +152,7 @@ pub fn read(sheet: &[u8], pairs: &mut [i32; 528]) -> Reading
 
 // The number of the first of checks 2 to 9 that refuses the sheet, 0 if none does.
 pub fn refusal(sheet: &[u8]) -> usize
-    ensures { λ r. ⌜ r ≡ firstOf (sheetChecks (now (sheet .entry))) ⌝ }
+    ensures { λ r. ⌜ r ≡ firstOf (readerChecks (now (sheet .entry))) ⌝ }
 {
     let mut pairs = [0i32; 528];
     let Reading::Refused(number) = read(sheet, &mut pairs) else {

@@ -10,10 +10,10 @@ use lib.Dec.{eqb}
 use lib.ListN.{length, getD, take, drop}
 use lib.Seq.{length-take-le}
 use Rattle.lists.specs.Lists.{all}
-use Rattle.text.specs.Text.{longer, cut, isName}
+use Rattle.interface.specs.Sheet.{longer, cut, isName, lines, names, entries}
 use Rattle.text.specs.Reading.{pieceAt}
 use Rattle.text.proofs.Pieces.{some-piece, piece-part, piece-inside, pieces-more, pieces-last}
-use Rattle.sheet.specs.Sheet.{lines, names, entries, wrongNames, wrongLines}
+use Rattle.interface.specs.Refusals.{wrongNames, wrongLines}
 
 -- a list with an element is its first and the others
 split : (ws : List (List ℕ)) → 0 < length ws → ws ≡ getD ws 0 [] ∷ drop 1 ws

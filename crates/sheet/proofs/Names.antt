@@ -8,10 +8,9 @@ use borrow.Author.Tests.{eq-eqb, ne-eqb, eqb-true, eqb-false}
 use lib.Dec.{eqb}
 use lib.ListN.{length, getD, drop, drop-of-length-le, length-drop}
 use Rattle.lists.specs.Lists.{all}
-use Rattle.text.specs.Text.{cut, isName}
+use Rattle.interface.specs.Sheet.{cut, isName, sameBytes, isAmong, hasEqual}
 use Rattle.text.specs.Reading.{pieceAt}
 use Rattle.text.proofs.Pieces.{here, pieces-more, pieces-last}
-use Rattle.sheet.specs.Sheet.{sameBytes, isAmong, hasEqual}
 use Rattle.sheet.proofs.Lines.{pieces-from}
 
 -- two lists of bytes, from a place on

@@ -2,8 +2,8 @@ ghost use mathlib.Core.Path.{_≡_};
 ghost use Prim.Native.Nat.{_≤_, _<_};
 ghost use lib.ListN.{length};
 ghost use Rattle.lists.specs.Lists.{all};
-ghost use Rattle.text.specs.Text.{space, cut, isName};
-ghost use Rattle.sheet.specs.Sheet.{entries, sameBytes, isAmong, hasEqual, wrongLength, wrongByte, wrongNames, equalNames, wrongLines};
+ghost use Rattle.interface.specs.Sheet.{space, cut, isName, entries, sameBytes, isAmong, hasEqual};
+ghost use Rattle.interface.specs.Refusals.{wrongLength, wrongByte, wrongNames, equalNames, wrongLines};
 use text::Class;
 
 // Check 2.

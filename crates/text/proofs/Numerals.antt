@@ -15,7 +15,7 @@ use mir.Val.{SFits, toZ, boolByte}
 use mir.Syntax.{w32}
 use mir.Facts.{toZ-pos}
 use Rattle.lists.specs.Lists.{all}
-use Rattle.text.specs.Text.{isDigit, isNumeral, isValue, numberFrom, valueOf}
+use Rattle.interface.specs.Sheet.{isDigit, isNumeral, isValue, numberFrom, valueOf}
 use Rattle.text.specs.Reading.{pieceAt, digits, readOn, isEnd, valueAt}
 use Rattle.text.specs.declared.Digits.{Digits}
 use Rattle.text.specs.declared.ValueRead.the-variants.{Value, Refused}

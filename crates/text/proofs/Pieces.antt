@@ -10,7 +10,7 @@ use borrow.Author.Tests.{eq-eqb, ne-eqb, eqb-true, eqb-false, ltb-true, ltb-fals
 use lib.Dec.{eqb, ltb}
 use lib.ListN.{length, getD, take, drop, length-drop, drop-of-length-le}
 use lib.Seq.{drop-cons, drop-drop, take-all}
-use Rattle.text.specs.Text.{longer, cut}
+use Rattle.interface.specs.Sheet.{longer, cut}
 use Rattle.text.specs.Reading.{pieceAt}
 
 -- the list from a place on is its first byte and the list from the next place on

@@ -7,7 +7,7 @@ use native.Mathlib.Omega.{arith}
 use lib.Dec.{leb, leb·suc-suc}
 use lib.ListN.{length, getD, drop}
 use Rattle.lists.specs.Lists.{all}
-use Rattle.text.specs.Text.{isUpper, isName}
+use Rattle.interface.specs.Sheet.{isUpper, isName}
 use Rattle.text.specs.Reading.{inClass}
 use Rattle.text.specs.declared.Class.the-variants.{NameByte}
 

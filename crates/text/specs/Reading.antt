@@ -4,7 +4,8 @@ use mathlib.Core.List.{List, [], _∷_}
 use Prim.Native.Nat.{ℕ, zero, suc, _+_}
 use lib.Dec.{eqb}
 use lib.ListN.{length, getD, drop}
-use Rattle.text.specs.Text.{space, isUpper, isDigit, isAllowed, cut, isValue, numberFrom, valueOf}
+use Rattle.interface.specs.Sheet.{space, isUpper, isDigit, cut, isValue, numberFrom, valueOf}
+use Rattle.interface.specs.Refusals.{isAllowed}
 use Rattle.text.specs.declared.Class.{Class}
 use Rattle.text.specs.declared.Class.the-variants.{NameByte, Allowed}
 use Rattle.text.specs.declared.Digits.{Digits}

@@ -3,7 +3,7 @@ ghost use Prim.Native.Nat.{_+_, _≤_};
 ghost use lib.Dec.{ltb};
 ghost use lib.ListN.{length, drop};
 ghost use Rattle.lists.specs.Lists.{all};
-ghost use Rattle.text.specs.Text.{lineFeed, space, isUpper, isDigit, cut, isName, isNumeral};
+ghost use Rattle.interface.specs.Sheet.{lineFeed, space, isUpper, isDigit, cut, isName, isNumeral};
 ghost use Rattle.text.specs.Reading.{inClass, pieceAt, digits, readOn, isEnd, valueAt};
 
 // Classes of bytes.

@@ -6,7 +6,7 @@ use borrow.Author.Tests.{le-leb, lt-ltb, eq-eqb}
 use lib.IntN.{ℤ}
 use lib.ListN.{length}
 use Rattle.clusters.specs.PairList.{rowStart, score, hasLength}
-use Rattle.triangle.specs.Triangle.{isPair, scoreAmong}
+use Rattle.interface.specs.Calls.{isPair, scoreAmong}
 
 pub among-score : (n : ℕ) (l : List ℤ) (a b : ℕ) → n ≤ 32 → length l ≡ rowStart n → a < n → b < n → scoreAmong n l a b ≡ score l a b
 unfolding scoreAmong isPair hasLength

@@ -1,6 +1,6 @@
 // The triangle view: the pair list as lent, with its number of entries (document 01, The sheet).
 ghost use mathlib.Core.Path.{_≡_};
-ghost use Rattle.triangle.specs.Triangle.{scoreAmong};
+ghost use Rattle.interface.specs.Calls.{scoreAmong};
 
 pub struct Triangle<'a> {
     pub pairs: &'a [i32],

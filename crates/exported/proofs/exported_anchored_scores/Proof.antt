@@ -3,7 +3,7 @@ use borrow.Author.Needs.{needs}
 use lib.ListN.{length}
 use mir.Syntax.{w64}
 use Rattle.integers.proofs.Held.{passed}
-use Rattle.farzhudyl.specs.Calls.{cNumber}
+use Rattle.interface.specs.Calls.{cNumber}
 use Rattle.exported.proofs.Small.{anchored-small}
 use Rattle.exported.proofs.exported_anchored_scores.Statement.{statement}
 use Rattle.exported.proofs.exported_anchored_scores.Tie as tie

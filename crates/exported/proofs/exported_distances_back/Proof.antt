@@ -3,7 +3,7 @@ use borrow.Author.Needs.{needs}
 use lib.ListN.{length}
 use mir.Syntax.{w64}
 use Rattle.integers.proofs.Held.{passed}
-use Rattle.farzhudyl.specs.Calls.{cNumber}
+use Rattle.interface.specs.Calls.{cNumber}
 use Rattle.exported.proofs.Small.{back-small}
 use Rattle.exported.proofs.exported_distances_back.Statement.{statement}
 use Rattle.exported.proofs.exported_distances_back.Tie as tie

@@ -2,21 +2,21 @@ use mathlib.Core.Path.{_≡_, ap, _∙_}
 use borrow.Author.Needs.{needs}
 use mir.Syntax.{w64}
 use Rattle.integers.proofs.Held.{passed}
-use Rattle.clusters.specs.Refusals.{firstOf}
+use Rattle.interface.specs.Refusals.{firstOf, readerChecks}
 use Rattle.answers.specs.Answers.{answer}
 use Rattle.answers.specs.declared.Answer.the-variants.{Count, Refused}
-use Rattle.sheet.specs.Sheet.{entries, sheetChecks}
-use Rattle.farzhudyl.specs.Calls.{cNumber}
+use Rattle.interface.specs.Sheet.{entries}
+use Rattle.interface.specs.Calls.{cNumber}
 use Rattle.exported.proofs.Small.{read-small}
 use Rattle.exported.proofs.Reading.{was-refused, was-read}
 use Rattle.exported.proofs.exported_read.Statement.{statement}
 use Rattle.exported.proofs.exported_read.Tie as tie
 
 -- the answer, on either way
-no : (c : tie.After-reading) → let s = c .before .before .before .before .before .args .sheet .now in Refused (c .reading .given .0 .0) ≡ answer (firstOf (sheetChecks s)) (entries s)
+no : (c : tie.After-reading) → let s = c .before .before .before .before .before .args .sheet .now in Refused (c .reading .given .0 .0) ≡ answer (firstOf (readerChecks s)) (entries s)
 no c = was-refused (c .before .before .before .before .before .args .sheet .now) (c .before .before .read .ensures .0) (c .reading .given .1)
 
-yes : (c : tie.After-reading2) → let s = c .before .before .before .before .before .args .sheet .now in Count (c .reading2 .given .0 .0) ≡ answer (firstOf (sheetChecks s)) (entries s)
+yes : (c : tie.After-reading2) → let s = c .before .before .before .before .before .args .sheet .now in Count (c .reading2 .given .0 .0) ≡ answer (firstOf (readerChecks s)) (entries s)
 yes c = was-read (c .before .before .before .before .before .args .sheet .now) (c .before .before .read .ensures .0) (c .reading2 .given .1)
 
 read-requires : tie.Need-read-requires

@@ -2,9 +2,8 @@ use mathlib.Core.Path.{_≡_, sym, ap, _∙_}
 use mathlib.Core.Bool.{false, not}
 use borrow.Author.Needs.{needs}
 use Rattle.clusters.specs.PairList.{hasLength, inRange, areDistances}
-use Rattle.clusters.specs.Refusals.{wrongCount}
-use Rattle.clusters.proofs.Refusals.{gives, first-yes, first-no, no-more, right-count, right-length}
-use Rattle.farris.specs.Calls.{anchoredChecks, anchoredRefusal}
+use Rattle.interface.specs.Refusals.{wrongCount, anchoredChecks, anchoredRefusal}
+use Rattle.interface.proofs.Refusals.{gives, first-yes, first-no, no-more, right-count, right-length}
 use Rattle.farris.proofs.anchored_refusal.Statement.{statement}
 use Rattle.farris.proofs.anchored_refusal.Tie as tie
 

@@ -4,9 +4,8 @@ use borrow.Author.Needs.{needs}
 use lib.Dec.{leb, ltb}
 use Rattle.lists.proofs.Tests.{or-first, or-second}
 use Rattle.clusters.specs.PairList.{rowStart, hasLength}
-use Rattle.clusters.specs.Refusals.{wrongCount}
-use Rattle.clusters.proofs.Refusals.{gives, first-yes, first-no, no-more, right-count, right-length}
-use Rattle.farris.specs.Calls.{backChecks, backRefusal}
+use Rattle.interface.specs.Refusals.{wrongCount, backChecks, backRefusal}
+use Rattle.interface.proofs.Refusals.{gives, first-yes, first-no, no-more, right-count, right-length}
 use Rattle.farris.proofs.Refusals.{in-place}
 use Rattle.farris.proofs.back_refusal.Statement.{statement}
 use Rattle.farris.proofs.back_refusal.Tie as tie

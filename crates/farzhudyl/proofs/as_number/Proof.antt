@@ -5,7 +5,7 @@ use mir.Syntax.{w64}
 use Rattle.integers.proofs.Held.{passed}
 use Rattle.answers.specs.declared.Answer.{Answer}
 use Rattle.answers.specs.Answers.{numberOf, countOf}
-use Rattle.farzhudyl.specs.Calls.{cNumber}
+use Rattle.interface.specs.Calls.{cNumber}
 use Rattle.farzhudyl.proofs.as_number.Statement.{statement}
 use Rattle.farzhudyl.proofs.as_number.Tie as tie
 

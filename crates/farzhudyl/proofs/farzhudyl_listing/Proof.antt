@@ -6,7 +6,7 @@ use mir.Syntax.{w64}
 use mir.Facts.{toZ-ofZ}
 use Rattle.integers.proofs.Held.{passed}
 use Rattle.answers.specs.Answers.{numberOf, countOf}
-use Rattle.farzhudyl.specs.Calls.{cNumber}
+use Rattle.interface.specs.Calls.{cNumber}
 use Rattle.farzhudyl.proofs.Numbers.{number-le, count-le}
 use Rattle.farzhudyl.proofs.Sheets.{Answers}
 use Rattle.farzhudyl.proofs.farzhudyl_listing.Statement.{statement}

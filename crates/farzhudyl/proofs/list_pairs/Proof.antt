@@ -7,12 +7,14 @@ use lib.ListN.{length, take, length-take}
 use mir.Facts.{toZ-ofZ}
 use Rattle.lists.proofs.Tests.{true-T}
 use Rattle.clusters.specs.PairList.{inRange}
-use Rattle.clusters.specs.Refusals.{kindOf, wrongDistances}
-use Rattle.clusters.proofs.Refusals.{gives, first-yes, first-no, no-more}
+use Rattle.clusters.specs.Groups.{kindOf}
+use Rattle.interface.specs.Refusals.{wrongDistances}
+use Rattle.interface.proofs.Refusals.{gives, first-yes, first-no, no-more}
 use Rattle.answers.proofs.WaysOut.{refused, counted}
 use Rattle.kinds.proofs.Listed.{told}
 use Rattle.groups.specs.Found.{Groups}
-use Rattle.farzhudyl.specs.Calls.{pairsListing, pairsRefusal}
+use Rattle.interface.specs.Listing.{pairsListing}
+use Rattle.farzhudyl.specs.Pairs.{pairsRefusal}
 use Rattle.farzhudyl.proofs.Found.{found-slots, found-listing}
 use Rattle.farzhudyl.proofs.Pairs.{written, copied}
 use native.Mathlib.Omega.{arith}

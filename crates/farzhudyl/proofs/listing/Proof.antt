@@ -3,8 +3,8 @@ use mathlib.Core.Bool.{false}
 use lib.ListN.{take}
 use mir.Facts.{toZ-ofZ}
 use borrow.Author.Needs.{needs}
-use Rattle.clusters.specs.Refusals.{wrongKind}
-use Rattle.sheet.specs.Sheet.{pairs}
+use Rattle.interface.specs.Refusals.{wrongKind}
+use Rattle.interface.specs.Sheet.{pairs}
 use Rattle.reader.specs.declared.Reading.the-variants.{Entries}
 use Rattle.reader.specs.Answer.{reading}
 use Rattle.farzhudyl.proofs.Sheets.{few-entries, some-entries, pairs-read, pairs-long, pairs-fit, refused-kind, refused-sheet, read-sheet}

@@ -1,7 +1,7 @@
 use mathlib.Core.Path.{sym}
 use borrow.Author.Needs.{needs}
 use lib.IntN.{pos}
-use Rattle.clusters.specs.Refusals.{wrongDistances}
+use Rattle.interface.specs.Refusals.{wrongDistances}
 use Rattle.kinds.proofs.Listed.{told-number}
 use Rattle.kinds.proofs.are_wrong_distances.Statement.{statement}
 use Rattle.kinds.proofs.are_wrong_distances.Tie as tie

@@ -1,7 +1,7 @@
 use mathlib.Core.Path.{refl}
 use borrow.Author.Needs.{needs}
 use lib.IntN.{pos}
-use Rattle.clusters.specs.Refusals.{wrongKind}
+use Rattle.interface.specs.Refusals.{wrongKind}
 use Rattle.kinds.proofs.Listed.{told-number}
 use Rattle.kinds.proofs.is_wrong.Statement.{statement}
 use Rattle.kinds.proofs.is_wrong.Tie as tie

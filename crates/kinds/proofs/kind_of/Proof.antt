@@ -1,6 +1,6 @@
 use borrow.Author.Needs.{needs}
 use lib.IntN.{pos}
-use Rattle.clusters.specs.Refusals.{kindOf}
+use Rattle.clusters.specs.Groups.{kindOf}
 use Rattle.kinds.specs.Kinds.{kindFor}
 use Rattle.kinds.proofs.Listed.{told-number}
 use Rattle.kinds.proofs.kind_of.Statement.{statement}

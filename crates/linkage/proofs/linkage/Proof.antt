@@ -5,10 +5,9 @@ use borrow.Author.Needs.{needs}
 use borrow.Author.Tests.{lt-ltb, le-ltb, not-false}
 use Rattle.lists.proofs.Tests.{true-T}
 use Rattle.clusters.specs.PairList.{hasLength, inRange}
-use Rattle.clusters.specs.Refusals.{wrongCount}
-use Rattle.clusters.proofs.Refusals.{first-yes, first-no, no-more, some-count, right-count, right-length}
+use Rattle.interface.specs.Refusals.{wrongCount, linkageChecks}
+use Rattle.interface.proofs.Refusals.{first-yes, first-no, no-more, some-count, right-count, right-length}
 use Rattle.matrix.proofs.Scores.{range-bounded}
-use Rattle.linkage.specs.Calls.{linkageChecks}
 use Rattle.linkage.proofs.Answered.{refused, accepted}
 use Rattle.linkage.proofs.linkage.Statement.{statement}
 use Rattle.linkage.proofs.linkage.Tie as tie

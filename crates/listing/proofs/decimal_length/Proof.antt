@@ -3,7 +3,7 @@ use Prim.Native.Nat.{_+_, _≤_}
 use native.Mathlib.Omega.{arith}
 use borrow.Author.Needs.{needs}
 use lib.ListN.{length}
-use Rattle.listing.specs.Listing.{decimal}
+use Rattle.interface.specs.Listing.{decimal}
 use Rattle.listing.proofs.Numbers.{length-one, length-more}
 use Rattle.listing.proofs.decimal_length.Statement.{statement}
 use Rattle.listing.proofs.decimal_length.Tie as tie

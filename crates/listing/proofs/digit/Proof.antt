@@ -1,6 +1,6 @@
 use borrow.Author.Needs.{needs}
 use borrow.Author.Tests.{lt-ltb, le-ltb}
-use Rattle.listing.specs.Listing.{digit}
+use Rattle.interface.specs.Listing.{digit}
 use Rattle.listing.proofs.digit.Statement.{statement}
 use Rattle.listing.proofs.digit.Tie as tie
 

@@ -5,7 +5,7 @@ use native.Mathlib.Omega.{arith}
 use borrow.Author.Needs.{needs}
 use lib.ListN.{length, length-set}
 use lib.Seq.{sets}
-use Rattle.listing.specs.Listing.{digits}
+use Rattle.interface.specs.Listing.{digits}
 use Rattle.listing.proofs.Numbers.{digits-turn, no-digits}
 use Rattle.listing.proofs.put_digits.Statement.{statement}
 use Rattle.listing.proofs.put_digits.Tie as tie

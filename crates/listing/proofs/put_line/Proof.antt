@@ -4,7 +4,7 @@ use native.Mathlib.Omega.{arith}
 use borrow.Author.Needs.{needs}
 use lib.ListN.{length}
 use Rattle.sets.proofs.Sets.{size-le}
-use Rattle.listing.specs.Listing.{decimal}
+use Rattle.interface.specs.Listing.{decimal}
 use Rattle.listing.proofs.Lines.{line-fields}
 use Rattle.listing.proofs.Numbers.{length-decimal, length-space}
 use Rattle.listing.proofs.Puts.{then}

@@ -4,9 +4,9 @@ use native.Mathlib.Omega.{arith}
 use borrow.Author.Needs.{needs}
 use lib.ListN.{length, getD}
 use Rattle.lists.specs.Lists.{each}
-use Rattle.listing.specs.Listing.{line}
+use Rattle.interface.specs.Listing.{line}
 use Rattle.listing.specs.Put.{Put}
-use Rattle.listing.specs.Slots.{groupsOf}
+use Rattle.interface.specs.Calls.{groupsOf}
 use Rattle.listing.proofs.Lines.{line-bound, no-lines, index-natural, lines-next}
 use Rattle.listing.proofs.Puts.{then}
 use Rattle.listing.proofs.put_lines.Statement.{statement}

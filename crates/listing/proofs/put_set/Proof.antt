@@ -1,6 +1,6 @@
 use native.Mathlib.Omega.{arith}
 use borrow.Author.Needs.{needs}
-use Rattle.listing.specs.Listing.{hexadecimal}
+use Rattle.interface.specs.Listing.{hexadecimal}
 use Rattle.listing.proofs.Numbers.{digits-put}
 use Rattle.listing.proofs.Puts.{then-byte}
 use Rattle.listing.proofs.put_set.Statement.{statement}

@@ -1,6 +1,6 @@
 use native.Mathlib.Omega.{arith}
 use borrow.Author.Needs.{needs}
-use Rattle.listing.specs.Listing.{firstText, firstLine, listing}
+use Rattle.interface.specs.Listing.{firstText, firstLine, listing}
 use Rattle.listing.proofs.Puts.{then, put-start, start-put}
 use Rattle.listing.proofs.write.Statement.{statement}
 use Rattle.listing.proofs.write.Tie as tie

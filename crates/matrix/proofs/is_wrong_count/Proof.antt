@@ -1,5 +1,5 @@
 use borrow.Author.Tests.{eq-eqb, ne-eqb}
-use Rattle.clusters.specs.Refusals.{wrongCount}
+use Rattle.interface.specs.Refusals.{wrongCount}
 use Rattle.matrix.proofs.is_wrong_count.Statement.{statement}
 use Rattle.matrix.proofs.is_wrong_count.Tie as tie
 

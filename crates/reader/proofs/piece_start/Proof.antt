@@ -4,7 +4,7 @@ use Prim.Native.Nat.{_≤_, _<_}
 use native.Mathlib.Omega.{arith}
 use borrow.Author.Needs.{needs}
 use lib.ListN.{length, getD, drop}
-use Rattle.text.specs.Text.{cut}
+use Rattle.interface.specs.Sheet.{cut}
 use Rattle.reader.proofs.Parts.{piece-next, piece-here}
 use Rattle.reader.proofs.piece_start.Statement.{statement}
 use Rattle.reader.proofs.piece_start.Tie as tie

@@ -4,9 +4,9 @@ use mathlib.Core.List.{List}
 use Prim.Native.Nat.{ℕ, _≤_, _<_}
 use borrow.Author.Needs.{needs}
 use lib.ListN.{length, drop}
-use Rattle.clusters.specs.Refusals.{wrongCount}
-use Rattle.clusters.proofs.Refusals.{Gives, first-yes, first-no, no-more, right-count}
-use Rattle.sheet.specs.Sheet.{entries, value, mirrored, sheetChecks}
+use Rattle.interface.specs.Refusals.{wrongCount, readerChecks}
+use Rattle.interface.proofs.Refusals.{Gives, first-yes, first-no, no-more, right-count}
+use Rattle.interface.specs.Sheet.{entries, value, mirrored}
 use Rattle.reader.specs.Answer.{Holds}
 use Rattle.reader.proofs.Rows.{refuses, passes}
 use Rattle.reader.proofs.Answers.{length-right, mirrored-same, refused, passed}
@@ -17,48 +17,48 @@ wrong-length-requires : tie.Need-wrong-length-requires
 wrong-length-requires c κs = search needs
 
 returns : tie.Need-returns
-unfolding sheetChecks
+unfolding readerChecks
 returns c = refused _ _ (first-yes (sym (c .before .wrong-length .ensures) ∙ c .if1 .taken))
 
 -- the checks before place i have passed: what those left give, the table gives
 abbrev Left : List ℕ → ℕ → Type 0
-Left s i = (r : ℕ) → Gives (drop i (sheetChecks s)) r → Gives (sheetChecks s) r
+Left s i = (r : ℕ) → Gives (drop i (readerChecks s)) r → Gives (readerChecks s) r
 
 left3 : (c : tie.Else1) → Left (c .before .before .before .args .sheet .now) 1
-unfolding sheetChecks
+unfolding readerChecks
 left3 c r g = first-no (sym (c .before .wrong-length .ensures) ∙ c .if1 .left) g
 
 wrong-byte-requires : tie.Need-wrong-byte-requires
 wrong-byte-requires c κs = search needs
 
 returns-2 : tie.Need-returns-2
-unfolding sheetChecks
+unfolding readerChecks
 returns-2 c = refused _ _ (left3 (c .before .before) _ (first-yes (sym (c .before .wrong-byte .ensures) ∙ c .if2 .taken)))
 
 left4 : (c : tie.Else2) → Left (c .before .before .before .before .before .args .sheet .now) 2
-unfolding sheetChecks
+unfolding readerChecks
 left4 c r g = left3 (c .before .before) r (first-no (sym (c .before .wrong-byte .ensures) ∙ c .if2 .left) g)
 
 wrong-names-requires : tie.Need-wrong-names-requires
 wrong-names-requires c κs = search needs
 
 returns-3 : tie.Need-returns-3
-unfolding sheetChecks
+unfolding readerChecks
 returns-3 c = refused _ _ (left4 (c .before .before) _ (first-yes (sym (c .before .wrong-names .ensures) ∙ c .if3 .taken)))
 
 left5 : (c : tie.Else3) → Left (c .before .before .before .before .before .before .before .args .sheet .now) 3
-unfolding sheetChecks
+unfolding readerChecks
 left5 c r g = left4 (c .before .before) r (first-no (sym (c .before .wrong-names .ensures) ∙ c .if3 .left) g)
 
 equal-names-requires : tie.Need-equal-names-requires
 equal-names-requires c κs = search needs
 
 returns-4 : tie.Need-returns-4
-unfolding sheetChecks
+unfolding readerChecks
 returns-4 c = refused _ _ (left5 (c .before .before) _ (first-yes (sym (c .before .equal-names .ensures) ∙ c .if4 .taken)))
 
 left6 : (c : tie.Else4) → Left (c .before .before .before .before .before .before .before .before .before .args .sheet .now) 4
-unfolding sheetChecks
+unfolding readerChecks
 left6 c r g = left5 (c .before .before) r (first-no (sym (c .before .equal-names .ensures) ∙ c .if4 .left) g)
 
 long : (c : tie.Else4) → (0 < length (c .before .before .before .before .before .before .before .before .before .args .sheet .now)) × (length (c .before .before .before .before .before .before .before .before .before .args .sheet .now) ≤ 12288)
@@ -71,13 +71,13 @@ is-wrong-count-requires : tie.Need-is-wrong-count-requires
 is-wrong-count-requires c κs = search needs
 
 returns-5 : tie.Need-returns-5
-unfolding sheetChecks
+unfolding readerChecks
 returns-5 c =
     let e = sym (c .before .is-wrong-count .ensures ∙ ap wrongCount (c .before .before .entry-count .ensures)) ∙ c .if5 .taken in
     refused _ _ (left6 (c .before .before .before) _ (first-yes e))
 
 left7 : (c : tie.Else5) → Left (c .before .before .before .before .before .before .before .before .before .before .before .before .args .sheet .now) 5
-unfolding sheetChecks
+unfolding readerChecks
 left7 c r g = left6 (c .before .before .before) r (first-no (sym (c .before .is-wrong-count .ensures ∙ ap wrongCount (c .before .before .entry-count .ensures)) ∙ c .if5 .left) g)
 
 few : (c : tie.Else5) → c .before .before .entry-count .result ≤ 32
@@ -87,11 +87,11 @@ wrong-lines-requires : tie.Need-wrong-lines-requires
 wrong-lines-requires c κs = (long (c .before .before .before) .0, long (c .before .before .before) .1, c .before .before .entry-count .ensures, few c)
 
 returns-6 : tie.Need-returns-6
-unfolding sheetChecks
+unfolding readerChecks
 returns-6 c = refused _ _ (left7 (c .before .before) _ (first-yes (sym (c .before .wrong-lines .ensures) ∙ c .if6 .taken)))
 
 left8 : (c : tie.Else6) → Left (c .before .before .before .before .before .before .before .before .before .before .before .before .before .before .args .sheet .now) 6
-unfolding sheetChecks
+unfolding readerChecks
 left8 c r g = left7 (c .before .before) r (first-no (sym (c .before .wrong-lines .ensures) ∙ c .if6 .left) g)
 
 slice-aggregate-read-rows : tie.Need-slice-aggregate-read-rows
@@ -101,11 +101,11 @@ read-rows-requires : tie.Need-read-rows-requires
 read-rows-requires c κs = (c .before .before .before .before .before .entry-count .ensures, few (c .before .before .before), sym (c .before .before .wrong-lines .ensures) ∙ c .before .if6 .left, search needs)
 
 returns-7 : tie.Need-returns-7
-unfolding sheetChecks
+unfolding readerChecks
 returns-7 c = refused _ _ (left8 (c .before .before .before .before) _ (first-yes (refuses _ _ (c .before .before .read-rows .ensures .0) (c .if7 .taken))))
 
 left9 : (c : tie.Else7) → Left (c .before .before .before .before .before .before .before .before .before .before .before .before .before .before .before .before .before .before .args .sheet .now) 7
-unfolding sheetChecks
+unfolding readerChecks
 left9 c r g = left8 (c .before .before .before .before) r (first-no (passes _ _ (c .before .before .read-rows .ensures .0) (c .if7 .left)) g)
 
 held : (c : tie.Else7) → Holds (c .before .before .read-rows .last .1 .1 .0) (c .before .before .before .before .before .before .before .before .entry-count .result) (value (c .before .before .before .before .before .before .before .before .before .before .before .before .before .before .before .before .before .before .args .sheet .now))
@@ -123,7 +123,7 @@ mirror c =
     ap not (c .is-mirrored .ensures ∙ mirrored-same _ _ (value s) (held (c .before .before)) ∙ ap (λ (k : ℕ). mirrored k (value s)) (c .before .before .before .before .before .before .before .before .before .before .entry-count .ensures))
 
 returns-8 : tie.Need-returns-8
-unfolding sheetChecks
+unfolding readerChecks
 returns-8 c = refused _ _ (left9 (c .before .before .before) _ (first-yes (sym (mirror (c .before)) ∙ c .if8 .taken)))
 
 slice-aggregate-fill : tie.Need-slice-aggregate-fill
@@ -133,7 +133,7 @@ fill-requires : tie.Need-fill-requires
 fill-requires c κs = (few (c .before .before .before .before .before .before .before .before .before .before .before), c .before .before .before .before .before .before .before .read-rows .kept .1 .1 .0)
 
 returns-9 : tie.Need-returns-9
-unfolding sheetChecks
+unfolding readerChecks
 returns-9 c =
     let o = c .before .before .before .before .before .before in
     let t = o .before .before .before .before .before .before .before .before .entry-count in

@@ -11,8 +11,8 @@ use lib.Seq.{sets}
 use mir.Val.{SFits}
 use mir.Syntax.{w32}
 use mir.Facts.{toZ-ofZ}
-use Rattle.text.specs.Text.{cut, valueOf}
-use Rattle.sheet.specs.Sheet.{isRow}
+use Rattle.interface.specs.Sheet.{cut, valueOf}
+use Rattle.interface.specs.Refusals.{isRow}
 use Rattle.reader.proofs.Rows.{Got, value-got, value-not, row-none, row-refused, row-last, row-more, store-last, store-more, row-eight, row-zero}
 use Rattle.reader.proofs.read_row.Statement.{statement}
 use Rattle.reader.proofs.read_row.Tie as tie

@@ -9,8 +9,8 @@ use lib.Seq.{sets}
 use lib.ListN.{length, drop}
 use Rattle.lists.specs.Lists.{below}
 use Rattle.lists.proofs.Walk.{Passed, started, next-below, failed-below, ended-below}
-use Rattle.text.specs.Text.{valueOf, cut}
-use Rattle.sheet.specs.Sheet.{lines, words, value, isRow}
+use Rattle.interface.specs.Sheet.{valueOf, cut, lines, words, value}
+use Rattle.interface.specs.Refusals.{isRow}
 use Rattle.reader.specs.Answer.{square}
 use Rattle.reader.proofs.Rows.{row-length, refuses, passes}
 use Rattle.reader.proofs.Values.{Line, line-count, line-at, first-at, line-words, values-tested, square-next, value-at}

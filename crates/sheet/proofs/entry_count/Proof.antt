@@ -4,8 +4,7 @@ use Prim.Native.Nat.{ℕ}
 use native.Mathlib.Omega.{arith}
 use borrow.Author.Needs.{needs}
 use lib.ListN.{length}
-use Rattle.text.specs.Text.{cut}
-use Rattle.sheet.specs.Sheet.{entries, names}
+use Rattle.interface.specs.Sheet.{cut, entries, names}
 use Rattle.sheet.proofs.Lines.{line-inside, line-length, first-line}
 use Rattle.sheet.proofs.entry_count.Statement.{statement}
 use Rattle.sheet.proofs.entry_count.Tie as tie

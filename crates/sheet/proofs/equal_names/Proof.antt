@@ -2,8 +2,8 @@ use mathlib.Core.Path.{ap, _∙_}
 use mathlib.Core.List.{List}
 use Prim.Native.Nat.{ℕ}
 use borrow.Author.Needs.{needs}
-use Rattle.text.specs.Text.{cut}
-use Rattle.sheet.specs.Sheet.{names, hasEqual, equalNames}
+use Rattle.interface.specs.Sheet.{cut, names, hasEqual}
+use Rattle.interface.specs.Refusals.{equalNames}
 use Rattle.sheet.proofs.Lines.{line-length, first-line}
 use Rattle.sheet.proofs.equal_names.Statement.{statement}
 use Rattle.sheet.proofs.equal_names.Tie as tie

@@ -4,10 +4,9 @@ use Prim.Native.Nat.{_+_, _-_, _≤_, ℕ}
 use native.Mathlib.Omega.{arith}
 use borrow.Author.Needs.{needs}
 use lib.ListN.{length, drop}
-use Rattle.text.specs.Text.{cut}
+use Rattle.interface.specs.Sheet.{cut, isAmong, hasEqual}
 use Rattle.text.specs.Reading.{pieceAt}
 use Rattle.text.proofs.Pieces.{rest, piece-part}
-use Rattle.sheet.specs.Sheet.{isAmong, hasEqual}
 use Rattle.sheet.proofs.Names.{last-equal, more-equal}
 use Rattle.sheet.proofs.has_equal.Statement.{statement}
 use Rattle.sheet.proofs.has_equal.Tie as tie

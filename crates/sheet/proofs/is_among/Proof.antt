@@ -4,10 +4,9 @@ use Prim.Native.Nat.{_-_, _≤_}
 use native.Mathlib.Omega.{arith}
 use borrow.Author.Needs.{needs}
 use lib.ListN.{length, drop}
-use Rattle.text.specs.Text.{cut}
+use Rattle.interface.specs.Sheet.{cut, sameBytes, isAmong}
 use Rattle.text.specs.Reading.{pieceAt}
 use Rattle.text.proofs.Pieces.{piece-inside, piece-part}
-use Rattle.sheet.specs.Sheet.{sameBytes, isAmong}
 use Rattle.sheet.proofs.Names.{is-among, last-among, more-among}
 use Rattle.sheet.proofs.is_among.Statement.{statement}
 use Rattle.sheet.proofs.is_among.Tie as tie

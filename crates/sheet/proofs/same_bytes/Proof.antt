@@ -4,7 +4,7 @@ use native.Mathlib.Omega.{arith}
 use borrow.Author.Tests.{eq-eqb, ne-eqb}
 use borrow.Author.Needs.{needs}
 use lib.ListN.{length, drop}
-use Rattle.sheet.specs.Sheet.{sameBytes}
+use Rattle.interface.specs.Sheet.{sameBytes}
 use Rattle.sheet.proofs.Names.{same-step, same-short, same-end}
 use Rattle.sheet.proofs.same_bytes.Statement.{statement}
 use Rattle.sheet.proofs.same_bytes.Tie as tie

@@ -1,7 +1,7 @@
 use mathlib.Core.Path.{ap}
 use mathlib.Core.Bool.{not}
 use borrow.Author.Needs.{needs}
-use Rattle.sheet.specs.Sheet.{wrongByte}
+use Rattle.interface.specs.Refusals.{wrongByte}
 use Rattle.sheet.proofs.wrong_byte.Statement.{statement}
 use Rattle.sheet.proofs.wrong_byte.Tie as tie
 

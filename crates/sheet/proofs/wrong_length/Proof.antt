@@ -1,5 +1,5 @@
 use borrow.Author.Tests.{eq-eqb, ne-eqb}
-use Rattle.sheet.specs.Sheet.{wrongLength}
+use Rattle.interface.specs.Refusals.{wrongLength}
 use Rattle.sheet.proofs.wrong_length.Statement.{statement}
 use Rattle.sheet.proofs.wrong_length.Tie as tie
 

@@ -4,8 +4,7 @@ use mathlib.Core.Bool.{not}
 use Prim.Native.Nat.{ℕ}
 use borrow.Author.Needs.{needs}
 use Rattle.lists.specs.Lists.{all}
-use Rattle.text.specs.Text.{cut, isName}
-use Rattle.sheet.specs.Sheet.{names}
+use Rattle.interface.specs.Sheet.{cut, isName, names}
 use Rattle.sheet.proofs.Lines.{line-length, first-line, no-feed, names-left}
 use Rattle.sheet.proofs.wrong_names.Statement.{statement}
 use Rattle.sheet.proofs.wrong_names.Tie as tie

@@ -1,6 +1,6 @@
 use mathlib.Core.Path.{refl}
 use borrow.Author.Needs.{needs}
-use Rattle.text.specs.Text.{isAllowed}
+use Rattle.interface.specs.Refusals.{isAllowed}
 use Rattle.text.proofs.is_allowed.Statement.{statement}
 use Rattle.text.proofs.is_allowed.Tie as tie
 

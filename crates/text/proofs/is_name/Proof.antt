@@ -8,7 +8,7 @@ use lib.ListN.{length, getD, drop}
 use Rattle.lists.specs.Lists.{all}
 use Rattle.text.specs.Reading.{inClass}
 use Rattle.text.specs.declared.Class.the-variants.{NameByte}
-use Rattle.text.specs.Text.{isUpper, isName}
+use Rattle.interface.specs.Sheet.{isUpper, isName}
 use Rattle.text.proofs.Pieces.{rest}
 use Rattle.text.proofs.Words.{name-is, empty}
 use Rattle.text.proofs.is_name.Statement.{statement}

@@ -1,5 +1,5 @@
 use mathlib.Core.Path.{refl}
-use Rattle.text.specs.Text.{isUpper}
+use Rattle.interface.specs.Sheet.{isUpper}
 use Rattle.text.proofs.is_upper.Statement.{statement}
 use Rattle.text.proofs.is_upper.Tie as tie
 

@@ -4,7 +4,7 @@ use Prim.Native.Nat.{_+_, _-_, _≤_, _<_}
 use native.Mathlib.Omega.{arith}
 use borrow.Author.Needs.{needs}
 use lib.ListN.{length, drop}
-use Rattle.text.specs.Text.{cut}
+use Rattle.interface.specs.Sheet.{cut}
 use Rattle.text.proofs.Pieces.{count-stop, count-step, count-end}
 use Rattle.text.proofs.piece_count.Statement.{statement}
 use Rattle.text.proofs.piece_count.Tie as tie

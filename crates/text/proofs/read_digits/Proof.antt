@@ -6,7 +6,7 @@ use borrow.Author.Tests.{not-true, not-false}
 use borrow.Author.Needs.{needs}
 use lib.Dec.{lit<}
 use lib.ListN.{length, getD, drop}
-use Rattle.text.specs.Text.{isDigit}
+use Rattle.interface.specs.Sheet.{isDigit}
 use Rattle.text.specs.Reading.{digits, readOn}
 use Rattle.text.proofs.Numerals.{digit-low, digit-high, ten-step, ten-bound, read-nothing, read-digit, no-more, no-byte, no-digit}
 use Rattle.text.proofs.read_digits.Statement.{statement}

@@ -9,7 +9,7 @@ use lib.Dec.{eqb}
 use lib.ListN.{length, getD, drop}
 use mir.Val.{boolByte}
 use mir.Facts.{toZ-ofZ}
-use Rattle.text.specs.Text.{isNumeral, numberFrom}
+use Rattle.interface.specs.Sheet.{isNumeral, numberFrom}
 use Rattle.text.specs.Reading.{pieceAt, digits, valueAt}
 use Rattle.text.specs.declared.ValueRead.the-variants.{Value, Refused}
 use Rattle.text.proofs.Numerals.{digits-read, digits-small, numeral-piece, signed, value-is, no-value, one-byte, plus-fits, neg-fits, plus, minus}

@@ -7,7 +7,7 @@ use mir.Syntax.{w64}
 use Rattle.integers.proofs.Held.{passed}
 use Rattle.clusters.specs.PairList.{hasLength}
 use Rattle.matrix.proofs.Places.{score-asks}
-use Rattle.triangle.specs.Triangle.{isPair, scoreAmong}
+use Rattle.interface.specs.Calls.{isPair, scoreAmong}
 use Rattle.triangle.proofs.Among.{among-score}
 use Rattle.triangle.proofs.score_among.Statement.{statement}
 use Rattle.triangle.proofs.score_among.Tie as tie

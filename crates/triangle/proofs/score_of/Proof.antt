@@ -1,6 +1,6 @@
 -- `score_of`, walked: the view is made, held in a local and passed to `score`.
 use Rattle.triangle.proofs.Walks.{refl, _≡_, ap, _∙_, List, [], _∷_, ℕ, _<_, _^_, ℤ, URA, w64, Val, vint, SProp, ent, emp, id⊢, Lft, Share, Memory, Routine, Heap, Calls, Loops, Atoms, Fun, factI, givenOf, tables, FmC, Given, ‵, raw, _⊛_, _$_, _∵_, !, qed, by, move, use1, use3, split, fsplit, fjoin, look, init, stop, from, and-then, no-more, land, returns, enter, alloc1, alloc0, params1, pass1, pass0, free0, Is, usize, uint-vals, uint-tells, sint-lawful, RefT, now, slice-vals, nothing, Triple, Clauses, calls-at, cited, framed, Pairs, pairs-tells, pairs-typed, local-typed, copied, freed, Walk, sep, sem, Fml, owns, use2, ⋆, done, silence, triple, Owned, Entry, Result, Tokens, ends, asks, answers, meets}
-use Rattle.triangle.specs.Triangle.{scoreAmong}
+use Rattle.interface.specs.Calls.{scoreAmong}
 use Rattle.triangle.specs.declared.Triangle.{Triangle}
 use Rattle.triangle.proofs.view as view
 use Rattle.triangle.proofs.view.Symbol as view-def

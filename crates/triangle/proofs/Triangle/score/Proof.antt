@@ -1,6 +1,6 @@
 -- `score`, walked: the view is taken apart, and what its slice and its number own goes to `score_among`.
 use Rattle.triangle.proofs.Walks.{refl, _≡_, [], _∷_, ℕ, _<_, _^_, URA, w64, vint, SProp, ent, emp, id⊢, Lft, Share, Memory, Routine, Heap, Calls, Loops, Atoms, Fun, factI, givenOf, tables, FmC, Given, ‵, raw, given, _$_, _∵_, !, qed, by, move, drop, use1, learn, fsplit, fjoin, whole, sub, look-in, look, init, stop, fld, from, load, of-opd, and-then, no-more, assigns, land, returns, enter, alloc1, alloc0, params1, pass1, pass0, free0, Is, uint-vals, uint-tells, sint-lawful, now, slice-vals, own-open, all-own, Triple, Clauses, calls-at, cited, framed, ViewType, view-laws, View, view-vals, view-tells, view-typed, copied, freed, Walk, silence, triple, Owned, Entry, Tokens, ends, asks, answers, meets}
-use Rattle.triangle.specs.Triangle.{scoreAmong}
+use Rattle.interface.specs.Calls.{scoreAmong}
 use Rattle.triangle.specs.declared.Triangle.{Triangle}
 use Rattle.triangle.proofs.Triangle.Laws.{lowered}
 use Rattle.triangle.proofs.score_among as among

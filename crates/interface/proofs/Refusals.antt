@@ -1,18 +1,18 @@
 -- A table of checks. "Each number is given if and only if its line holds and none before it does."
-use mathlib.Core.Path.{_≡_, refl, ap, _∙_}
+use mathlib.Core.Path.{_≡_, refl, sym, ap, _∙_}
 use mathlib.Core.Bool.{Bool, true, false, not, cond, _&&_}
 use mathlib.Core.Logic.{_↔_}
 use mathlib.Core.List.{List, [], _∷_, _++_}
 use Prim.Native.Nat.{ℕ, _≤_, _<_}
 use native.Mathlib.Omega.{arith}
-use borrow.Author.Tests.{eqb-true, eqb-false, ltb-false, ne-eqb, not-false}
+use borrow.Author.Tests.{eqb-true, eqb-false, ltb-false, eq-eqb, ne-eqb, not-false}
 use lib.Dec.{T, eqb, leb, ltb, leb→le}
 use lib.IntN.{ℤ}
 use lib.ListN.{length}
 use Rattle.lists.specs.Lists.{all}
 use Rattle.lists.proofs.Tests.{and-T, cond-elim, eqb-no, or-none}
 use Rattle.clusters.specs.PairList.{rowStart, hasLength}
-use Rattle.clusters.specs.Refusals.{firstOf, none, Given, wrongCount}
+use Rattle.interface.specs.Refusals.{firstOf, none, Given, mostEntries, wrongCount}
 
 -- down the table l, which gives r
 pub record Gives (l : List (ℕ × Bool)) (r : ℕ) : Type 0 where
@@ -50,11 +50,16 @@ first-le k (c ∷ checks) t =
 -- what checks 6 and 10 leave
 pub some-count : (n : ℕ) → wrongCount n ≡ false → 1 ≤ n
 unfolding wrongCount
-some-count n e = let f = eqb-false n 0 (or-none (eqb n 0) (ltb 32 n) e .0) in omega arith
+some-count n e = let f = eqb-false n 0 (or-none (eqb n 0) (ltb mostEntries n) e .0) in omega arith
 
-pub right-count : (n : ℕ) → wrongCount n ≡ false → n ≤ 32
+pub few-count : (n : ℕ) → wrongCount n ≡ false → n ≤ mostEntries
 unfolding wrongCount
-right-count n e = ltb-false 32 n (or-none (eqb n 0) (ltb 32 n) e .1)
+few-count n e = ltb-false mostEntries n (or-none (eqb n 0) (ltb mostEntries n) e .1)
+
+-- the number as the code knows it
+pub right-count : (n : ℕ) → wrongCount n ≡ false → n ≤ 32
+unfolding mostEntries
+right-count n e = few-count n e
 
 pub right-length : (n : ℕ) (l : List ℤ) → not (hasLength n l) ≡ false → length l ≡ rowStart n
 unfolding hasLength
@@ -108,3 +113,11 @@ first-append (c ∷ l) m t = go (c .0) (c .1) (and-T (not (eqb (c .0) 0)) (numbe
         → cond b k (firstOf (l ++ m)) ≡ cond (eqb (cond b k (firstOf l)) 0) (firstOf m) (cond b k (firstOf l))
     go k true (h, t) ih = rw (ne-eqb k 0 (eqb-no k 0 h))
     go k false (h, t) ih = ih t
+
+-- down the first table, which gives k: k is given, or the second is gone down
+module _ (l m : List (ℕ × Bool)) {k : ℕ} (t : T (numbered l)) (e : k ≡ firstOf l) where
+  pub first-front : (k ≡ 0 → ⊥) → Gives (l ++ m) k
+  first-front f = record { is = sym (first-append l m t ∙ rw (sym e, ne-eqb k 0 f)) }
+
+  pub first-back : {r : ℕ} → k ≡ 0 → Gives m r → Gives (l ++ m) r
+  first-back z g = record { is = g .is ∙ sym (first-append l m t ∙ rw (sym e, eq-eqb k 0 z)) }

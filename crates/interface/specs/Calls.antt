@@ -1,0 +1,117 @@
+-- What each call answers and writes (document 01): its whole outcome, which is the function's contract. What was lent to a call held `lent`
+-- before it and holds `after` now.
+use mathlib.Core.Path.{_≡_}
+use mathlib.Core.Bool.{Bool, cond, _&&_}
+use mathlib.Core.List.{List, [], _∷_, map}
+use Prim.Native.Nat.{ℕ, zero, suc, _+_, _-_}
+use lib.IntN.{ℤ, pos, negℤ}
+use lib.Dec.{eqb, leb, ltb}
+use lib.ListN.{length, getD}
+use Rattle.clusters.specs.PairList.{Similarity, rowStart, score, hasLength}
+use Rattle.clusters.specs.Farris.{anchoredScores, distancesBack}
+use Rattle.clusters.specs.Linkage.{Linkage, Tree, mergedBlocks}
+use Rattle.answers.specs.declared.Answer.{Answer}
+use Rattle.answers.specs.declared.Answer.the-variants.{Count, Refused}
+use Rattle.answers.specs.Answers.{answer, slots, filled}
+use Rattle.interface.specs.Sheet.{names, entries, pairs}
+use Rattle.interface.specs.Listing.{groupsFound, sheetListing}
+use Rattle.interface.specs.Refusals.{
+  mostEntries,
+  sheetRefusal,
+  numbersRefusal,
+  linkageRefusal,
+  anchoredRefusal,
+  backRefusal,
+  readerRefusal
+}
+
+-- The sheet call: the listing's length, and the listing in the first bytes.
+pub record SheetCall (kind : ℤ) (sheet lent : List ℕ) (r : Answer) (after : List ℕ) : Type 0 where
+  pub answered : r ≡ answer (sheetRefusal kind sheet (length lent)) (length (sheetListing kind sheet))
+  pub written : after ≡ slots (sheetRefusal kind sheet (length lent)) (sheetListing kind sheet) lent
+
+-- "The C call answers the listing's length in bytes, or minus the refusal number": for each case of an answer
+unfoldable pub cNumber : Answer → ℤ
+cNumber (Count length) = pos length
+cNumber (Refused number) = negℤ (pos number)
+
+pub record CCall (kind : ℤ) (sheet lent : List ℕ) (r : ℤ) (after : List ℕ) : Type 0 where
+  pub answered : r ≡ cNumber (answer (sheetRefusal kind sheet (length lent)) (length (sheetListing kind sheet)))
+  pub written : after ≡ slots (sheetRefusal kind sheet (length lent)) (sheetListing kind sheet) lent
+
+-- "The numbers call puts sets and indices in two lent slices in this order, returns their count, and fills all further slots with 0."
+unfoldable pub setsFound : ℤ → ℕ → List ℤ → List ℕ
+setsFound kind n l = map (λ (A, z). A) (groupsFound kind n l)
+
+unfoldable pub indicesFound : ℤ → ℕ → List ℤ → List ℤ
+indicesFound kind n l = map (λ (A, z). z) (groupsFound kind n l)
+
+pub record NumbersCall (kind : ℤ) (n : ℕ) (l : List ℤ) (lentSets : List ℕ) (lentIndices : List ℤ) (r : Answer)
+    (sets : List ℕ) (indices : List ℤ) : Type 0 where
+  pub answered : r ≡ answer (numbersRefusal kind n l (length lentSets) (length lentIndices)) (length (groupsFound kind n l))
+  pub setsWritten : sets ≡ filled 0 (numbersRefusal kind n l (length lentSets) (length lentIndices)) (setsFound kind n l) lentSets
+  pub indicesWritten :
+      indices ≡ filled (pos 0) (numbersRefusal kind n l (length lentSets) (length lentIndices)) (indicesFound kind n l) lentIndices
+
+-- the first count sets, each with its index
+unfoldable pub groupsOf : ℕ → List ℕ → List ℤ → List (ℕ × ℤ)
+groupsOf zero sets indices = []
+groupsOf (suc count) [] indices = []
+groupsOf (suc count) (A ∷ sets) [] = []
+groupsOf (suc count) (A ∷ sets) (z ∷ indices) = (A, z) ∷ groupsOf count sets indices
+
+-- "A linkage call writes the n − 1 merged blocks in the order of merging", of some tree; it "answers how many slots it wrote; slots
+-- beyond are not touched".
+pub record LinkageCall (linkage : Linkage) (n : ℕ) (l : List ℤ) (lent : List ℕ) (r : Answer) (after : List ℕ) : Type 0 where
+  pub answered : r ≡ answer (linkageRefusal n l (length lent)) (n - 1)
+  pub merges : List (ℕ × ℕ)
+  pub tree : linkageRefusal n l (length lent) ≡ 0 → Tree linkage n (score l) merges
+  pub written : after ≡ slots (linkageRefusal n l (length lent)) (mergedBlocks merges) lent
+
+-- "the anchored call and the way back write a list in the order of the pair list"
+pub record AnchoredCall (n x : ℕ) (l lent : List ℤ) (r : Answer) (after : List ℤ) : Type 0 where
+  pub answered : r ≡ answer (anchoredRefusal n x l (length lent)) (rowStart n)
+  pub written : after ≡ slots (anchoredRefusal n x l (length lent)) (anchoredScores n x l) lent
+
+pub record BackCall (n x : ℕ) (l lent : List ℤ) (r : Answer) (after : List ℤ) : Type 0 where
+  pub answered : r ≡ answer (backRefusal n x l (length lent)) (rowStart n)
+  pub written : after ≡ slots (backRefusal n x l (length lent)) (distancesBack n l) lent
+
+-- The reader: the number of entries, and the pair list in the first slots.
+pub record ReaderCall (sheet : List ℕ) (lent : List ℤ) (r : Answer) (after : List ℤ) : Type 0 where
+  pub answered : r ≡ answer (readerRefusal sheet) (entries sheet)
+  pub written : after ≡ slots (readerRefusal sheet) (pairs sheet) lent
+
+-- "The name of an entry is handed back as its own part of the sheet; the answer is the empty part if checks 2 to 9 refuse the sheet or
+-- the entry number, counted from 0, is n or more."
+unfoldable pub hasName : List ℕ → ℕ → Bool
+hasName sheet i = eqb (readerRefusal sheet) 0 && ltb i (entries sheet)
+
+unfoldable pub nameOf : List ℕ → ℕ → List ℕ
+nameOf sheet i = cond (hasName sheet i) (getD (names sheet) i []) []
+
+-- where it starts: behind the names before it, each with the space behind it
+unfoldable pub startOf : List (List ℕ) → ℕ → ℕ
+startOf ws zero = 0
+startOf [] (suc i) = 0
+startOf (w ∷ ws) (suc i) = length w + 1 + startOf ws i
+
+unfoldable pub nameStart : List ℕ → ℕ → ℕ
+nameStart sheet i = cond (hasName sheet i) (startOf (names sheet) i) 0
+
+-- k bytes behind a place in memory, which is a block and an offset
+unfoldable pub behind : ℕ → ℕ × ℕ → ℕ × ℕ
+behind k (block, offset) = (block, k + offset)
+
+-- the sheet lies at the place `at`, the part that is handed back at `place`
+pub record NameCall (sheet : List ℕ) (at : ℕ × ℕ) (i : ℕ) (part : List ℕ) (place : ℕ × ℕ) : Type 0 where
+  pub bytes : part ≡ nameOf sheet i
+  pub lies : place ≡ behind (nameStart sheet i) at
+
+-- "Scores are looked up by two entries in the pair list as lent": the score of two of n entries, and 0 of any other two numbers or if the
+-- list is no pair list of n entries
+unfoldable pub isPair : ℕ → List ℤ → ℕ → ℕ → Bool
+isPair n l a b = leb n mostEntries && hasLength n l && ltb a n && ltb b n
+
+unfoldable pub scoreAmong : ℕ → List ℤ → Similarity
+scoreAmong n l a b = cond (isPair n l a b) (score l a b) (pos 0)

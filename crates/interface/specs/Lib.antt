@@ -1,0 +1,5 @@
+pub mod Sheet
+pub mod Listing
+pub mod Refusals
+pub mod Calls
+pub mod Demands
