@@ -1,3 +1,9 @@
 pub mod Refusals
 pub mod Digits
+pub mod Numerals
 pub mod Pieces
+pub mod Lines
+pub mod Anchored
+pub mod Slots
+pub mod Demands
+pub mod Example

@@ -33,6 +33,18 @@ or-first b e = rw e
 pub or-second : {a b t : Bool} → a ≡ false → b ≡ t → a || b ≡ t
 or-second e q = rw e q
 
+pub or-T : (a b : Bool) → T (a || b) → T a ⊎ T b
+or-T true b t = inl tt
+or-T false b t = inr t
+
+pub T-or-left : (a b : Bool) → T a → T (a || b)
+T-or-left true b t = tt
+T-or-left false b t = absurd t
+
+pub T-or-right : (a b : Bool) → T b → T (a || b)
+T-or-right true b t = tt
+T-or-right false b t = t
+
 pub or-none : (a b : Bool) → a || b ≡ false → (a ≡ false) × (b ≡ false)
 or-none true b e = absurd (false-T {b = true} e)
 or-none false b e = (refl, e)

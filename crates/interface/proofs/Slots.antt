@@ -1,10 +1,10 @@
--- What a caller of the writer shows: slots that start with the sets and the indices of some groups hold these groups.
+-- Slots that start with the sets and the indices of some groups hold these groups.
 use mathlib.Core.Path.{_≡_, refl, ap}
 use mathlib.Core.List.{List, [], _∷_, _++_, map}
 use Prim.Native.Nat.{ℕ}
 use lib.IntN.{ℤ}
 use lib.ListN.{length}
 use Rattle.interface.specs.Calls.{groupsOf}
 
 module _ (groups : List (ℕ × ℤ)) (sets : List ℕ) (indices : List ℤ) where
   pub groups-slots : groupsOf (length groups) (map (λ g. g .0) groups ++ sets) (map (λ g. g .1) groups ++ indices) ≡ groups

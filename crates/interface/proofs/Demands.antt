@@ -1,0 +1,302 @@
+-- The demands, from the outcomes of the calls and the theorems about groups.
+use mathlib.Core.Path.{_≡_, refl, sym, ap, ap₂, _∙_, subst, subst₂}
+use mathlib.Core.Bool.{Bool, false, not}
+use mathlib.Core.Logic.{_⊎_, inl, inr, _↔_}
+use mathlib.Core.List.{List, _++_, map, map-map, map-id}
+use mathlib.Core.Option.{some, Option·some-injective}
+use Prim.Native.Nat.{ℕ, zero, suc, _-_, _^_, _<_, _≤_}
+use native.Mathlib.Nat.{pow-le-pow-right}
+use native.Mathlib.Omega.{arith}
+use lib.IntN.{ℤ, pos, negℤ}
+use lib.Dec.{T, lit<, lit≤}
+use lib.ListN.{length, take, drop, replicate, length-map}
+use lib.Seq.{take-append-seam, drop-append-seam}
+use Rattle.lists.specs.Lists.{_∈_, _lists_, all}
+use Rattle.lists.proofs.Lists.{all-in, of-map, getD-in}
+use Rattle.lists.proofs.Tests.{T-false}
+use Rattle.integers.specs.Integers.{eqZ}
+use Rattle.integers.proofs.Linear.{zarith, up, dn}
+use Rattle.sets.specs.Sets.{size}
+use Rattle.clusters.specs.PairList.{Similarity, Symmetric, rowStart, score}
+use Rattle.clusters.specs.Farris.{unfarris, anchoredScores, distancesBack}
+use Rattle.clusters.specs.Linkage.{Tree, blocks}
+use Rattle.clusters.specs.Groups.{Kind, kindOf, index, groupSets, groups, treeLinkage, treeScores}
+use Rattle.clusters.proofs.PairList.{score-symm, length-pairList}
+use Rattle.clusters.proofs.Groups.{in-groups, in-groupSets, groups-rise, rising-distinct, of-listed, listed-index, is-listed, groups-sets}
+use Rattle.clusters.proofs.Theorems.{group-in-tree, groups-nested, groups-bound}
+use Rattle.clusters.proofs.Reordering.{groups-image}
+use Rattle.answers.specs.declared.Answer.{Answer}
+use Rattle.answers.specs.Answers.{numberOf, countOf, answer, slots, filled}
+use Rattle.answers.proofs.Answers.{number-answer, count-answer, slots-refused, slots-written}
+use Rattle.interface.specs.Sheet.{entries, pairs}
+use Rattle.interface.specs.Listing.{Line, lineOf, listing, groupsFound, pairsListing, sheetListing, listingRead}
+use Rattle.interface.specs.Refusals.{
+  Check,
+  firstOf,
+  mostEntries,
+  wrongCount,
+  sheetCallChecks,
+  sheetRefusal,
+  numbersRefusal,
+  anchoredRefusal,
+  backRefusal
+}
+use Rattle.interface.specs.Calls.{SheetCall, cNumber, CCall, NumbersCall, setsFound, indicesFound, groupsOf}
+use Rattle.interface.specs.Demands.{Demand1, Listed, by-C-call, by-sheet-call, Wrote, in-lines, in-slots, Indices, Demand2, SameGroups, Complete, Demand3}
+use Rattle.interface.proofs.Refusals.{first-iff, first-none, few-count}
+use Rattle.interface.proofs.Lines.{Readable, listing-read}
+use Rattle.interface.proofs.Slots.{groups-slots}
+use Rattle.interface.proofs.Anchored.{length-anchored, way-back}
+
+-- what a number in C says of the answer: a length, if nothing is refused; minus the number of the refusal
+c-count : (k c count : ℕ) → cNumber (answer k c) ≡ pos count → (k ≡ 0) × (c ≡ count)
+unfolding cNumber answer
+c-count zero c count e = (refl, cc)
+c-count (suc k) c count e = let z : _≡_ {A = ℕ} 0 1 = cc in absurd (omega arith)
+
+c-refused : (k c j : ℕ) → 0 < j → (cNumber (answer k c) ≡ negℤ (pos j)) ↔ (k ≡ j)
+unfolding cNumber answer
+c-refused k c zero h = absurd (omega arith)
+c-refused zero c (suc j) h = (λ e. let z : _≡_ {A = ℕ} 0 1 = cc in absurd (omega arith), λ e. absurd (omega arith))
+c-refused (suc k) c (suc j) h = (λ e. let z : k ≡ j = cc in ap suc z, λ e. ap (λ (i : ℕ). negℤ (pos i)) e)
+
+c-listed : (k c : ℕ) → k ≡ 0 → cNumber (answer k c) ≡ pos c
+unfolding cNumber answer
+c-listed k c z = rw z
+
+-- the slots of a call that is not refused
+module _ {A : Type 0} {k : ℕ} (z : k ≡ 0) (result lent : List A) {after : List A} (w : after ≡ slots k result lent) where
+  after-is : after ≡ result ++ drop (length result) lent
+  after-is = w ∙ ap (λ (j : ℕ). slots j result lent) z ∙ slots-written result lent
+
+  taken : {count : ℕ} → length result ≡ count → take count after ≡ result
+  taken e = rw (sym e, after-is) (take-append-seam result (drop (length result) lent))
+
+  dropped : {count : ℕ} → length result ≡ count → drop count after ≡ drop count lent
+  dropped e = rw (sym e, after-is) (drop-append-seam result (drop (length result) lent))
+
+-- an answer that is no refusal
+module _ {r : Answer} (k c : ℕ) (e : r ≡ answer k c) (none : numberOf r ≡ 0) where
+  not-refused : k ≡ 0
+  not-refused = sym (ap numberOf e ∙ number-answer k c) ∙ none
+
+  counted : countOf r ≡ c
+  counted = ap countOf (e ∙ ap (λ (j : ℕ). answer j c) not-refused) ∙ count-answer c
+
+-- demand 1
+pub demand-1 : (kind : ℤ) (sheet lent : List ℕ) (r : ℤ) (after : List ℕ) → CCall kind sheet lent r after → Demand1 kind sheet lent r after
+unfolding sheetRefusal sheetCallChecks all
+demand-1 kind sheet lent r after c = record {
+  refusal = λ j h. (
+    λ q. first-iff checks j h .0 (c-refused k many j h .0 (sym (c .answered) ∙ q)),
+    λ g. c .answered ∙ c-refused k many j h .1 (first-iff checks j h .1 g),
+  );
+  refused = λ j h q.
+      let is : k ≡ j = c-refused k many j h .0 (sym (c .answered) ∙ q) in
+      c .written ∙ slots-refused k text lent (omega arith);
+  listed = (
+    λ q. first-none checks tt .0 (c-count k many many (sym (c .answered) ∙ q) .0),
+    λ t. c .answered ∙ c-listed k many (first-none checks tt .1 t),
+  );
+  written = λ count q.
+      let (z, e) = c-count k many count (sym (c .answered) ∙ q) in
+      (taken z text lent (c .written) e, dropped z text lent (c .written) e);
+  either = go k refl;
+}
+  where
+    checks : List Check
+    checks = sheetCallChecks kind sheet (length lent)
+
+    k : ℕ
+    k = firstOf checks
+
+    text : List ℕ
+    text = sheetListing kind sheet
+
+    many : ℕ
+    many = length text
+
+    go : (j : ℕ) → k ≡ j → ((j : ℕ) × (0 < j) × (r ≡ negℤ (pos j))) ⊎ (r ≡ pos many)
+    go zero e = inr (c .answered ∙ c-listed k many e)
+    go (suc j) e = inl (suc j, omega arith, c .answered ∙ c-refused k many (suc j) (omega arith) .1 e)
+
+-- the sheet call is the C call but for the number in C
+sheet-c : {kind : ℤ} {sheet lent after : List ℕ} {r : Answer} → SheetCall kind sheet lent r after → CCall kind sheet lent (cNumber r) after
+sheet-c c = record { answered = ap cNumber (c .answered); written = c .written }
+
+-- bytes that either call listed are the sheet's listing, and no check refused
+record Accepted (kind : ℤ) (sheet bytes : List ℕ) : Type 0 where
+  buffer : ℕ
+  passed : sheetRefusal kind sheet buffer ≡ 0
+  are : bytes ≡ sheetListing kind sheet
+
+accepted : {kind : ℤ} {sheet bytes : List ℕ} → Listed kind sheet bytes → Accepted kind sheet bytes
+accepted {kind} {sheet} (by-C-call {lent} {after} {r} c count e) =
+    let k = sheetRefusal kind sheet (length lent) in
+    let text = sheetListing kind sheet in
+    record {
+      buffer = length lent;
+      passed = c-count k (length text) count (sym (c .answered) ∙ e) .0;
+      are = demand-1 kind sheet lent r after c .written count e .0;
+    }
+accepted {kind} {sheet} (by-sheet-call {lent} {after} {r} c z) =
+    let k = sheetRefusal kind sheet (length lent) in
+    let text = sheetListing kind sheet in
+    let none = not-refused k (length text) (c .answered) z in
+    record {
+      buffer = length lent;
+      passed = none;
+      are = taken none text lent (c .written) (sym (counted k (length text) (c .answered) z));
+    }
+
+-- check 6 of a sheet that is listed
+few-entries : (kind : ℤ) (sheet : List ℕ) (buffer : ℕ) → sheetRefusal kind sheet buffer ≡ 0 → entries sheet ≤ mostEntries
+unfolding sheetRefusal sheetCallChecks all
+few-entries kind sheet buffer e =
+    let checks = sheetCallChecks kind sheet buffer in
+    let none = first-none checks tt .0 e in
+    let six : T (not (wrongCount (entries sheet))) = all-in (λ (c : Check). not (c .1)) checks none (getD-in checks 5 (0, false) (lit< tt)) in
+    few-count (entries sheet) (T-false six)
+
+-- 8 hexadecimal digits have room for every set of entries
+digits-room : (n : ℕ) → n ≤ mostEntries → 2 ^ n ≤ 16 ^ 8
+unfolding mostEntries
+digits-room n h = pow-le-pow-right (lit< tt) h
+
+-- the lines of a sheet that is listed
+module _ {kind : ℤ} {sheet bytes : List ℕ} (l : Listed kind sheet bytes) where
+  lines : List Line
+  lines = map (lineOf (entries sheet)) (groupsFound kind (entries sheet) (pairs sheet))
+
+  readable : (x : Line) → x ∈ lines → Readable x
+  unfolding lines groupsFound lineOf up dn
+  readable x m =
+      let n = entries sheet in
+      let s = score (pairs sheet) in
+      let (g, mg, e) = of-map (lineOf n) (groups (kindOf kind) n s) m in
+      let (low, t, is) = in-groups (kindOf kind) n s (g .0) (g .1) .0 mg in
+      let a = accepted l in
+      subst (λ (y : Line). Readable y) (sym e) (record {
+        fits = omega (arith, digits-room n (few-entries kind sheet (a .buffer) (a .passed)));
+        natural = omega (zarith, listed-index (kindOf kind) n s (g .0) t);
+      })
+
+  lines-read : listingRead bytes ≡ some lines
+  unfolding sheetListing pairsListing lines
+  lines-read = ap listingRead (accepted l .are) ∙ listing-read lines readable
+
+  line-size : (x : Line) → x ∈ lines → x .size ≡ size (entries sheet) (x .set)
+  unfolding lines lineOf
+  line-size x m =
+      let n = entries sheet in
+      let (g, _, e) = of-map (lineOf n) (groupsFound kind n (pairs sheet)) m in
+      ap (λ (y : Line). y .size) e ∙ sym (ap (λ (y : Line). size n (y .set)) e)
+
+  lines-groups : map (λ x. (x .set, x .index)) lines ≡ groups (kindOf kind) (entries sheet) (score (pairs sheet))
+  unfolding lines groupsFound lineOf
+  lines-groups =
+      let n = entries sheet in
+      let found = groups (kindOf kind) n (score (pairs sheet)) in
+      map-map {C = ℕ × ℤ} (λ x. (x .set, x .index)) (lineOf n) found ∙ map-id found
+
+-- the slots of a numbers call that is not refused
+module _ {kind : ℤ} {n : ℕ} {l : List ℤ} {lentSets : List ℕ} {lentIndices : List ℤ} {r : Answer} {sets : List ℕ} {indices : List ℤ}
+    (c : NumbersCall kind n l lentSets lentIndices r sets indices) (z : numberOf r ≡ 0) where
+  abbrev found : List (ℕ × ℤ)
+  found = groupsFound kind n l
+
+  count-found : countOf r ≡ length found
+  count-found = counted (numbersRefusal kind n l (length lentSets) (length lentIndices)) (length found) (c .answered) z
+
+  slots-found : groupsOf (countOf r) sets indices ≡ found
+  unfolding setsFound indicesFound filled
+  slots-found =
+      let k = numbersRefusal kind n l (length lentSets) (length lentIndices) in
+      let none = not-refused k (length found) (c .answered) z in
+      let s = c .setsWritten ∙ ap (λ (j : ℕ). filled 0 j (setsFound kind n l) lentSets) none in
+      let i = c .indicesWritten ∙ ap (λ (j : ℕ). filled (pos 0) j (indicesFound kind n l) lentIndices) none in
+      ap₂ (λ (s : List ℕ) (i : List ℤ). groupsOf (countOf r) s i) s i
+      ∙ ap (λ (j : ℕ). groupsOf j (filled 0 0 (setsFound kind n l) lentSets) (filled (pos 0) 0 (indicesFound kind n l) lentIndices)) count-found
+      ∙ groups-slots found
+      (replicate (length lentSets - length (setsFound kind n l)) 0)
+      (replicate (length lentIndices - length (indicesFound kind n l)) (pos 0))
+
+-- what a call wrote is the groups
+wrote : {kind : ℤ} {n : ℕ} {s : Similarity} {found : List (ℕ × ℤ)} → Wrote kind n s found → (found ≡ groups (kindOf kind) n s) × Symmetric s
+unfolding groupsFound
+wrote (in-lines {sheet} {ls = ls} l e) =
+    let same = Option·some-injective ls (lines l) (sym e ∙ lines-read l) in
+    (ap (map {B = ℕ × ℤ} (λ x. (x .set, x .index))) same ∙ lines-groups l, score-symm (pairs sheet))
+wrote (in-slots {l = l} c z) = (slots-found c z, score-symm l)
+
+-- demands 2 and 3 of the groups
+module _ (kind : ℤ) (n : ℕ) (s : Similarity) where
+  abbrev these : List (ℕ × ℤ)
+  these = groups (kindOf kind) n s
+
+  indices-right : Indices kind n s these
+  unfolding index kindOf eqZ
+  indices-right = record {
+    strong-index = λ e A z m. in-groups (kindOf kind) n s A z .0 m .2 ∙ ap (λ (j : ℤ). index (kindOf j) n s A) e;
+    clean-index = λ e A z m. in-groups (kindOf kind) n s A z .0 m .2 ∙ ap (λ (j : ℤ). index (kindOf j) n s A) e;
+    separation-index = λ e A z m. in-groups (kindOf kind) n s A z .0 m .2 ∙ ap (λ (j : ℤ). index (kindOf j) n s A) e;
+  }
+
+  member : (A : ℕ) (z : ℤ) → these lists (A, z) → A ∈ groupSets (kindOf kind) n s
+  member A z m = let (h, t, _) = in-groups (kindOf kind) n s A z .0 m in in-groupSets (kindOf kind) n s A .1 (h, t)
+
+  module _ (symm : Symmetric s) where
+    in-tree : (j : ℤ) → kind ≡ j → (A : ℕ) (z : ℤ) → these lists (A, z)
+        → (ms : List (ℕ × ℕ)) → Tree (treeLinkage (kindOf j)) n (treeScores (kindOf j) s) ms → A ∈ blocks n ms
+    in-tree j e A z m ms t = group-in-tree (kindOf kind) n s symm A (member A z m) ms
+        (subst (λ (i : ℤ). Tree (treeLinkage (kindOf i)) n (treeScores (kindOf i) s) ms) (sym e) t)
+
+    complete : Complete kind n s these
+    unfolding kindOf eqZ treeLinkage treeScores
+    complete = record {
+      exactly = λ A z. (
+        λ m.
+            let (h, t, e) = in-groups (kindOf kind) n s A z .0 m in
+            (record { fits = h; spoken = of-listed (kindOf kind) n s A t .0; positive = listed-index (kindOf kind) n s A t }, e),
+        λ (p, e). in-groups (kindOf kind) n s A z .1 (p .fits, is-listed (kindOf kind) n s A (p .spoken) (p .positive), e),
+      );
+      once = rw (groups-sets (kindOf kind) n s) (rising-distinct n (groupSets (kindOf kind) n s) (groups-rise (kindOf kind) n s));
+      rising = rw (groups-sets (kindOf kind) n s) (groups-rise (kindOf kind) n s);
+      few = groups-bound (kindOf kind) n s symm;
+      strong-in-trees = in-tree (pos 1);
+      clean-in-trees = in-tree (pos 2);
+      splits-in-trees = in-tree (pos 3);
+      nested = λ A B y z a b. groups-nested (kindOf kind) n s symm A B (member A y a) (member B z b);
+    }
+
+-- demand 2
+pub demand-2 : Demand2
+unfolding anchoredScores distancesBack
+demand-2 = record {
+  indices = λ {kind} {n} {s} w. subst (λ (g : List (ℕ × ℤ)). Indices kind n s g) (sym (wrote w .0)) (indices-right kind n s);
+  back = λ {n} {x} {distances} {lent} {after} {r} a z {lent′} {after′} {r′} b room.
+      let k = anchoredRefusal n x distances (length lent) in
+      let first = not-refused k (rowStart n) (a .answered) z in
+      let count = counted k (rowStart n) (a .answered) z in
+      let scores = taken first (anchoredScores n x distances) lent (a .written) (length-anchored n x distances ∙ sym count) in
+      let (passes, same) = way-back n x distances (length lent) (length lent′) first (omega arith) in
+      let S = take (countOf r) after in
+      let k′ = backRefusal n x S (length lent′) in
+      let first′ : k′ ≡ 0 = ap (λ (l : List ℤ). backRefusal n x l (length lent′)) scores ∙ passes in
+      let z′ = ap numberOf (b .answered) ∙ number-answer k′ (rowStart n) ∙ first′ in
+      let count′ = counted k′ (rowStart n) (b .answered) z′ in
+      let long : length (distancesBack n S) ≡ countOf r′ = length-pairList n (unfarris (score S)) ∙ sym count′ in
+      (z′, taken first′ (distancesBack n S) lent′ (b .written) long ∙ ap (distancesBack n) scores ∙ same);
+}
+
+-- demand 3
+pub demand-3 : (kind : ℤ) → Demand3 kind
+demand-3 kind = record {
+  lines = λ l. (lines l, lines-read l, line-size l);
+  slots = λ c z. ap length (slots-found c z) ∙ sym (count-found c z);
+  complete = λ {n} {s} w. let (e, symm) = wrote w in subst (λ (g : List (ℕ × ℤ)). Complete kind n s g) (sym e) (complete kind n s symm);
+  reordered = λ {n} {s} {s′} w w′ p m.
+      let (e, symm) = wrote w in
+      let (e′, symm′) = wrote w′ in
+      subst₂ (λ (g g′ : List (ℕ × ℤ)). SameGroups (kindOf kind) n p g g′) (sym e) (sym e′) (groups-image (kindOf kind) n p s s′ m symm symm′);
+}

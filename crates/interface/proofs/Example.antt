@@ -1,0 +1,142 @@
+-- Document 01's worked example, from the sheet's bytes to the listing's bytes, and one refusal of each number of the C call: by computing.
+use mathlib.Core.Path.{_≡_, refl, ap, ap₂, _∙_}
+use mathlib.Core.List.{List, [], _∷_, _++_, map, append-nil}
+use mathlib.Core.Option.{some}
+use Prim.Native.Nat.{ℕ, _+_, _/_, _%_, _≤_}
+use native.Mathlib.Omega.{arith}
+use lib.IntN.{ℤ, pos}
+use lib.ListN.{length, drop-of-length-le}
+use Rattle.lists.specs.Lists.{_∈_, below, each, keep, all}
+use Rattle.lists.proofs.Lists.{of-map-cong}
+use Rattle.integers.specs.Integers.{minZ, maxZ, eqZ, least}
+use Rattle.sets.specs.Sets.{has, members, others}
+use Rattle.sets.specs.Sets as Sets
+use Rattle.clusters.specs.PairList.{rowStart, place, score, pairList, scoreLimit, inRange, areDistances}
+use Rattle.clusters.specs.Indices.{strongValues, strongIndex}
+use Rattle.clusters.specs.Groups.{kindOf, index, proper, speaksOf, listed, sets, groupSets, groups}
+use Rattle.answers.specs.Answers.{answer, slots}
+use Rattle.answers.proofs.Answers.{slots-written}
+use Rattle.interface.specs.Sheet.{
+  isUpper, isDigit, isName, isNumeral, isValue, digitValue, numberFrom, valueOf, longer, cut, lines, names, entries, words, value,
+  mirrored, pairs, sameBytes, isAmong, hasEqual
+}
+use Rattle.interface.specs.Listing.{
+  Line, lineOf, digit, digits, hexadecimal, decimalFrom, decimal, signedDecimal, firstText, lineText, firstLine, listing, groupsFound,
+  pairsListing, sheetListing, isHexDigit, isSet, isDecimal, isLine, lineRead, isFirst, pieces, lineWords, isListing, listingRead
+}
+use Rattle.interface.specs.Refusals.{
+  firstOf, mostBytes, mostEntries, wrongKind, wrongLength, isAllowed, wrongByte, wrongNames, equalNames, wrongCount, wrongLines, isRow,
+  wrongValues, wrongDistances, sheetCallChecks, sheetRefusal
+}
+use Rattle.interface.specs.Calls.{cNumber, CCall}
+
+-- Program strong, standard input, and whole output
+unfoldable pub sheet : List ℕ
+sheet =
+    65 ∷ 32 ∷ 66 ∷ 32 ∷ 67 ∷ 32 ∷ 68 ∷ 10
+    ∷ 57 ∷ 32 ∷ 56 ∷ 32 ∷ 54 ∷ 32 ∷ 50 ∷ 10
+    ∷ 56 ∷ 32 ∷ 57 ∷ 32 ∷ 53 ∷ 32 ∷ 51 ∷ 10
+    ∷ 54 ∷ 32 ∷ 53 ∷ 32 ∷ 57 ∷ 32 ∷ 49 ∷ 10
+    ∷ 50 ∷ 32 ∷ 51 ∷ 32 ∷ 49 ∷ 32 ∷ 57 ∷ 10
+    ∷ []
+
+unfoldable pub text : List ℕ
+text =
+    115 ∷ 101 ∷ 116 ∷ 32 ∷ 115 ∷ 105 ∷ 122 ∷ 101 ∷ 32 ∷ 105 ∷ 110 ∷ 100 ∷ 101 ∷ 120 ∷ 10
+    ∷ 48 ∷ 48 ∷ 48 ∷ 48 ∷ 48 ∷ 48 ∷ 48 ∷ 49 ∷ 32 ∷ 49 ∷ 32 ∷ 49 ∷ 10
+    ∷ 48 ∷ 48 ∷ 48 ∷ 48 ∷ 48 ∷ 48 ∷ 48 ∷ 50 ∷ 32 ∷ 49 ∷ 32 ∷ 49 ∷ 10
+    ∷ 48 ∷ 48 ∷ 48 ∷ 48 ∷ 48 ∷ 48 ∷ 48 ∷ 52 ∷ 32 ∷ 49 ∷ 32 ∷ 51 ∷ 10
+    ∷ 48 ∷ 48 ∷ 48 ∷ 48 ∷ 48 ∷ 48 ∷ 48 ∷ 56 ∷ 32 ∷ 49 ∷ 32 ∷ 54 ∷ 10
+    ∷ 48 ∷ 48 ∷ 48 ∷ 48 ∷ 48 ∷ 48 ∷ 48 ∷ 51 ∷ 32 ∷ 50 ∷ 32 ∷ 50 ∷ 10
+    ∷ 48 ∷ 48 ∷ 48 ∷ 48 ∷ 48 ∷ 48 ∷ 48 ∷ 55 ∷ 32 ∷ 51 ∷ 32 ∷ 50 ∷ 10
+    ∷ []
+
+-- the first line and six lines, as they are read
+unfoldable pub six : List Line
+six =
+    record { set = 1; size = 1; index = pos 1 }
+    ∷ record { set = 2; size = 1; index = pos 1 }
+    ∷ record { set = 4; size = 1; index = pos 3 }
+    ∷ record { set = 8; size = 1; index = pos 6 }
+    ∷ record { set = 3; size = 2; index = pos 2 }
+    ∷ record { set = 7; size = 3; index = pos 2 }
+    ∷ []
+
+-- 33 names: A, A0 to A9, B0 to B9, C0 to C9, D0, D1
+unfoldable pub many : List ℕ
+many = 65 ∷ (each (below 32) (λ i. 32 ∷ (65 + i / 10) ∷ (48 + i % 10) ∷ []) ++ (10 ∷ []))
+
+-- a call that is refused: the kind, the sheet, the bytes of the buffer, and the number
+pub record Case : Type 0 where
+  pub kind : ℤ
+  pub sheet : List ℕ
+  pub buffer : ℕ
+  pub number : ℕ
+
+unfoldable pub refused : List Case
+refused =
+    -- kind 0
+    record { kind = pos 0; sheet = 65 ∷ 10 ∷ 48 ∷ 10 ∷ []; buffer = 15; number = 1 }
+    -- no byte
+    ∷ record { kind = pos 1; sheet = []; buffer = 15; number = 2 }
+    -- the byte `a`
+    ∷ record { kind = pos 1; sheet = 97 ∷ 10 ∷ []; buffer = 15; number = 3 }
+    -- `A` and no line feed
+    ∷ record { kind = pos 1; sheet = 65 ∷ []; buffer = 15; number = 4 }
+    -- the names `A A`
+    ∷ record { kind = pos 1; sheet = 65 ∷ 32 ∷ 65 ∷ 10 ∷ []; buffer = 15; number = 5 }
+    -- 33 names
+    ∷ record { kind = pos 1; sheet = many; buffer = 15; number = 6 }
+    -- no value line
+    ∷ record { kind = pos 1; sheet = 65 ∷ 10 ∷ []; buffer = 15; number = 7 }
+    -- the value `-0`
+    ∷ record { kind = pos 1; sheet = 65 ∷ 10 ∷ 45 ∷ 48 ∷ 10 ∷ []; buffer = 15; number = 8 }
+    -- mirrored values `1` and `2`
+    ∷ record { kind = pos 1; sheet = 65 ∷ 32 ∷ 66 ∷ 10 ∷ 48 ∷ 32 ∷ 49 ∷ 10 ∷ 50 ∷ 32 ∷ 48 ∷ 10 ∷ []; buffer = 15; number = 9 }
+    -- the value `1000001`
+    ∷ record { kind = pos 1; sheet = 65 ∷ 10 ∷ 49 ∷ 48 ∷ 48 ∷ 48 ∷ 48 ∷ 48 ∷ 49 ∷ 10 ∷ []; buffer = 15; number = 11 }
+    -- kind 3, an own value `1`
+    ∷ record { kind = pos 3; sheet = 65 ∷ 10 ∷ 49 ∷ 10 ∷ []; buffer = 15; number = 12 }
+    -- a buffer of 14 bytes
+    ∷ record { kind = pos 1; sheet = 65 ∷ 10 ∷ 48 ∷ 10 ∷ []; buffer = 14; number = 14 }
+    ∷ []
+
+example-listing : sheetListing (pos 1) sheet ≡ text
+unfolding sheet text isUpper isDigit isName isNumeral isValue digitValue numberFrom valueOf longer cut lines names entries words value mirrored pairs sameBytes isAmong hasEqual kindOf index proper speaksOf listed sets groupSets groups strongValues strongIndex score place rowStart pairList has members others Sets.size minZ maxZ eqZ least below each keep lineOf digit digits hexadecimal decimalFrom decimal signedDecimal firstText lineText firstLine listing groupsFound pairsListing sheetListing
+example-listing = refl
+
+example-passes : sheetRefusal (pos 1) sheet 93 ≡ 0
+unfolding sheet text isUpper isDigit isName isNumeral isValue digitValue numberFrom valueOf longer cut lines names entries words value mirrored pairs sameBytes isAmong hasEqual kindOf index proper speaksOf listed sets groupSets groups strongValues strongIndex score place rowStart pairList has members others Sets.size minZ maxZ eqZ least below each keep lineOf digit digits hexadecimal decimalFrom decimal signedDecimal firstText lineText firstLine listing groupsFound pairsListing sheetListing all inRange scoreLimit areDistances firstOf mostBytes mostEntries wrongKind wrongLength isAllowed wrongByte wrongNames equalNames wrongCount wrongLines isRow wrongValues wrongDistances sheetCallChecks sheetRefusal refused many
+example-passes = refl
+
+size : length text ≡ 93
+unfolding text
+size = refl
+
+-- the C call on the example's sheet, with a buffer of as many bytes as the listing has
+pub example : (lent after : List ℕ) (r : ℤ) → length lent ≡ 93 → CCall (pos 1) sheet lent r after → (r ≡ pos 93) × (after ≡ text)
+unfolding cNumber answer
+example lent after r long c =
+    let passes : sheetRefusal (pos 1) sheet (length lent) ≡ 0 = ap (sheetRefusal (pos 1) sheet) long ∙ example-passes in
+    let all : length lent ≤ length text = omega (arith, size) in (
+      c .answered ∙ ap₂ (λ (k : ℕ) (t : List ℕ). cNumber (answer k (length t))) passes example-listing ∙ ap pos size,
+      c .written ∙ ap₂ (λ (k : ℕ) (t : List ℕ). slots k t lent) passes example-listing ∙ slots-written text lent
+      ∙ ap (λ (l : List ℕ). text ++ l) (drop-of-length-le lent all) ∙ append-nil text,
+    )
+
+-- and read back, without the writer
+pub example-read : listingRead text ≡ some six
+unfolding text six all isDigit longer cut sameBytes digitValue numberFrom isHexDigit isSet isDecimal isLine lineRead isFirst pieces lineWords isListing listingRead
+example-read = refl
+
+numbers : map (λ c. sheetRefusal (c .kind) (c .sheet) (c .buffer)) refused ≡ map (λ c. c .number) refused
+unfolding sheet text isUpper isDigit isName isNumeral isValue digitValue numberFrom valueOf longer cut lines names entries words value mirrored pairs sameBytes isAmong hasEqual kindOf index proper speaksOf listed sets groupSets groups strongValues strongIndex score place rowStart pairList has members others Sets.size minZ maxZ eqZ least below each keep lineOf digit digits hexadecimal decimalFrom decimal signedDecimal firstText lineText firstLine listing groupsFound pairsListing sheetListing all inRange scoreLimit areDistances firstOf mostBytes mostEntries wrongKind wrongLength isAllowed wrongByte wrongNames equalNames wrongCount wrongLines isRow wrongValues wrongDistances sheetCallChecks sheetRefusal refused many
+numbers = refl
+
+-- each is refused with its number, and every number of the C call is there
+pub refused-with : (c : Case) → c ∈ refused → sheetRefusal (c .kind) (c .sheet) (c .buffer) ≡ c .number
+refused-with c m = of-map-cong (λ c. sheetRefusal (c .kind) (c .sheet) (c .buffer)) (λ c. c .number) refused numbers m
+
+pub every-number : map (λ c. c .number) refused ≡ 1 ∷ 2 ∷ 3 ∷ 4 ∷ 5 ∷ 6 ∷ 7 ∷ 8 ∷ 9 ∷ 11 ∷ 12 ∷ 14 ∷ []
+unfolding refused
+every-number = refl
