@@ -1,0 +1,234 @@
+-- The written form is canonical: what is read back from bytes of this form determines them.
+use mathlib.Core.Path.{_≡_, refl, sym, ap, ap₂, _∙_, subst}
+use mathlib.Core.Bool.{Bool, true, false, not, cond, _&&_, _||_}
+use mathlib.Core.List.{List, [], _∷_, _++_, map, append-assoc, append-nil, head-eq-of-cons-eq, tail-eq-of-cons-eq}
+use mathlib.Core.Logic.{_⊎_, inl, inr, _≢_}
+use mathlib.Core.Option.{some, none, Option·some-injective, Option·none-ne-some}
+use Prim.Native.Nat.{ℕ, suc, _+_, _-_, _*_, _/_, _%_, _<_, _≤_}
+use native.Mathlib.Nat.{mul-add-div-right, mul-add-mod-self-right, mod-eq-of-lt, div-eq-of-lt}
+use native.Mathlib.Omega.{arith}
+use lib.Dec.{T, eqb, leb, leb→le, eqb→eq}
+use lib.IntN.{natAbs}
+use lib.ListN.{length, getD, take, drop}
+use lib.Seq.{take-suc, take-length}
+use Rattle.lists.specs.Lists.{all}
+use Rattle.lists.proofs.Tests.{and-T, T-true, T-false, T-or-not, eqb-no}
+use Rattle.interface.specs.Sheet.{isDigit, digitValue, numberFrom, cut, sameBytes}
+use Rattle.interface.specs.Listing.{
+  Line, digit, digits, hexadecimal, decimal, isHexDigit, isSet, isDecimal, isLine, lineRead, isFirst, pieces, lineWords, isListing,
+  listingRead
+}
+use Rattle.interface.proofs.Digits.{decimal-one, decimal-more}
+use Rattle.interface.proofs.Numerals.{low-digit, high-digit}
+use Rattle.interface.proofs.Pieces.{cut-once, same-bytes}
+
+-- the digit of a digit's value
+value-low : (b : ℕ) → T (isDigit b) → digitValue b ≡ b - 48
+unfolding digitValue
+value-low b t = rw (T-true {b = isDigit b} t)
+
+value-high : (b : ℕ) → T (not (isDigit b)) → digitValue b ≡ b - 87
+unfolding digitValue
+value-high b t = rw (T-false {b = isDigit b} t)
+
+digit-back : (b : ℕ) → T (isDigit b) → (digitValue b < 10) × (digit (digitValue b) ≡ b)
+unfolding isDigit
+digit-back b t =
+    let (low, high) = and-T (leb 48 b) (leb b 57) t in
+    let e = value-low b t in
+    let h : digitValue b < 10 = omega (arith, leb→le 48 b low, leb→le b 57 high) in
+    (h, low-digit (digitValue b) h ∙ omega (arith, leb→le 48 b low))
+
+hex-back : (b : ℕ) → T (isHexDigit b) → (digitValue b < 16) × (digit (digitValue b) ≡ b)
+unfolding isHexDigit
+hex-back b t = go (T-or-not (isDigit b))
+  where
+    go : T (isDigit b) ⊎ T (not (isDigit b)) → (digitValue b < 16) × (digit (digitValue b) ≡ b)
+    go (inl d) = let (h, e) = digit-back b d in (omega arith, e)
+    go (inr d) =
+        let (low, high) = and-T (leb 97 b) (leb b 102) (subst (λ (x : Bool). T (x || leb 97 b && leb b 102)) (T-false {b = isDigit b} d) t) in
+        let e = value-high b d in
+        let h : 10 ≤ digitValue b = omega (arith, leb→le 97 b low) in
+        (omega (arith, leb→le b 102 high), high-digit (digitValue b) h ∙ omega (arith, leb→le 97 b low))
+
+-- a digit more in front of what follows: the quotient and the remainder
+front : (base k v : ℕ) → v < base → ((k * base + v) / base ≡ k) × ((k * base + v) % base ≡ v)
+front base k v h =
+    let more : 0 < base = omega arith in
+    (mul-add-div-right more k v ∙ omega (arith, div-eq-of-lt h), mul-add-mod-self-right k base v ∙ mod-eq-of-lt h)
+
+-- digits that were read on are the last ones of the number
+digits-back : (w : List ℕ) (j k : ℕ) → T (all isHexDigit w) → digits 16 (j + length w) (numberFrom 16 k w) ≡ digits 16 j k ++ w
+unfolding digits numberFrom all
+digits-back [] j k t = let e : j + 0 ≡ j = omega arith in rw e (sym (append-nil (digits 16 j k)))
+digits-back (b ∷ w) j k t =
+    let (tb, tw) = and-T (isHexDigit b) (all isHexDigit w) t in
+    let (h, e) = hex-back b tb in
+    let (q, r) = front 16 k (digitValue b) h in
+    let s : j + suc (length w) ≡ suc j + length w = omega arith in
+    rw s (digits-back w (suc j) (k * 16 + digitValue b) tw ∙ rw (q, r, e) (append-assoc (digits 16 j k) (b ∷ []) w))
+
+pub set-back : (w : List ℕ) → T (isSet w) → hexadecimal (numberFrom 16 0 w) ≡ w
+unfolding isSet hexadecimal digits
+set-back w t =
+    let (eight, run) = and-T (eqb (length w) 8) (all isHexDigit w) t in
+    let e : 0 + length w ≡ 8 = omega (arith, eqb→eq (length w) 8 eight) in
+    ap (λ (k : ℕ). digits 16 k (numberFrom 16 0 w)) (sym e) ∙ digits-back w 0 0 run
+
+-- a numeral that was read on from a number of some digits
+decimal-on : (w : List ℕ) (k : ℕ) → 0 < k → T (all isDigit w) → decimal (numberFrom 10 k w) ≡ decimal k ++ w
+unfolding numberFrom all
+decimal-on [] k more t = sym (append-nil (decimal k))
+decimal-on (b ∷ w) k more t =
+    let (tb, tw) = and-T (isDigit b) (all isDigit w) t in
+    let (h, e) = digit-back b tb in
+    let (q, r) = front 10 k (digitValue b) h in
+    let next = k * 10 + digitValue b in
+    decimal-on w next (omega arith) tw
+    ∙ ap (λ (l : List ℕ). l ++ w) (decimal-more next (omega arith) ∙ ap₂ (λ (i d : ℕ). decimal i ++ (d ∷ [])) q (ap digit r ∙ e))
+    ∙ append-assoc (decimal k) (b ∷ []) w
+
+decimal-parts : (b : ℕ) (w : List ℕ) → T (isDecimal (b ∷ w)) → T (isDigit b) × T (all isDigit w) × T (not (eqb b 48) || eqb (length w) 0)
+unfolding isDecimal all
+decimal-parts b w t =
+    let (run, lead) = and-T (isDigit b && all isDigit w) (not (eqb b 48) || eqb (length w) 0) t in
+    let (tb, tw) = and-T (isDigit b) (all isDigit w) run in
+    (tb, tw, lead)
+
+leading : (b n : ℕ) → T (isDigit b) → T (not (eqb b 48) || eqb (suc n) 0) → 0 < digitValue b
+unfolding isDigit
+leading b n t lead = go (T-or-not (eqb b 48))
+  where
+    go : T (eqb b 48) ⊎ T (not (eqb b 48)) → 0 < digitValue b
+    go (inl e) = absurd (omega (arith, eqb→eq (suc n) 0 (subst (λ (x : Bool). T (not x || eqb (suc n) 0)) (T-true {b = eqb b 48} e) lead)))
+    go (inr e) = let d : b ≢ 48 = eqb-no b 48 e in omega (arith, value-low b t, leb→le 48 b (and-T (leb 48 b) (leb b 57) t .0))
+
+pub decimal-back : (w : List ℕ) → T (isDecimal w) → decimal (numberFrom 10 0 w) ≡ w
+unfolding isDecimal numberFrom
+decimal-back [] t = absurd t
+decimal-back (b ∷ []) t =
+    let (tb, _, _) = decimal-parts b [] t in
+    let (h, e) = digit-back b tb in
+    let z : 0 * 10 + digitValue b ≡ digitValue b = omega arith in
+    ap decimal z ∙ decimal-one (digitValue b) h ∙ ap (λ (d : ℕ). d ∷ []) e
+decimal-back (b ∷ c ∷ w) t =
+    let (tb, tw, lead) = decimal-parts b (c ∷ w) t in
+    let (h, e) = digit-back b tb in
+    let z : 0 * 10 + digitValue b ≡ digitValue b = omega arith in
+    let more : 0 < digitValue b = leading b (length w) tb lead in
+    ap (λ (k : ℕ). decimal (numberFrom 10 k (c ∷ w))) z
+    ∙ decimal-on (c ∷ w) (digitValue b) more tw
+    ∙ ap (λ (l : List ℕ). l ++ (c ∷ w)) (decimal-one (digitValue b) h ∙ ap (λ (d : ℕ). d ∷ []) e)
+
+-- the words of a line are told by what it says
+wordsOf : Line → List (List ℕ)
+wordsOf l = hexadecimal (l .set) ∷ decimal (l .size) ∷ decimal (natAbs (l .index)) ∷ []
+
+three-words : (ws : List (List ℕ)) → length ws ≡ 3 → ws ≡ getD ws 0 [] ∷ getD ws 1 [] ∷ getD ws 2 [] ∷ []
+three-words [] e = absurd (omega arith)
+three-words (u ∷ []) e = absurd (omega arith)
+three-words (u ∷ v ∷ []) e = absurd (omega arith)
+three-words (u ∷ v ∷ w ∷ []) e = refl
+three-words (u ∷ v ∷ w ∷ x ∷ l) e = absurd (omega arith)
+
+line-back : (ws : List (List ℕ)) → T (isLine ws) → ws ≡ wordsOf (lineRead ws)
+unfolding isLine lineRead wordsOf
+line-back ws t =
+    let u = getD ws 0 [] in
+    let v = getD ws 1 [] in
+    let w = getD ws 2 [] in
+    let (t₂, index) = and-T (eqb (length ws) 3 && isSet u && isDecimal v) (isDecimal w) t in
+    let (t₁, size) = and-T (eqb (length ws) 3 && isSet u) (isDecimal v) t₂ in
+    let (three, set) = and-T (eqb (length ws) 3) (isSet u) t₁ in
+    three-words ws (eqb→eq (length ws) 3 three) ∙ sym (rw (set-back u set, decimal-back v size, decimal-back w index))
+
+-- two lines of the form that say the same are the same bytes
+pub line-once : (u w : List ℕ) → T (isLine (cut 32 u)) → T (isLine (cut 32 w)) → lineRead (cut 32 u) ≡ lineRead (cut 32 w) → u ≡ w
+line-once u w tu tw e = cut-once 32 u w (line-back (cut 32 u) tu ∙ ap wordsOf e ∙ sym (line-back (cut 32 w) tw))
+
+-- a list of lines, each cut into its words
+abbrev cutAll : List (List ℕ) → List (List (List ℕ))
+cutAll l = map (cut 32) l
+
+lines-once : (l m : List (List ℕ)) → T (all isLine (cutAll l)) → T (all isLine (cutAll m)) → map lineRead (cutAll l) ≡ map lineRead (cutAll m) → l ≡ m
+unfolding all
+lines-once [] [] tl tm e = refl
+lines-once [] (w ∷ m) tl tm e = absurd (omega (arith, ap length e))
+lines-once (u ∷ l) [] tl tm e = absurd (omega (arith, ap length e))
+lines-once (u ∷ l) (w ∷ m) tl tm e =
+    let (hu, rl) = and-T (isLine (cut 32 u)) (all isLine (cutAll l)) tl in
+    let (hw, rm) = and-T (isLine (cut 32 w)) (all isLine (cutAll m)) tm in
+    ap₂ _∷_ (line-once u w hu hw (head-eq-of-cons-eq e)) (lines-once l m rl rm (tail-eq-of-cons-eq e))
+
+-- the first line is told by its words
+first-once : (u w : List ℕ) → T (isFirst (cut 32 u)) → T (isFirst (cut 32 w)) → u ≡ w
+unfolding isFirst
+first-once u w tu tw = cut-once 32 u w (first-words (cut 32 u) tu ∙ sym (first-words (cut 32 w) tw))
+  where
+    words : List (List ℕ)
+    words = (115 ∷ 101 ∷ 116 ∷ []) ∷ (115 ∷ 105 ∷ 122 ∷ 101 ∷ []) ∷ (105 ∷ 110 ∷ 100 ∷ 101 ∷ 120 ∷ []) ∷ []
+
+    first-words : (ws : List (List ℕ)) → T (isFirst ws) → ws ≡ words
+    first-words ws t =
+        let u = getD ws 0 [] in
+        let v = getD ws 1 [] in
+        let w = getD ws 2 [] in
+        let a = sameBytes u (115 ∷ 101 ∷ 116 ∷ []) in
+        let b = sameBytes v (115 ∷ 105 ∷ 122 ∷ 101 ∷ []) in
+        let c = sameBytes w (105 ∷ 110 ∷ 100 ∷ 101 ∷ 120 ∷ []) in
+        let (t₂, index) = and-T (eqb (length ws) 3 && a && b) c t in
+        let (t₁, size) = and-T (eqb (length ws) 3 && a) b t₂ in
+        let (three, set) = and-T (eqb (length ws) 3) a t₁ in
+        three-words ws (eqb→eq (length ws) 3 three) ∙ rw (same-bytes u _ set, same-bytes v _ size, same-bytes w _ index)
+
+-- the first piece, those between, and the last
+front-last : {A : Type 0} (q : List A) (d : A) → 0 < length q → q ≡ take (length q - 1) q ++ (getD q (length q - 1) d ∷ [])
+front-last q d h =
+    let e : suc (length q - 1) ≡ length q = omega arith in
+    sym (take-length q) ∙ ap (λ (k : ℕ). take k q) (sym e) ∙ take-suc q (length q - 1) d (omega arith)
+
+piece-parts : (p : List (List ℕ)) → 2 ≤ length p → p ≡ getD p 0 [] ∷ (take (length p - 2) (drop 1 p) ++ (getD p (length p - 1) [] ∷ []))
+piece-parts [] h = absurd (omega arith)
+piece-parts (x ∷ q) h =
+    let e : suc (length q) - 2 ≡ length q - 1 = omega arith in
+    let f : suc (length q) - 1 ≡ suc (length q - 1) = omega arith in
+    ap (λ (r : List (List ℕ)). x ∷ r) (front-last q [] (omega arith) ∙ ap₂ (λ (i j : ℕ). take i q ++ (getD (x ∷ q) j [] ∷ [])) (sym e) (sym f))
+
+between : List ℕ → List (List ℕ)
+between s = take (length (pieces s) - 2) (drop 1 (pieces s))
+
+listing-pieces : (s : List ℕ) → T (isListing s)
+    → (pieces s ≡ getD (pieces s) 0 [] ∷ (between s ++ ([] ∷ []))) × T (isFirst (cut 32 (getD (pieces s) 0 []))) × T (all isLine (cutAll (between s)))
+unfolding isListing lineWords between
+listing-pieces s t =
+    let p = pieces s in
+    let first = isFirst (cut 32 (getD p 0 [])) in
+    let (t₃, last) = and-T (leb 2 (length p) && first && all isLine (lineWords s)) (eqb (length (getD p (length p - 1) [])) 0) t in
+    let (t₂, lines) = and-T (leb 2 (length p) && first) (all isLine (lineWords s)) t₃ in
+    let (two, one) = and-T (leb 2 (length p)) first t₂ in
+    let empty = none (getD p (length p - 1) []) (eqb→eq (length (getD p (length p - 1) [])) 0 last) in
+    (piece-parts p (leb→le 2 (length p) two) ∙ ap (λ (z : List ℕ). getD p 0 [] ∷ (between s ++ (z ∷ []))) empty, one, lines)
+  where
+    none : (w : List ℕ) → length w ≡ 0 → w ≡ []
+    none [] e = refl
+    none (b ∷ w) e = absurd (omega arith)
+
+-- two texts of which the same lines are read are the same bytes
+is-read : (s : List ℕ) {ls : List Line} → listingRead s ≡ some ls → T (isListing s) × (map lineRead (lineWords s) ≡ ls)
+unfolding listingRead
+is-read s {ls} e = go (isListing s) e
+  where
+    go : (b : Bool) → cond b (some (map lineRead (lineWords s))) none ≡ some ls → T b × (map lineRead (lineWords s) ≡ ls)
+    go true e = (tt, Option·some-injective (map lineRead (lineWords s)) ls e)
+    go false e = absurd (Option·none-ne-some ls e)
+
+pub listing-once : (s t : List ℕ) {ls : List Line} → listingRead s ≡ some ls → listingRead t ≡ some ls → s ≡ t
+unfolding lineWords between pieces
+listing-once s t rs rt =
+    let (hs, es) = is-read s rs in
+    let (ht, et) = is-read t rt in
+    let (ps, fs, ls) = listing-pieces s hs in
+    let (pt, ft, lt) = listing-pieces t ht in
+    let first = first-once (getD (pieces s) 0 []) (getD (pieces t) 0 []) fs ft in
+    let same = lines-once (between s) (between t) ls lt (es ∙ sym et) in
+    cut-once 10 s t (ps ∙ ap₂ (λ (x : List ℕ) (l : List (List ℕ)). x ∷ (l ++ ([] ∷ []))) first same ∙ sym pt)
