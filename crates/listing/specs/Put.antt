@@ -1,4 +1,4 @@
--- A text that is put into a buffer: "Every public call states its full outcome: .. each byte or slot lent" (Agreed with the developers).
+-- A text that is put into a buffer: the writer's own vocabulary, which nobody need believe.
 use mathlib.Core.Path.{_≡_}
 use mathlib.Core.List.{List}
 use Prim.Native.Nat.{ℕ, _+_}

@@ -1,19 +1,13 @@
--- The groups in two lent slices: "The numbers call puts sets and indices in two lent slices" (What is written).
-use mathlib.Core.List.{List, [], _∷_}
-use Prim.Native.Nat.{ℕ, zero, suc, _≤_}
+-- What the writer asks of the two slices that it is lent: its own vocabulary, which nobody need believe.
+use Prim.Native.Nat.{ℕ, _≤_}
+use mathlib.Core.List.{List}
 use lib.IntN.{ℤ, pos}
 use lib.ListN.{length}
 use lib.Signed.{_≤ℤ_}
 use Rattle.lists.specs.Lists.{_∈_}
+use Rattle.interface.specs.Calls.{groupsOf}
 
--- the first count sets, each with its index
-unfoldable pub groupsOf : ℕ → List ℕ → List ℤ → List (ℕ × ℤ)
-groupsOf zero sets indices = []
-groupsOf (suc count) [] indices = []
-groupsOf (suc count) (A ∷ sets) [] = []
-groupsOf (suc count) (A ∷ sets) (z ∷ indices) = (A, z) ∷ groupsOf count sets indices
-
--- what the writer is lent: two slices that hold count groups, and no negative index ("A group or split is listed if its index is 1 or more")
+-- they hold count groups, and no negative index ("A group or split is listed if its index is 1 or more")
 pub record Slots (count : ℕ) (sets : List ℕ) (indices : List ℤ) : Type 0 where
   pub sets-hold : count ≤ length sets
   pub indices-hold : count ≤ length indices

@@ -1,13 +1,14 @@
 // The listing writer.
 ghost use mathlib.Core.Path.{_≡_};
-ghost use mathlib.Core.List.{_++_, _∷_, []};
+ghost use mathlib.Core.List.{_++_, _∷_, [], map};
 ghost use Prim.Native.Nat.{_+_, _*_, _≤_, _<_};
 ghost use lib.IntN.{pos};
 ghost use lib.ListN.{length, drop, getD};
 ghost use lib.Seq.{sets};
 ghost use lib.Signed.{_≤ℤ_};
 ghost use Rattle.lists.specs.Lists.{each};
-ghost use Rattle.interface.specs.Listing.{digit, digits, hexadecimal, decimal, line, listing};
+ghost use Rattle.interface.specs.Listing.{lineOf, digit, digits, hexadecimal, decimal, listing};
+ghost use Rattle.listing.specs.Lines.{line};
 ghost use Rattle.listing.specs.Put.{Put};
 ghost use Rattle.interface.specs.Calls.{groupsOf};
 ghost use Rattle.listing.specs.Slots.{Slots};
@@ -88,7 +89,9 @@ fn index_at(indices: &[i64], i: usize) -> usize
 fn put_lines(out: &mut [u8], at: usize, sets: &[u32], indices: &[i64], count: usize) -> usize
     requires { ⌜ Slots count (now sets) (now indices) ⌝ }
     requires { ⌜ at + 33 * count ≤ length (now out) ⌝ }
-    ensures { λ r. ⌜ (r ≤ at + 33 * count) × Put (now (out .entry)) at (each (groupsOf count (now (sets .entry)) (now (indices .entry))) (line 32)) (now (out .exit)) r ⌝ }
+    ensures { λ r. ⌜ r ≤ at + 33 * count ⌝ }
+    ensures { λ r. ⌜ Put (now (out .entry)) at
+        (each (groupsOf count (now (sets .entry)) (now (indices .entry))) (line 32)) (now (out .exit)) r ⌝ }
 {
     let mut end = at;
     let mut i: usize = 0;
@@ -103,8 +106,9 @@ fn put_lines(out: &mut [u8], at: usize, sets: &[u32], indices: &[i64], count: us
 pub fn write(out: &mut [u8], sets: &[u32], indices: &[i64], count: usize) -> usize
     requires { ⌜ Slots count (now sets) (now indices) ⌝ }
     requires { ⌜ 15 + 33 * count ≤ length (now out) ⌝ }
-    ensures { λ r. ⌜ r ≡ length (listing 32 (groupsOf count (now (sets .entry)) (now (indices .entry)))) ⌝ }
-    ensures { λ r. ⌜ now (out .exit) ≡ listing 32 (groupsOf count (now (sets .entry)) (now (indices .entry))) ++ drop r (now (out .entry)) ⌝ }
+    ensures { λ r. ⌜ r ≡ length (listing (map (lineOf 32) (groupsOf count (now (sets .entry)) (now (indices .entry))))) ⌝ }
+    ensures { λ r. ⌜ now (out .exit) ≡
+        listing (map (lineOf 32) (groupsOf count (now (sets .entry)) (now (indices .entry)))) ++ drop r (now (out .entry)) ⌝ }
 {
     let at = bytes::copy(b"set size index\n", out);
     put_lines(out, at, sets, indices, count)

@@ -176,6 +176,11 @@ unfolding each
 each-append [] m f = refl
 each-append (x ∷ l) m f = ap (λ r. f x ++ r) (each-append l m f) ∙ sym (append-assoc (f x) (each l f) (each m f))
 
+pub each-map {ℓ κ ι} : {A : Type ℓ} {B : Type κ} {C : Type ι} (l : List A) (f : A → B) (g : B → List C) → each (map f l) g ≡ each l (λ x. g (f x))
+unfolding each
+each-map [] f g = refl
+each-map (x ∷ l) f g = ap (λ (t : List _). g (f x) ++ t) (each-map l f g)
+
 pub each-below {ℓ} : {B : Type ℓ} (n : ℕ) (f : ℕ → List B) → each (below (suc n)) f ≡ each (below n) f ++ f n
 unfolding below each
 each-below n f = each-append (below n) (n ∷ []) f ∙ ap (λ r. each (below n) f ++ r) (append-nil (f n))

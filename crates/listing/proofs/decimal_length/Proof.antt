@@ -4,7 +4,7 @@ use native.Mathlib.Omega.{arith}
 use borrow.Author.Needs.{needs}
 use lib.ListN.{length}
 use Rattle.interface.specs.Listing.{decimal}
-use Rattle.listing.proofs.Numbers.{length-one, length-more}
+use Rattle.interface.proofs.Digits.{length-one, length-more}
 use Rattle.listing.proofs.decimal_length.Statement.{statement}
 use Rattle.listing.proofs.decimal_length.Tie as tie
 

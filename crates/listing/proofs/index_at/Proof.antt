@@ -4,7 +4,7 @@ use mir.Syntax.{w64}
 use mir.Val.{SFits}
 use lib.IntN.{pos}
 use lib.ListN.{getD}
-use Rattle.listing.proofs.Numbers.{natural}
+use Rattle.interface.proofs.Digits.{natural}
 use Rattle.listing.proofs.index_at.Statement.{statement}
 use Rattle.listing.proofs.index_at.Tie as tie
 

@@ -6,7 +6,8 @@ use lib.ListN.{length}
 use Rattle.sets.proofs.Sets.{size-le}
 use Rattle.interface.specs.Listing.{decimal}
 use Rattle.listing.proofs.Lines.{line-fields}
-use Rattle.listing.proofs.Numbers.{length-decimal, length-space}
+use Rattle.interface.proofs.Digits.{length-decimal}
+use Rattle.listing.proofs.Numbers.{length-space}
 use Rattle.listing.proofs.Puts.{then}
 use Rattle.listing.proofs.put_line.Statement.{statement}
 use Rattle.listing.proofs.put_line.Tie as tie

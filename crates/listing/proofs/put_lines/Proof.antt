@@ -4,7 +4,7 @@ use native.Mathlib.Omega.{arith}
 use borrow.Author.Needs.{needs}
 use lib.ListN.{length, getD}
 use Rattle.lists.specs.Lists.{each}
-use Rattle.interface.specs.Listing.{line}
+use Rattle.listing.specs.Lines.{line}
 use Rattle.listing.specs.Put.{Put}
 use Rattle.interface.specs.Calls.{groupsOf}
 use Rattle.listing.proofs.Lines.{line-bound, no-lines, index-natural, lines-next}

@@ -1,7 +1,8 @@
 use Prim.Native.Nat.{_≤_}
 use native.Mathlib.Omega.{arith}
 use borrow.Author.Needs.{needs}
-use Rattle.listing.proofs.Numbers.{decimal-digits, digits-put, length-decimal}
+use Rattle.interface.proofs.Digits.{decimal-digits, length-decimal}
+use Rattle.listing.proofs.Numbers.{digits-put}
 use Rattle.listing.proofs.Puts.{then-byte}
 use Rattle.listing.proofs.put_number.Statement.{statement}
 use Rattle.listing.proofs.put_number.Tie as tie

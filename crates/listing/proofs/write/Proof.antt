@@ -1,7 +1,9 @@
 use native.Mathlib.Omega.{arith}
 use borrow.Author.Needs.{needs}
-use Rattle.interface.specs.Listing.{firstText, firstLine, listing}
+use Rattle.interface.specs.Listing.{firstText, firstLine}
+use Rattle.interface.specs.Calls.{groupsOf}
 use Rattle.listing.proofs.Puts.{then, put-start, start-put}
+use Rattle.listing.proofs.Lines.{listing-put}
 use Rattle.listing.proofs.write.Statement.{statement}
 use Rattle.listing.proofs.write.Tie as tie
 
@@ -18,14 +20,15 @@ same-length : tie.Need-same-length
 same-length c = search needs
 
 returns : tie.Need-returns
-unfolding firstText firstLine listing
+unfolding firstText firstLine
 returns c =
     let lines = c .before .before in
     let first = lines .before .before .before .before in
     let s = first .before .before .before .before .before in
     let r = lines .put-lines .ensures in
     let text = then (put-start {l = s .args .out .now} {xs = firstLine} (first .copy .ensures .0) (omega arith) (first .copy .ensures .1)) (r .1) in
-    start-put text (omega (arith, r .0, text .place))
+    let groups = groupsOf (s .args .count) (s .args .sets .now) (s .args .indices .now) in
+    listing-put 32 groups (s .args .out .now) (start-put text (omega (arith, r .0, text .place)))
 
 pub write-spec : {M : Type 1} → statement M
 write-spec =
