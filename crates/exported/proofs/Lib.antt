@@ -1,3 +1,2 @@
 pub mod Small
 pub mod Copied
-pub mod Reading

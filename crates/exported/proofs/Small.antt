@@ -9,7 +9,21 @@ use lib.IntN.{ℤ}
 use lib.ListN.{length}
 use Rattle.lists.specs.Lists.{all}
 use Rattle.clusters.specs.PairList.{rowStart}
-use Rattle.interface.specs.Refusals.{firstOf, wrongKind, wrongCount, linkageChecks, linkageRefusal, anchoredChecks, anchoredRefusal, backChecks, backRefusal, numbersChecks, numbersRefusal, readerChecks}
+use Rattle.interface.specs.Refusals.{
+  firstOf,
+  wrongKind,
+  wrongCount,
+  numbersChecks,
+  numbersRefusal,
+  linkageChecks,
+  linkageRefusal,
+  anchoredChecks,
+  anchoredRefusal,
+  backChecks,
+  backRefusal,
+  readerChecks,
+  readerRefusal
+}
 use Rattle.clusters.specs.Groups.{kindOf}
 use Rattle.clusters.proofs.PairList.{rowStart-le}
 use Rattle.interface.proofs.Refusals.{no-first, first-le, right-count}
@@ -26,7 +40,8 @@ use Rattle.farzhudyl.proofs.Room.{groups-few}
 abbrev pub Small : Answer → Type 0
 Small a = (numberOf a < 2 ^ 63) × (countOf a < 2 ^ 63)
 
-small : (checks : List (ℕ × Bool)) {a : Answer} {c : ℕ} → T (all (λ k. leb (k .0) 15) checks) → a ≡ answer (firstOf checks) c → (firstOf checks ≡ 0 → c ≤ 528) → Small a
+small : (checks : List (ℕ × Bool)) {a : Answer} {c : ℕ} → T (all (λ k. leb (k .0) 15) checks)
+    → a ≡ answer (firstOf checks) c → (firstOf checks ≡ 0 → c ≤ 528) → Small a
 small checks {a} {c} t e h =
     (omega (arith, ap numberOf e, number-answer (firstOf checks) c, first-le 15 checks t), omega (arith, ap countOf e, count-most (firstOf checks) h))
 
@@ -47,11 +62,12 @@ module _ {a : Answer} (n : ℕ) (l : List ℤ) where
   unfolding backRefusal backChecks all
   back-small x room e = small (backChecks n x l room) tt e (λ z. rowStart-le n (few n _ z))
 
-  pub numbers-small : (kind : ℤ) (sets indices : ℕ) → a ≡ answer (numbersRefusal kind n l sets indices) (length (groupsFound kind n l)) → Small a
+  pub numbers-small : (kind : ℤ) (sets indices : ℕ)
+      → a ≡ answer (numbersRefusal kind n l sets indices) (length (groupsFound kind n l)) → Small a
   unfolding numbersRefusal numbersChecks groupsFound all
   numbers-small kind sets indices e = small (numbersChecks kind n l sets indices) tt e
       (λ z. let h = groups-few (kindOf kind) n l (few n _ (no-first 1 (wrongKind kind) _ (lit< tt) z .1)) in omega arith)
 
-pub read-small : {a : Answer} (s : List ℕ) → a ≡ answer (firstOf (readerChecks s)) (entries s) → Small a
-unfolding readerChecks all
+pub read-small : {a : Answer} (s : List ℕ) → a ≡ answer (readerRefusal s) (entries s) → Small a
+unfolding readerRefusal readerChecks all
 read-small s e = small (readerChecks s) tt e (λ z. let h = passes-few s z in omega arith)

@@ -1,17 +1,10 @@
 // Exported test entry points of the calls that have no C face: a count is answered as it is, a refusal as minus its number.
 ghost use mathlib.Core.Path.{_≡_};
 ghost use lib.ListN.{length};
-ghost use Rattle.clusters.specs.PairList.{rowStart};
 ghost use Rattle.clusters.specs.Linkage.{single, average};
-ghost use Rattle.clusters.specs.Farris.{anchoredScores, distancesBack};
-ghost use Rattle.interface.specs.Refusals.{firstOf, anchoredRefusal, backRefusal, readerChecks};
-ghost use Rattle.answers.specs.Answers.{answer, slots};
-ghost use Rattle.interface.specs.Calls.{scoreAmong, LinkageCall, NumbersCall, nameOf, cNumber};
-ghost use Rattle.interface.specs.Sheet.{entries};
-ghost use Rattle.reader.specs.Answer as read;
+ghost use Rattle.interface.specs.Refusals.{readerRefusal};
+ghost use Rattle.interface.specs.Calls.{NumbersCall, LinkageCall, AnchoredCall, BackCall, ReaderCall, nameOf, scoreAmong};
 ghost use Rattle.exported.specs.Calls.{NumberOf, copied};
-use answers::Answer;
-use reader::Reading;
 
 #[no_mangle]
 pub extern "C" fn exported_numbers(
@@ -21,7 +14,8 @@ pub extern "C" fn exported_numbers(
     sets: &mut [u32],
     indices: &mut [i64],
 ) -> i64
-    ensures { λ r. ⌜ NumberOf (λ a. NumbersCall kind n (now (pairs .entry)) (now (sets .entry)) (now (indices .entry)) a (now (sets .exit)) (now (indices .exit))) r ⌝ }
+    ensures { λ r. ⌜ NumberOf (λ a. NumbersCall kind n (now (pairs .entry))
+        (now (sets .entry)) (now (indices .entry)) a (now (sets .exit)) (now (indices .exit))) r ⌝ }
 {
     farzhudyl::as_number(groups::numbers(kind, n, pairs, sets, indices))
 }
@@ -47,8 +41,7 @@ pub extern "C" fn exported_anchored_scores(
     pairs: &[i32],
     out: &mut [i32],
 ) -> i64
-    ensures { λ r. ⌜ r ≡ cNumber (answer (anchoredRefusal n x (now (pairs .entry)) (length (now (out .entry)))) (rowStart n)) ⌝ }
-    ensures { λ _. ⌜ now (out .exit) ≡ slots (anchoredRefusal n x (now (pairs .entry)) (length (now (out .entry)))) (anchoredScores n x (now (pairs .entry))) (now (out .entry)) ⌝ }
+    ensures { λ r. ⌜ NumberOf (λ a. AnchoredCall n x (now (pairs .entry)) (now (out .entry)) a (now (out .exit))) r ⌝ }
 {
     farzhudyl::as_number(farris::anchored_scores(n, x, pairs, out))
 }
@@ -60,8 +53,7 @@ pub extern "C" fn exported_distances_back(
     scores: &[i32],
     out: &mut [i32],
 ) -> i64
-    ensures { λ r. ⌜ r ≡ cNumber (answer (backRefusal n x (now (scores .entry)) (length (now (out .entry)))) (rowStart n)) ⌝ }
-    ensures { λ _. ⌜ now (out .exit) ≡ slots (backRefusal n x (now (scores .entry)) (length (now (out .entry)))) (distancesBack n (now (scores .entry))) (now (out .entry)) ⌝ }
+    ensures { λ r. ⌜ NumberOf (λ a. BackCall n x (now (scores .entry)) (now (out .entry)) a (now (out .exit))) r ⌝ }
 {
     farzhudyl::as_number(farris::distances_back(n, x, scores, out))
 }
@@ -75,19 +67,14 @@ pub extern "C" fn exported_score(pairs: &[i32], n: usize, a: usize, b: usize) ->
 
 #[no_mangle]
 pub extern "C" fn exported_read(sheet: &[u8], pairs: &mut [i32; 528]) -> i64
-    ensures { λ r. ⌜ r ≡ cNumber (answer (firstOf (readerChecks (now (sheet .entry)))) (entries (now (sheet .entry)))) ⌝ }
-    ensures { λ _. ⌜ now (pairs .exit) ≡ read.slots (now (sheet .entry)) (now (pairs .entry)) ⌝ }
+    ensures { λ r. ⌜ NumberOf (λ a. ReaderCall (now (sheet .entry)) (now (pairs .entry)) a (now (pairs .exit))) r ⌝ }
 {
-    let reading = reader::read(sheet, pairs);
-    match reading {
-        Reading::Refused(number) => farzhudyl::as_number(Answer::Refused(number)),
-        Reading::Entries(n) => farzhudyl::as_number(Answer::Count(n)),
-    }
+    farzhudyl::as_number(reader::read(sheet, pairs))
 }
 
 #[no_mangle]
 pub extern "C" fn exported_refusal(sheet: &[u8]) -> usize
-    ensures { λ r. ⌜ r ≡ firstOf (readerChecks (now (sheet .entry))) ⌝ }
+    ensures { λ r. ⌜ r ≡ readerRefusal (now (sheet .entry)) ⌝ }
 {
     reader::refusal(sheet)
 }

@@ -1,30 +1,31 @@
 -- The groups that the engine found, as the listing's writer takes them.
 use mathlib.Core.Path.{_≡_, sym, ap, ap₂, _∙_, subst}
-use mathlib.Core.List.{List, [], _∷_, _++_, map}
+use mathlib.Core.List.{List, _++_, map}
 use Prim.Native.Nat.{ℕ, _^_, _<_, _≤_}
 use native.Mathlib.Omega.{arith}
 use lib.IntN.{ℤ, pos}
 use lib.Signed.{_≤ℤ_}
 use lib.ListN.{length, drop, length-map, length-take, take-append-drop}
 use Rattle.lists.specs.Lists.{_∈_}
-use Rattle.lists.proofs.Lists.{each-cong}
+use Rattle.lists.proofs.Lists.{map-cong}
 use Rattle.integers.proofs.Linear.{zarith, up, dn}
 use Rattle.sets.proofs.Sizes.{size-wide}
 use Rattle.clusters.specs.PairList.{score}
 use Rattle.clusters.specs.Groups.{Kind, index, groupSets, groups}
 use Rattle.clusters.proofs.Groups.{in-groups, listed-index, groups-sets, groups-indices}
-use Rattle.interface.specs.Listing.{hexadecimal, decimal, signedDecimal, firstLine, lineText, line, listing}
+use Rattle.interface.specs.Listing.{lineOf, listing}
 use Rattle.interface.specs.Calls.{groupsOf}
 use Rattle.listing.specs.Slots.{Slots}
-use Rattle.listing.proofs.Slots.{groups-slots}
+use Rattle.interface.proofs.Slots.{groups-slots}
 use Rattle.groups.specs.declared.Found.{Found}
 use Rattle.groups.specs.Found.{Groups}
 
 -- the size of a set of n entries is that of a set of 32
-listing-wide : (n : ℕ) → n ≤ 32 → (found : List (ℕ × ℤ)) → ((g : ℕ × ℤ) → g ∈ found → g .0 < 2 ^ n) → listing 32 found ≡ listing n found
-unfolding listing line lineText
-listing-wide n few found low = ap (λ (t : List ℕ). firstLine ++ t) (each-cong found (line 32) (line n) λ g m.
-    ap (λ (k : ℕ). hexadecimal (g .0) ++ (32 ∷ []) ++ decimal k ++ (32 ∷ []) ++ signedDecimal (g .1) ++ (10 ∷ [])) (size-wide n 32 (g .0) (low g m) few))
+listing-wide : (n : ℕ) → n ≤ 32 → (found : List (ℕ × ℤ)) → ((g : ℕ × ℤ) → g ∈ found → g .0 < 2 ^ n)
+    → listing (map (lineOf 32) found) ≡ listing (map (lineOf n) found)
+unfolding lineOf
+listing-wide n few found low = ap listing (map-cong (lineOf 32) (lineOf n) found λ g m.
+    ap (λ (k : ℕ). record { set = g .0; size = k; index = g .1 }) (size-wide n 32 (g .0) (low g m) few))
 
 module _ (kind : Kind) (n : ℕ) (l : List ℤ) where
   found : List (ℕ × ℤ)
@@ -54,24 +55,34 @@ module _ (kind : Kind) (n : ℕ) (l : List ℤ) where
 
     these : sets ≡ map (λ (g : ℕ × ℤ). g .0) found ++ drop count sets
     unfolding found sets count
-    these = sym (take-append-drop (f .count) (f .sets)) ∙ ap (λ (t : List ℕ). t ++ drop (f .count) (f .sets)) (g .sets ∙ sym (groups-sets kind n (score l)))
+    these =
+        sym (take-append-drop (f .count) (f .sets))
+        ∙ ap (λ (t : List ℕ). t ++ drop (f .count) (f .sets)) (g .sets ∙ sym (groups-sets kind n (score l)))
 
     their : indices ≡ map (λ (g : ℕ × ℤ). g .1) found ++ drop count indices
     unfolding found indices count
-    their = sym (take-append-drop (f .count) (f .indices)) ∙ ap (λ (t : List ℤ). t ++ drop (f .count) (f .indices)) (g .indices ∙ sym (groups-indices kind n (score l)))
+    their =
+        sym (take-append-drop (f .count) (f .indices))
+        ∙ ap (λ (t : List ℤ). t ++ drop (f .count) (f .indices)) (g .indices ∙ sym (groups-indices kind n (score l)))
 
     pub found-groups : groupsOf (f .count) (f .sets) (f .indices) ≡ groups kind n (score l)
     unfolding found sets indices count
-    found-groups = ap (λ (k : ℕ). groupsOf k (f .sets) (f .indices)) (sym many) ∙ ap₂ (λ (s : List ℕ) (t : List ℤ). groupsOf (length found) s t) these their ∙ groups-slots found (drop (f .count) (f .sets)) (drop (f .count) (f .indices))
+    found-groups =
+        ap (λ (k : ℕ). groupsOf k (f .sets) (f .indices)) (sym many)
+        ∙ ap₂ (λ (s : List ℕ) (t : List ℤ). groupsOf (length found) s t) these their
+        ∙ groups-slots found (drop (f .count) (f .sets)) (drop (f .count) (f .indices))
 
     pub found-slots : Slots (f .count) (f .sets) (f .indices)
     unfolding found
     found-slots = record {
       sets-hold = omega (arith, length-take (f .count) (f .sets), ap length (g .sets), g .count);
-      indices-hold = omega (arith, length-take (f .count) (f .indices), ap length (g .indices), length-map (groupSets kind n (score l)) (index kind n (score l)), g .count);
+      indices-hold =
+          let many = length-map (groupSets kind n (score l)) (index kind n (score l)) in
+          omega (arith, length-take (f .count) (f .indices), ap length (g .indices), many, g .count);
       natural = λ h m. natural h (subst (λ (s : List (ℕ × ℤ)). h ∈ s) found-groups m);
     }
 
-    pub found-listing : n ≤ 32 → listing 32 (groupsOf (f .count) (f .sets) (f .indices)) ≡ listing n (groups kind n (score l))
+    pub found-listing : n ≤ 32
+        → listing (map (lineOf 32) (groupsOf (f .count) (f .sets) (f .indices))) ≡ listing (map (lineOf n) (groups kind n (score l)))
     unfolding found
-    found-listing h = ap (listing 32) found-groups ∙ listing-wide n h found low
+    found-listing h = ap (λ (g : List (ℕ × ℤ)). listing (map (lineOf 32) g)) found-groups ∙ listing-wide n h found low

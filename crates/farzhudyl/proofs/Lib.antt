@@ -1,7 +1,5 @@
-pub mod Lines
 pub mod Room
 pub mod Numbers
 pub mod Found
 pub mod Pairs
 pub mod Sheets
-pub mod Demands

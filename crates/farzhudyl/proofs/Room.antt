@@ -13,13 +13,14 @@ use Rattle.integers.proofs.Range.{within-grow, up-le}
 use Rattle.sets.specs.Sets.{size}
 use Rattle.sets.proofs.Sets.{size-le}
 use Rattle.clusters.specs.PairList.{score}
-use Rattle.clusters.specs.Groups.{Kind, strong, clean, splits, index, groups, mostGroups}
+use Rattle.clusters.specs.Groups.{Kind, strong, clean, splits, kindOf, index, groups, mostGroups}
 use Rattle.clusters.proofs.PairList.{score-symm}
 use Rattle.clusters.proofs.Groups.{in-groups, listed-index}
 use Rattle.clusters.proofs.Theorems.{groups-bound}
 use Rattle.indices.proofs.Bounds.{strong-within, clean-within, separation-within}
-use Rattle.interface.specs.Listing.{decimal, line, listing}
-use Rattle.listing.proofs.Numbers.{length-decimal}
+use Rattle.interface.specs.Listing.{lineOf, decimal, listing, groupsFound, pairsListing}
+use Rattle.interface.proofs.Digits.{length-decimal}
+use Rattle.listing.specs.Lines.{line}
 use Rattle.listing.proofs.Lines.{length-line, length-listing}
 
 -- an index of scores between −k and k
@@ -30,12 +31,14 @@ index-within clean n b few A = clean-within b n A few
 index-within splits n b few A = within-grow (omega arith) (separation-within b n A)
 
 -- a line of a group with an index of at most 9 digits has at most 22 bytes
-lines-length : (n : ℕ) → n ≤ 32 → (found : List (ℕ × ℤ)) → ((g : ℕ × ℤ) → g ∈ found → (k : ℕ) × (g .1 ≡ pos k) × (k < 10 ^ 9)) → length (each found (line n)) ≤ 22 * length found
+lines-length : (n : ℕ) → n ≤ 32 → (found : List (ℕ × ℤ)) → ((g : ℕ × ℤ) → g ∈ found → (k : ℕ) × (g .1 ≡ pos k) × (k < 10 ^ 9))
+    → length (each found (line n)) ≤ 22 * length found
 unfolding each
 lines-length n few [] f = omega arith
 lines-length n few (g ∷ found) f =
     let (k, e, h) = f g (List·Memᴰ·head refl) in
-    let a : length (line n g) ≡ length (decimal (size n (g .0))) + length (decimal k) + 11 = ap (λ (z : ℤ). length (line n (g .0, z))) e ∙ length-line n (g .0) k refl in
+    let a : length (line n g) ≡ length (decimal (size n (g .0))) + length (decimal k) + 11 =
+        ap (λ (z : ℤ). length (line n (g .0, z))) e ∙ length-line n (g .0) k refl in
     let s = length-decimal 1 (size n (g .0)) (omega (arith, size-le n (g .0))) in
     let d = length-decimal 8 k h in
     omega (arith, length-append (line n g) (each found (line n)), lines-length n few found (λ g m. f g (List·Memᴰ·tail m)))
@@ -50,16 +53,21 @@ pub groups-few : (kind : Kind) (n : ℕ) (l : List ℤ) → n ≤ 32 → length 
 groups-few kind n l few = omega (arith, groups-bound kind n (score l) (score-symm l), most kind n few)
 
 -- the listing of scores that pass checks 6 and 11 has at most 1,379 bytes
-pub listing-room : (kind : Kind) (n : ℕ) (l : List ℤ) → n ≤ 32 → Bounded (2 ^ 22) l → length (listing n (groups kind n (score l))) ≤ 1379
-unfolding up dn
+pub listing-room : (kind : ℤ) (n : ℕ) (l : List ℤ) → n ≤ 32 → Bounded (2 ^ 22) l → length (pairsListing kind n l) ≤ 1379
+unfolding pairsListing groupsFound up dn
 listing-room kind n l few b =
-    let g = groups kind n (score l) in
-    omega (arith, length-listing n g, lines-length n few g at, groups-few kind n l few)
+    let g = groups k n (score l) in
+    omega (arith, length-listing n g, lines-length n few g at, groups-few k n l few)
   where
+    k : Kind
+    k = kindOf kind
+
     natural : (z : ℤ) → pos 1 ≤ℤ z → Within (62 * 2 ^ 22) z → (k : ℕ) × (z ≡ pos k) × (k < 10 ^ 9)
     natural (pos k) h w = (k, refl, omega (arith, up-le w))
     natural (negsuc k) h w = absurd (h .le)
 
-    at : (g : ℕ × ℤ) → g ∈ groups kind n (score l) → (k : ℕ) × (g .1 ≡ pos k) × (k < 10 ^ 9)
-    at g m = let (h, t, e) = in-groups kind n (score l) (g .0) (g .1) .0 m in
-        natural (g .1) (subst (λ z. pos 1 ≤ℤ z) (sym e) (listed-index kind n (score l) (g .0) t)) (subst (Within (62 * 2 ^ 22)) (sym e) (index-within kind n b few (g .0)))
+    at : (g : ℕ × ℤ) → g ∈ groups k n (score l) → (k : ℕ) × (g .1 ≡ pos k) × (k < 10 ^ 9)
+    at g m =
+        let (h, t, e) = in-groups k n (score l) (g .0) (g .1) .0 m in
+        let one = subst (λ z. pos 1 ≤ℤ z) (sym e) (listed-index k n (score l) (g .0) t) in
+        natural (g .1) one (subst (Within (62 * 2 ^ 22)) (sym e) (index-within k n b few (g .0)))

@@ -10,22 +10,18 @@ use lib.IntN.{ℤ}
 use lib.ListN.{length, take, length-take}
 use Rattle.lists.specs.Lists.{all}
 use Rattle.clusters.specs.PairList.{rowStart}
-use Rattle.interface.specs.Refusals.{firstOf, wrongKind, readerChecks, sheetCallChecks, sheetRefusal}
-use Rattle.interface.proofs.Refusals.{gives, first-yes, first-no, first-append}
 use Rattle.answers.specs.declared.Answer.{Answer}
-use Rattle.answers.specs.declared.Answer.the-variants.{Refused}
+use Rattle.answers.specs.declared.Answer.the-variants.{Count, Refused}
 use Rattle.answers.specs.Answers.{answer, slots}
 use Rattle.answers.proofs.WaysOut.{refused}
 use Rattle.interface.specs.Sheet.{space, names, entries, pairs}
-use Rattle.text.proofs.Pieces.{some-piece}
-use Rattle.reader.specs.declared.Reading.the-variants.{Entries}
-use Rattle.reader.specs.declared.Reading.the-variants as variants
-use Rattle.reader.specs.Answer.{reading}
-use Rattle.reader.specs.Answer as read
+use Rattle.interface.specs.Listing.{sheetListing}
+use Rattle.interface.specs.Refusals.{wrongKind, sheetCallChecks, sheetRefusal, readerChecks, readerRefusal}
+use Rattle.interface.specs.Calls.{SheetCall}
+use Rattle.interface.proofs.Refusals.{gives, first-yes, first-no, first-append}
+use Rattle.interface.proofs.Pieces.{some-piece}
 use Rattle.reader.proofs.Answers.{number-is, entries-is, passes-few, pairs-length, slots-pairs}
-use Rattle.farzhudyl.specs.Calls.{sheetGroups}
-use Rattle.interface.specs.Listing.{sheetListing, pairsListing}
-use Rattle.farzhudyl.specs.Pairs.{pairsRefusal}
+use Rattle.farzhudyl.specs.Pairs.{pairsRefusal, PairsListed}
 
 -- the call's checks: check 1, then the sheet's, then the pair list's
 module _ (kind : ℤ) (s : List ℕ) (room : ℕ) where
@@ -33,12 +29,12 @@ module _ (kind : ℤ) (s : List ℕ) (room : ℕ) where
   unfolding sheetRefusal sheetCallChecks
   wrong-kind e = gives (first-yes e)
 
-  right-kind : wrongKind kind ≡ false → sheetRefusal kind s room ≡ cond (eqb (firstOf (readerChecks s)) 0) (pairsRefusal kind (entries s) (pairs s) room) (firstOf (readerChecks s))
-  unfolding sheetRefusal sheetCallChecks sheetListing sheetGroups pairsRefusal pairsListing readerChecks all
+  right-kind : wrongKind kind ≡ false → let k = readerRefusal s in sheetRefusal kind s room ≡ cond (eqb k 0) (pairsRefusal kind (entries s) (pairs s) room) k
+  unfolding sheetRefusal sheetCallChecks sheetListing pairsRefusal readerRefusal readerChecks all
   right-kind e = sym (gives (first-no e (record { is = sym (first-append (readerChecks s) _ tt) })))
 
 -- the entries and the pair list of a sheet that was read
-module _ (s : List ℕ) {n : ℕ} (e : reading s ≡ Entries n) where
+module _ (s : List ℕ) {n : ℕ} (e : answer (readerRefusal s) (entries s) ≡ Count n) where
   pub few-entries : n ≤ 32
   few-entries = rw (entries-is s n e .1) (passes-few s (entries-is s n e .0))
 
@@ -46,8 +42,8 @@ module _ (s : List ℕ) {n : ℕ} (e : reading s ≡ Entries n) where
   unfolding entries names
   some-entries = rw (entries-is s n e .1) (some-piece space _)
 
-  pub pairs-read : (lent : List ℤ) {held : List ℤ} {count : ℕ} → length lent ≡ 528 → held ≡ read.slots s lent → count ≡ rowStart n → take count held ≡ pairs s
-  pairs-read lent long w c = rw (c, entries-is s n e .1, w) (slots-pairs s lent long (entries-is s n e .0))
+  pub pairs-read : (lent : List ℤ) {held : List ℤ} {count : ℕ} → held ≡ slots (readerRefusal s) (pairs s) lent → count ≡ rowStart n → take count held ≡ pairs s
+  pairs-read lent w c = rw (c, entries-is s n e .1, w) (slots-pairs s lent (entries-is s n e .0))
 
   pub pairs-long : {l : List ℤ} → l ≡ pairs s → length l ≡ rowStart n
   pairs-long p = ap length p ∙ pairs-length s ∙ ap rowStart (sym (entries-is s n e .1))
@@ -57,17 +53,22 @@ module _ (s : List ℕ) {n : ℕ} (e : reading s ≡ Entries n) where
 
 -- the ways out
 module _ (kind : ℤ) (s lent : List ℕ) where
-  abbrev pub Answers : Answer → List ℕ → Type 0
-  Answers r o = (r ≡ answer (sheetRefusal kind s (length lent)) (length (sheetListing kind s))) × (o ≡ slots (sheetRefusal kind s (length lent)) (sheetListing kind s) lent)
+  done : {r : Answer} {o : List ℕ} → (r ≡ answer (sheetRefusal kind s (length lent)) (length (sheetListing kind s)))
+      × (o ≡ slots (sheetRefusal kind s (length lent)) (sheetListing kind s) lent) → SheetCall kind s lent r o
+  done (a, w) = record { answered = a; written = w }
 
-  pub refused-kind : wrongKind kind ≡ true → Answers (Refused 1) lent
-  refused-kind e = refused _ _ _ (wrong-kind kind s (length lent) e) (λ z. omega arith)
+  pub refused-kind : wrongKind kind ≡ true → SheetCall kind s lent (Refused 1) lent
+  refused-kind e = done (refused _ _ _ (wrong-kind kind s (length lent) e) (λ z. omega arith))
 
   module _ (e : wrongKind kind ≡ false) where
-    pub refused-sheet : {k : ℕ} → reading s ≡ variants.Refused k → Answers (Refused k) lent
-    refused-sheet {k} r = let (is, some) = number-is s k r in refused _ _ _ (rw (right-kind kind s (length lent) e, sym is, ne-eqb k 0 some)) some
+    pub refused-sheet : {k : ℕ} → answer (readerRefusal s) (entries s) ≡ Refused k → SheetCall kind s lent (Refused k) lent
+    refused-sheet {k} r =
+        let (is, some) = number-is s k r in
+        done (refused _ _ _ (rw (right-kind kind s (length lent) e, sym is, ne-eqb k 0 some)) some)
 
-    pub read-sheet : {n : ℕ} {l : List ℤ} {r : Answer} {o : List ℕ} → reading s ≡ Entries n → l ≡ pairs s
-        → (r ≡ answer (pairsRefusal kind n l (length lent)) (length (pairsListing kind n l))) × (o ≡ slots (pairsRefusal kind n l (length lent)) (pairsListing kind n l) lent) → Answers r o
-    unfolding sheetListing sheetGroups pairsListing
-    read-sheet {n} d p h = let (z, m) = entries-is s n d in rw (right-kind kind s (length lent) e, z, sym m, sym p) h
+    pub read-sheet : {n : ℕ} {l : List ℤ} {r : Answer} {o : List ℕ} → answer (readerRefusal s) (entries s) ≡ Count n → l ≡ pairs s
+        → PairsListed kind n l lent r o → SheetCall kind s lent r o
+    unfolding sheetListing
+    read-sheet {n} d p h =
+        let (z, m) = entries-is s n d in
+        done (rw (right-kind kind s (length lent) e, z, sym m, sym p) (h .answered, h .written))

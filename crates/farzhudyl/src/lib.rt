@@ -4,19 +4,15 @@ ghost use Prim.Native.Nat.{_^_, _<_, _≤_};
 ghost use lib.IntN.{pos, negℤ};
 ghost use lib.ListN.{length};
 ghost use Rattle.clusters.specs.PairList.{rowStart};
-ghost use Rattle.answers.specs.Answers.{numberOf, countOf, answer, slots};
-ghost use Rattle.interface.specs.Listing.{sheetListing, pairsListing};
-ghost use Rattle.interface.specs.Refusals.{sheetRefusal};
-ghost use Rattle.farzhudyl.specs.Pairs.{pairsRefusal};
-ghost use Rattle.interface.specs.Calls.{cNumber};
+ghost use Rattle.answers.specs.Answers.{numberOf, countOf};
+ghost use Rattle.interface.specs.Calls.{SheetCall, cNumber, CCall};
+ghost use Rattle.farzhudyl.specs.Pairs.{PairsListed};
 use answers::Answer;
-use reader::Reading;
 
 // The listing of a pair list, or the first of checks 11, 12 and 14 that refuses.
 fn list_pairs(kind: i32, n: usize, pairs: &[i32], out: &mut [u8]) -> Answer
     requires { ⌜ (1 ≤ n) × (n ≤ 32) × (length (now pairs) ≡ rowStart n) ⌝ }
-    ensures { λ r. ⌜ r ≡ answer (pairsRefusal kind n (now (pairs .entry)) (length (now (out .entry)))) (length (pairsListing kind n (now (pairs .entry)))) ⌝ }
-    ensures { λ _. ⌜ now (out .exit) ≡ slots (pairsRefusal kind n (now (pairs .entry)) (length (now (out .entry)))) (pairsListing kind n (now (pairs .entry))) (now (out .entry)) ⌝ }
+    ensures { λ r. ⌜ PairsListed kind n (now (pairs .entry)) (now (out .entry)) r (now (out .exit)) ⌝ }
 {
     if !matrix::in_range(pairs) {
         return Answer::Refused(11);
@@ -40,8 +36,7 @@ fn list_pairs(kind: i32, n: usize, pairs: &[i32], out: &mut [u8]) -> Answer
 
 // The sheet call: the listing's length, and the listing in the first bytes; or the refusal, and nothing is written.
 pub fn listing(kind: i32, sheet: &[u8], out: &mut [u8]) -> Answer
-    ensures { λ r. ⌜ r ≡ answer (sheetRefusal kind (now (sheet .entry)) (length (now (out .entry)))) (length (sheetListing kind (now (sheet .entry)))) ⌝ }
-    ensures { λ _. ⌜ now (out .exit) ≡ slots (sheetRefusal kind (now (sheet .entry)) (length (now (out .entry)))) (sheetListing kind (now (sheet .entry))) (now (out .entry)) ⌝ }
+    ensures { λ r. ⌜ SheetCall kind (now (sheet .entry)) (now (out .entry)) r (now (out .exit)) ⌝ }
 {
     if kinds::is_wrong(kind) {
         return Answer::Refused(1);
@@ -49,8 +44,8 @@ pub fn listing(kind: i32, sheet: &[u8], out: &mut [u8]) -> Answer
     let mut pairs = [0i32; 528];
     let reading = reader::read(sheet, &mut pairs);
     match reading {
-        Reading::Refused(number) => Answer::Refused(number),
-        Reading::Entries(n) => {
+        Answer::Refused(number) => Answer::Refused(number),
+        Answer::Count(n) => {
             let count = matrix::pair_count(n);
             list_pairs(kind, n, &pairs[..count], out)
         }
@@ -85,8 +80,7 @@ pub fn as_number(a: Answer) -> i64
 // The C call: the listing's length, or minus the refusal's number.
 #[no_mangle]
 pub extern "C" fn farzhudyl_listing(kind: i32, sheet: &[u8], out: &mut [u8]) -> i64
-    ensures { λ r. ⌜ r ≡ cNumber (answer (sheetRefusal kind (now (sheet .entry)) (length (now (out .entry)))) (length (sheetListing kind (now (sheet .entry))))) ⌝ }
-    ensures { λ _. ⌜ now (out .exit) ≡ slots (sheetRefusal kind (now (sheet .entry)) (length (now (out .entry)))) (sheetListing kind (now (sheet .entry))) (now (out .entry)) ⌝ }
+    ensures { λ r. ⌜ CCall kind (now (sheet .entry)) (now (out .entry)) r (now (out .exit)) ⌝ }
 {
     as_number(listing(kind, sheet, out))
 }

@@ -12,7 +12,7 @@ use lib.Dec.{T, lit<, lit≤}
 use lib.ListN.{length, take, drop, replicate, length-map}
 use lib.Seq.{take-append-seam, drop-append-seam}
 use Rattle.lists.specs.Lists.{_∈_, _lists_, all}
-use Rattle.lists.proofs.Lists.{all-in, of-map, getD-in}
+use Rattle.lists.proofs.Lists.{of-map}
 use Rattle.lists.proofs.Tests.{T-false}
 use Rattle.integers.specs.Integers.{eqZ}
 use Rattle.integers.proofs.Linear.{zarith, up, dn}
@@ -43,7 +43,7 @@ use Rattle.interface.specs.Refusals.{
 }
 use Rattle.interface.specs.Calls.{SheetCall, cNumber, CCall, NumbersCall, setsFound, indicesFound, groupsOf}
 use Rattle.interface.specs.Demands.{Demand1, Listed, by-C-call, by-sheet-call, Wrote, in-lines, in-slots, Indices, Demand2, SameGroups, Complete, Demand3}
-use Rattle.interface.proofs.Refusals.{first-iff, first-none, few-count}
+use Rattle.interface.proofs.Refusals.{first-iff, first-none, passes, few-count}
 use Rattle.interface.proofs.Lines.{Readable, listing-read}
 use Rattle.interface.proofs.Slots.{groups-slots}
 use Rattle.interface.proofs.Anchored.{length-anchored, way-back}
@@ -152,11 +152,7 @@ accepted {kind} {sheet} (by-sheet-call {lent} {after} {r} c z) =
 -- check 6 of a sheet that is listed
 few-entries : (kind : ℤ) (sheet : List ℕ) (buffer : ℕ) → sheetRefusal kind sheet buffer ≡ 0 → entries sheet ≤ mostEntries
 unfolding sheetRefusal sheetCallChecks all
-few-entries kind sheet buffer e =
-    let checks = sheetCallChecks kind sheet buffer in
-    let none = first-none checks tt .0 e in
-    let six : T (not (wrongCount (entries sheet))) = all-in (λ (c : Check). not (c .1)) checks none (getD-in checks 5 (0, false) (lit< tt)) in
-    few-count (entries sheet) (T-false six)
+few-entries kind sheet buffer e = few-count (entries sheet) (T-false (passes (sheetCallChecks kind sheet buffer) tt e 5 (lit< tt)))
 
 -- 8 hexadecimal digits have room for every set of entries
 digits-room : (n : ℕ) → n ≤ mostEntries → 2 ^ n ≤ 16 ^ 8

@@ -8,8 +8,9 @@ use native.Mathlib.Omega.{arith}
 use borrow.Author.Tests.{eqb-true, eqb-false, ltb-false, eq-eqb, ne-eqb, not-false}
 use lib.Dec.{T, eqb, leb, ltb, leb→le}
 use lib.IntN.{ℤ}
-use lib.ListN.{length}
+use lib.ListN.{length, getD}
 use Rattle.lists.specs.Lists.{all}
+use Rattle.lists.proofs.Lists.{all-in, getD-in}
 use Rattle.lists.proofs.Tests.{and-T, cond-elim, eqb-no, or-none}
 use Rattle.clusters.specs.PairList.{rowStart, hasLength}
 use Rattle.interface.specs.Refusals.{firstOf, none, Given, mostEntries, wrongCount}
@@ -102,6 +103,10 @@ first-none (c ∷ checks) t = go (c .0) (c .1) t (first-none checks)
         → (T (numbered checks) → (firstOf checks ≡ 0) ↔ T (none checks)) → (cond b m (firstOf checks) ≡ 0) ↔ T (not b && none checks)
     go m true t ih = (λ e. eqb-no m 0 (and-T (not (eqb m 0)) (numbered checks) t .0) e, λ u. absurd u)
     go m false t ih = ih (and-T (not (eqb m 0)) (numbered checks) t .1)
+
+-- no number is given: the i-th condition does not hold
+pub passes : (checks : List (ℕ × Bool)) → T (numbered checks) → firstOf checks ≡ 0 → (i : ℕ) → i < length checks → T (not (getD checks i (0, false) .1))
+passes checks t e i h = all-in (λ (c : ℕ × Bool). not (c .1)) checks (first-none checks t .0 e) (getD-in checks i (0, false) h)
 
 -- two tables, one behind the other
 pub first-append : (l m : List (ℕ × Bool)) → T (numbered l) → firstOf (l ++ m) ≡ cond (eqb (firstOf l) 0) (firstOf m) (firstOf l)

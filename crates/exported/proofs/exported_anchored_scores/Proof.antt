@@ -1,9 +1,7 @@
-use mathlib.Core.Path.{ap, _∙_}
 use borrow.Author.Needs.{needs}
 use lib.ListN.{length}
 use mir.Syntax.{w64}
 use Rattle.integers.proofs.Held.{passed}
-use Rattle.interface.specs.Calls.{cNumber}
 use Rattle.exported.proofs.Small.{anchored-small}
 use Rattle.exported.proofs.exported_anchored_scores.Statement.{statement}
 use Rattle.exported.proofs.exported_anchored_scores.Tie as tie
@@ -13,13 +11,17 @@ anchored-scores-requires c κs = search needs
 
 as-number-requires : tie.Need-as-number-requires
 as-number-requires c κs = let a = c .before .before .before .args in
-    anchored-small (a .n) (a .pairs .now) (a .x) (length (a .out .now)) (c .before .anchored-scores .ensures .0)
+    anchored-small (a .n) (a .pairs .now) (a .x) (length (a .out .now)) (c .before .anchored-scores .ensures .answered)
 
 same-length : tie.Need-same-length
 same-length c = search needs
 
 returns : tie.Need-returns
-returns c = (passed w64 (c .as-number .ok) (c .as-number .ensures ∙ ap cNumber (c .before .before .anchored-scores .ensures .0)), c .before .before .anchored-scores .ensures .1)
+returns c = record {
+  given = c .before .before .anchored-scores .result;
+  number = passed w64 (c .as-number .ok) (c .as-number .ensures);
+  holds = c .before .before .anchored-scores .ensures;
+}
 
 pub exported-anchored-scores-spec : {M : Type 1} → statement M
 exported-anchored-scores-spec = tie.close (tie.spec anchored-scores-requires as-number-requires same-length returns)

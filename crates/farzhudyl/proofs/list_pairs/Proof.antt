@@ -10,11 +10,12 @@ use Rattle.clusters.specs.PairList.{inRange}
 use Rattle.clusters.specs.Groups.{kindOf}
 use Rattle.interface.specs.Refusals.{wrongDistances}
 use Rattle.interface.proofs.Refusals.{gives, first-yes, first-no, no-more}
+use Rattle.answers.specs.declared.Answer.the-variants.{Refused}
 use Rattle.answers.proofs.WaysOut.{refused, counted}
 use Rattle.kinds.proofs.Listed.{told}
 use Rattle.groups.specs.Found.{Groups}
-use Rattle.interface.specs.Listing.{pairsListing}
-use Rattle.farzhudyl.specs.Pairs.{pairsRefusal}
+use Rattle.interface.specs.Listing.{groupsFound, pairsListing}
+use Rattle.farzhudyl.specs.Pairs.{pairsRefusal, PairsListed}
 use Rattle.farzhudyl.proofs.Found.{found-slots, found-listing}
 use Rattle.farzhudyl.proofs.Pairs.{written, copied}
 use native.Mathlib.Omega.{arith}
@@ -30,20 +31,27 @@ text s = pairsListing (s .args .kind) (s .args .n) (s .args .pairs .now)
 passed-11 : (c : tie.Else1) → not (inRange (c .before .before .before .args .pairs .now)) ≡ false
 passed-11 c = ap not (sym (c .before .in-range .ensures)) ∙ c .if1 .left
 
-asked-12 : (c : tie.After-are-wrong-distances) {t : Bool} → c .are-wrong-distances .result ≡ t → let s = c .before .before .before .before in wrongDistances (s .args .kind) (s .args .n) (s .args .pairs .now) ≡ t
-asked-12 c = let s = c .before .before .before .before in told (λ k. wrongDistances k (s .args .n) (s .args .pairs .now)) (s .fits .kind) (c .are-wrong-distances .ensures)
+asked-12 : (c : tie.After-are-wrong-distances) {t : Bool} → c .are-wrong-distances .result ≡ t
+    → let s = c .before .before .before .before in wrongDistances (s .args .kind) (s .args .n) (s .args .pairs .now) ≡ t
+asked-12 c =
+    let s = c .before .before .before .before in
+    told (λ k. wrongDistances k (s .args .n) (s .args .pairs .now)) (s .fits .kind) (c .are-wrong-distances .ensures)
 
 -- the groups that were found
-these : (c : tie.After-find) → let s = c .before .before .before .before .before .before in Groups (kindOf (s .args .kind)) (s .args .n) (s .args .pairs .now) (c .find .result)
+these : (c : tie.After-find) → let s = c .before .before .before .before .before .before in
+    Groups (kindOf (s .args .kind)) (s .args .n) (s .args .pairs .now) (c .find .result)
 these c = let s = c .before .before .before .before .before .before in
     subst (λ k. Groups (kindOf k) (s .args .n) (s .args .pairs .now) (c .find .result)) (toZ-ofZ (s .fits .kind)) (c .find .ensures)
 
 -- the writer wrote the listing
 wrote : (c : tie.After-write) → let s = c .before .before .before .before .before .before .before .before .before .before .before .before in
     (c .write .result ≡ length (text s)) × (take (c .write .result) (c .write .last .0) ≡ text s)
-unfolding pairsListing
-wrote c = let f = c .before .before .before .before .before .before in let s = f .before .before .before .before .before .before in
-    written _ (found-listing (kindOf (s .args .kind)) (s .args .n) (s .args .pairs .now) (f .find .result) (these f) (s .pre .1)) (c .write .ensures .0) (c .write .ensures .1)
+unfolding pairsListing groupsFound
+wrote c =
+    let f = c .before .before .before .before .before .before in
+    let s = f .before .before .before .before .before .before in
+    let listed = found-listing (kindOf (s .args .kind)) (s .args .n) (s .args .pairs .now) (f .find .result) (these f) (s .pre .1) in
+    written _ listed (c .write .ensures .0) (c .write .ensures .1)
 
 long : (c : tie.After-write) → length (take (c .write .result) (c .write .last .0)) ≡ c .write .result
 long c = ap length (wrote c .1) ∙ sym (wrote c .0)
@@ -51,20 +59,33 @@ long c = ap length (wrote c .1) ∙ sym (wrote c .0)
 in-range-requires : tie.Need-in-range-requires
 in-range-requires c κs = search needs
 
+-- refused by what the table gives; the listing was written
+refusal : (s : tie.Start) {k : ℕ} → k ≡ pairsRefusal (s .args .kind) (s .args .n) (s .args .pairs .now) (length (s .args .out .now)) → (k ≡ 0 → ⊥)
+    → PairsListed (s .args .kind) (s .args .n) (s .args .pairs .now) (s .args .out .now) (Refused k) (s .args .out .now)
+refusal s e f =
+    let (a, w) = refused (length (text s)) (text s) (s .args .out .now) e f in
+    record { answered = a; written = w }
+
 returns : tie.Need-returns
 unfolding pairsRefusal
-returns c = let s = c .before .before .before in refused (length (text s)) (text s) (s .args .out .now) (gives (first-yes (ap not (sym (c .before .in-range .ensures)) ∙ c .if1 .taken))) (λ z. omega arith)
+returns c =
+    let s = c .before .before .before in
+    refusal s (gives (first-yes (ap not (sym (c .before .in-range .ensures)) ∙ c .if1 .taken))) (λ z. omega arith)
 
 are-wrong-distances-requires : tie.Need-are-wrong-distances-requires
 are-wrong-distances-requires c κs = search needs
 
 returns-2 : tie.Need-returns-2
 unfolding pairsRefusal
-returns-2 c = let s = c .before .before .before .before .before in
-    refused (length (text s)) (text s) (s .args .out .now) (gives (first-no (passed-11 (c .before .before)) (first-yes (asked-12 (c .before) (c .if2 .taken))))) (λ z. omega arith)
+returns-2 c =
+    let s = c .before .before .before .before .before in
+    refusal s (gives (first-no (passed-11 (c .before .before)) (first-yes (asked-12 (c .before) (c .if2 .taken))))) (λ z. omega arith)
 
 find-requires : tie.Need-find-requires
-find-requires c κs = let s = c .before .before .before .before .before in record { some = s .pre .0; few = s .pre .1; long = s .pre .2; range = true-T (not-false (inRange _) (passed-11 (c .before .before))) }
+find-requires c κs =
+    let s = c .before .before .before .before .before in
+    let range = true-T (not-false (inRange _) (passed-11 (c .before .before))) in
+    record { some = s .pre .0; few = s .pre .1; long = s .pre .2; range = range }
 
 slice-aggregate-write : tie.Need-slice-aggregate-write
 slice-aggregate-write c = search needs
@@ -80,9 +101,13 @@ write-requires c κs = let g = these (c .before .before .before .before .before)
 
 returns-3 : tie.Need-returns-3
 unfolding pairsRefusal
-returns-3 c = let w = c .before .before in let f = w .before .before .before .before .before .before in let s = f .before .before .before .before .before .before in
+returns-3 c =
+    let w = c .before .before in
+    let f = w .before .before .before .before .before .before in
+    let s = f .before .before .before .before .before .before in
     let h : length (s .args .out .now) < length (text s) = omega (arith, wrote w .0, c .if3 .taken) in
-    refused (length (text s)) (text s) (s .args .out .now) (gives (first-no (passed-11 (f .before .before .before)) (first-no (asked-12 (f .before .before) (f .before .if2 .left)) (first-yes (lt-ltb _ _ h))))) (λ z. omega arith)
+    let p = first-no (asked-12 (f .before .before) (f .before .if2 .left)) (first-yes (lt-ltb _ _ h)) in
+    refusal s (gives (first-no (passed-11 (f .before .before .before)) p)) (λ z. omega arith)
 
 array-share-prefix-text : tie.Need-array-share-prefix-text
 array-share-prefix-text c = let w = c .before .before in omega (arith, long w, length-take (w .write .result) (w .write .last .0))
@@ -98,10 +123,16 @@ same-length c = search needs
 
 returns-4 : tie.Need-returns-4
 unfolding pairsRefusal
-returns-4 c = let o = c .before .before in let w = o .before .before .before .before .before in let f = w .before .before .before .before .before .before in let s = f .before .before .before .before .before .before in
+returns-4 c =
+    let o = c .before .before in
+    let w = o .before .before .before .before .before in
+    let f = w .before .before .before .before .before .before in
+    let s = f .before .before .before .before .before .before in
     let h : length (text s) ≤ length (s .args .out .now) = omega (arith, wrote w .0, o .before .before .before .if3 .left) in
-    counted (length (text s)) (text s) (s .args .out .now) (gives (first-no (passed-11 (f .before .before .before)) (first-no (asked-12 (f .before .before) (f .before .if2 .left)) (first-no (le-ltb _ _ h) no-more)))) refl (wrote w .0) refl
-    (copied (s .args .out .now) (wrote w .1) (o .copy .ensures .1))
+    let p = first-no (asked-12 (f .before .before) (f .before .if2 .left)) (first-no (le-ltb _ _ h) no-more) in
+    let (a, t) = counted (length (text s)) (text s) (s .args .out .now) (gives (first-no (passed-11 (f .before .before .before)) p)) refl (wrote w .0) refl
+        (copied (s .args .out .now) (wrote w .1) (o .copy .ensures .1)) in
+    record { answered = a; written = t }
 
 pub list-pairs-spec : {M : Type 1} → statement M
 list-pairs-spec =

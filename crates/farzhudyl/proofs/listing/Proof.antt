@@ -3,10 +3,10 @@ use mathlib.Core.Bool.{false}
 use lib.ListN.{take}
 use mir.Facts.{toZ-ofZ}
 use borrow.Author.Needs.{needs}
-use Rattle.interface.specs.Refusals.{wrongKind}
-use Rattle.interface.specs.Sheet.{pairs}
-use Rattle.reader.specs.declared.Reading.the-variants.{Entries}
-use Rattle.reader.specs.Answer.{reading}
+use Rattle.interface.specs.Refusals.{wrongKind, readerRefusal}
+use Rattle.interface.specs.Sheet.{entries, pairs}
+use Rattle.answers.specs.declared.Answer.the-variants.{Count}
+use Rattle.answers.specs.Answers.{answer}
 use Rattle.farzhudyl.proofs.Sheets.{few-entries, some-entries, pairs-read, pairs-long, pairs-fit, refused-kind, refused-sheet, read-sheet}
 use Rattle.farzhudyl.proofs.listing.Statement.{statement}
 use Rattle.farzhudyl.proofs.listing.Tie as tie
@@ -18,11 +18,13 @@ kind-is c = subst (λ k. c .is-wrong .result ≡ wrongKind k) (toZ-ofZ (c .befor
 right-kind : (c : tie.Else1) → wrongKind (c .before .before .before .before .args .kind) ≡ false
 right-kind c = sym (kind-is (c .before)) ∙ c .if1 .left
 
-was-read : (c : tie.After-reading2) → reading (c .before .before .before .before .before .before .before .before .args .sheet .now) ≡ Entries (c .reading2 .given .0 .0)
-was-read c = sym (c .before .before .read .ensures .0) ∙ c .reading2 .given .1
+was-read : (c : tie.After-reading2) → let s = c .before .before .before .before .before .before .before .before .args .sheet .now in
+    answer (readerRefusal s) (entries s) ≡ Count (c .reading2 .given .0 .0)
+was-read c = sym (c .before .before .read .ensures .answered) ∙ c .reading2 .given .1
 
-pairs-are : (c : tie.After-pair-count) → take (c .pair-count .result) (c .before .before .before .before .read .last .1 .0) ≡ pairs (c .before .before .before .before .before .before .before .before .before .before .args .sheet .now)
-pairs-are c = pairs-read _ (was-read (c .before .before)) _ refl (c .before .before .before .before .read .ensures .1) (c .pair-count .ensures)
+pairs-are : (c : tie.After-pair-count) → let r = c .before .before .before .before in
+    take (c .pair-count .result) (r .read .last .1 .0) ≡ pairs (r .before .before .before .before .before .before .args .sheet .now)
+pairs-are c = pairs-read _ (was-read (c .before .before)) _ (c .before .before .before .before .read .ensures .written) (c .pair-count .ensures)
 
 is-wrong-requires : tie.Need-is-wrong-requires
 is-wrong-requires c κs = search needs
@@ -52,7 +54,7 @@ list-pairs-requires : tie.Need-list-pairs-requires
 list-pairs-requires c κs = let f = was-read (c .before .before .before .before) in (some-entries _ f, few-entries _ f, pairs-long _ f (pairs-are (c .before .before)))
 
 returns-2 : tie.Need-returns-2
-returns-2 c = refused-sheet _ _ _ (right-kind (c .before .before .before .before .before)) (sym (c .before .before .before .read .ensures .0) ∙ c .before .reading .given .1)
+returns-2 c = refused-sheet _ _ _ (right-kind (c .before .before .before .before .before)) (sym (c .before .before .before .read .ensures .answered) ∙ c .before .reading .given .1)
 
 same-length : tie.Need-same-length
 same-length c = search needs
