@@ -12,17 +12,13 @@ use lib.IntN.{ℤ, pos, negsuc, natAbs}
 use lib.ListN.{length, length-append}
 use lib.Signed.{_≤ℤ_, nonNeg}
 use borrow.Author.Tests.{ltb-true, ltb-false, lt-ltb, le-ltb}
-use Rattle.interface.specs.Listing.{digit, digits, hexadecimal, decimalFrom, decimal}
+use Rattle.interface.specs.Listing.{digit, digits, decimalFrom, decimal}
 
 pub length-digits : (base k n : ℕ) → length (digits base k n) ≡ k
 unfolding digits
 length-digits base zero n = refl
 length-digits base (suc k) n =
     length-append (digits base k (n / base)) (digit (n % base) ∷ []) ∙ omega (arith, length-digits base k (n / base))
-
-pub length-hexadecimal : (A : ℕ) → length (hexadecimal A) ≡ 8
-unfolding hexadecimal
-length-hexadecimal A = length-digits 16 8 A
 
 -- decimal by its clauses
 from-one : (k n : ℕ) → n < 10 → decimalFrom (suc k) n ≡ digit n ∷ []

@@ -3,8 +3,8 @@ pub mod Digits
 pub mod Numerals
 pub mod Pieces
 pub mod Lines
-pub mod Canonical
 pub mod Anchored
 pub mod Slots
 pub mod Demands
 pub mod Example
+pub mod Unique

@@ -93,8 +93,8 @@ hex-digits (suc w) n =
 pub set-form : (A : ℕ) → T (isSet (hexadecimal A))
 unfolding isSet hexadecimal
 set-form A =
-    let w = digits 16 8 A in
-    T-and (eqb (length w) 8) (all isHexDigit w) (eqb-yes (length w) 8 (length-digits 16 8 A)) (hex-digits 8 A)
+    let w = hexadecimal A in
+    T-and (eqb (length w) 8) (all isHexDigit w) (eqb-yes (length w) 8 (length-digits 16 8 _)) (hex-digits 8 _)
 
 pub read-hexadecimal : (A : ℕ) → A < 16 ^ 8 → numberFrom 16 0 (hexadecimal A) ≡ A
 unfolding hexadecimal

@@ -12,7 +12,8 @@ use Rattle.lists.proofs.Lists.{each-map}
 use Rattle.sets.specs.Sets.{size}
 use Rattle.sets.proofs.Sets.{size-le}
 use Rattle.interface.specs.Listing.{lineOf, hexadecimal, decimal, signedDecimal, firstText, lineText, firstLine, listing}
-use Rattle.interface.proofs.Digits.{length-hexadecimal, length-decimal}
+use Rattle.interface.proofs.Digits.{length-decimal}
+use Rattle.listing.proofs.Numbers.{length-hexadecimal}
 use Rattle.interface.specs.Calls.{groupsOf}
 use Rattle.listing.specs.Lines.{line}
 use Rattle.listing.specs.Slots.{Slots}

@@ -5,7 +5,7 @@ use Prim.Native.Nat.{ℕ, suc, _+_, _-_, _/_, _%_, _<_}
 use native.Mathlib.Omega.{arith}
 use lib.ListN.{length, set, length-append}
 use lib.Seq.{sets}
-use Rattle.interface.specs.Listing.{digit, digits}
+use Rattle.interface.specs.Listing.{digit, digits, hexadecimal}
 use Rattle.interface.proofs.Digits.{length-digits}
 use Rattle.listing.specs.Put.{Put}
 use Rattle.listing.proofs.Puts.{sets-last}
@@ -29,3 +29,7 @@ no-digits base n = refl
 -- a text and a space
 pub length-space : (xs : List ℕ) → length (xs ++ (32 ∷ [])) ≡ length xs + 1
 length-space xs = length-append xs (32 ∷ [])
+
+pub length-hexadecimal : (A : ℕ) → length (hexadecimal A) ≡ 8
+unfolding hexadecimal
+length-hexadecimal A = length-digits 16 8 A
