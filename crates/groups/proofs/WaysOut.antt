@@ -16,7 +16,7 @@ use Rattle.interface.proofs.Refusals.{no-first, some-count, right-count, right-
 use Rattle.answers.specs.Answers.{answer, filled}
 use Rattle.answers.specs.declared.Answer.the-variants.{Count, Refused}
 use Rattle.answers.proofs.WaysOut.{refused}
-use Rattle.kinds.specs.Checked.{Checked}
+use Rattle.matrix.specs.Checks.{Checked}
 use Rattle.interface.specs.Listing.{groupsFound}
 use Rattle.interface.specs.Calls.{setsFound, indicesFound, NumbersCall}
 use Rattle.groups.specs.Found.{setsOf, indicesOf, Groups}

@@ -17,7 +17,7 @@ use Rattle.clusters.specs.Groups.{Kind, strong, clean, splits, proper, speaksOf
 use Rattle.clusters.proofs.Groups.{leastSize, speaks-size}
 use Rattle.matrix.proofs.Scores.{range-bounded}
 use Rattle.indices.specs.Asked.{Scores, Proper}
-use Rattle.kinds.specs.Checked.{Checked}
+use Rattle.matrix.specs.Checks.{Checked}
 
 -- what a test said of the kind as passed
 pub told : {r t : Bool} {kind : ℤ} (test : ℤ → Bool) → SFits w32 kind → r ≡ test (toZ w32 (ofZ w32 kind)) → r ≡ t → test kind ≡ t

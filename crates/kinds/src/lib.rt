@@ -10,7 +10,7 @@ ghost use Rattle.clusters.specs.PairList.{rowStart, score};
 ghost use Rattle.clusters.specs.Groups.{index, proper, speaksOf, kindOf};
 ghost use Rattle.interface.specs.Refusals.{wrongKind, wrongDistances};
 ghost use Rattle.kinds.specs.Kinds.{kindFor};
-ghost use Rattle.kinds.specs.Checked.{Checked};
+ghost use Rattle.matrix.specs.Checks.{Checked};
 
 // Strong groups, clean groups, Buneman splits.
 pub enum Kind {

@@ -9,17 +9,17 @@ use Rattle.lists.proofs.Lists.{all-in}
 use Rattle.lists.proofs.Tests.{and-T}
 use Rattle.integers.specs.Range.{Within, Bounded}
 use Rattle.integers.proofs.Range.{within-grow, value-within}
-use Rattle.clusters.specs.PairList.{score, place, inRange}
+use Rattle.clusters.specs.PairList.{score, place, scoreLimit, inRange}
 
 -- the test of one value
 abbrev test : ℤ → Bool
-test v = leZ (negℤ (pos 1000000)) v && leZ v (pos 1000000)
+test v = leZ (negℤ (pos scoreLimit)) v && leZ v (pos scoreLimit)
 
-test-within : (v : ℤ) → T (test v) → Within 1000000 v
-test-within v t = let r = and-T (leZ (negℤ (pos 1000000)) v) (leZ v (pos 1000000)) t in record { top = leZ-yes (r .1); low = leZ-yes (r .0) }
+test-within : (v : ℤ) → T (test v) → Within scoreLimit v
+test-within v t = let r = and-T (leZ (negℤ (pos scoreLimit)) v) (leZ v (pos scoreLimit)) t in record { top = leZ-yes (r .1); low = leZ-yes (r .0) }
 
 pub million : (l : List ℤ) → T (inRange l) → Bounded 1000000 l
-unfolding inRange
+unfolding inRange scoreLimit
 million l t z m = test-within z (all-in test l t m)
 
 pub range-bounded : (l : List ℤ) → T (inRange l) → Bounded (2 ^ 22) l

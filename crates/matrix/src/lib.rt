@@ -7,8 +7,9 @@ ghost use lib.ListN.{length, getD};
 ghost use lib.Signed.{leZ};
 ghost use Rattle.lists.specs.Lists.{all, below};
 ghost use Rattle.integers.specs.Integers.{eqZ};
-ghost use Rattle.clusters.specs.PairList.{rowStart, place, score, hasLength, inRange, areDistances};
-ghost use Rattle.interface.specs.Refusals.{wrongCount};
+ghost use Rattle.clusters.specs.PairList.{rowStart, place, score, scoreLimit, hasLength, inRange, areDistances};
+ghost use Rattle.interface.specs.Refusals.{firstOf, wrongCount};
+ghost use Rattle.matrix.specs.Checks.{lengthChecks, pairChecks};
 
 // The row starts: row i of the lower triangle starts at i(i+1)/2.
 const ROW_STARTS: [u16; 32] = [
@@ -125,7 +126,7 @@ pub fn has_length(n: usize, pairs: &[i32]) -> bool
 }
 
 fn is_in_range(v: i64) -> bool
-    ensures { λ r. ⌜ r ≡ (leZ (negℤ (pos 1000000)) v && leZ v (pos 1000000)) ⌝ }
+    ensures { λ r. ⌜ r ≡ (leZ (negℤ (pos scoreLimit)) v && leZ v (pos scoreLimit)) ⌝ }
 {
     integers::at_most(-1000000, v) && integers::at_most(v, 1000000)
 }
@@ -140,6 +141,33 @@ pub fn in_range(pairs: &[i32]) -> bool
         }
     }
     true
+}
+
+// Checks 6 and 10: the first number whose condition holds, 0 if none does.
+pub fn length_refusal(n: usize, pairs: &[i32]) -> usize
+    ensures { λ r. ⌜ r ≡ firstOf (lengthChecks n (now (pairs .entry))) ⌝ }
+{
+    if is_wrong_count(n) {
+        return 6;
+    }
+    if !has_length(n, pairs) {
+        return 10;
+    }
+    0
+}
+
+// Checks 6, 10 and 11, which the calls on a pair list make first.
+pub fn refusal(n: usize, pairs: &[i32]) -> usize
+    ensures { λ r. ⌜ r ≡ firstOf (pairChecks n (now (pairs .entry))) ⌝ }
+{
+    let refused = length_refusal(n, pairs);
+    if refused != 0 {
+        return refused;
+    }
+    if !in_range(pairs) {
+        return 11;
+    }
+    0
 }
 
 fn are_not_negative(pairs: &[i32]) -> bool

@@ -6,7 +6,7 @@ ghost use lib.ListN.{length, take, drop};
 ghost use Rattle.clusters.specs.Linkage.{singles};
 ghost use Rattle.clusters.specs.Groups.{splits};
 ghost use Rattle.kinds.specs.Kinds.{kindFor};
-ghost use Rattle.kinds.specs.Checked.{Checked};
+ghost use Rattle.matrix.specs.Checks.{Checked};
 ghost use Rattle.trees.specs.Trees.{Merged, Blocks};
 use kinds::Kind;
 

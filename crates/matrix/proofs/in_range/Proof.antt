@@ -9,13 +9,13 @@ use lib.ListN.{length}
 use lib.Signed.{leZ}
 use mir.Syntax.{w64}
 use Rattle.integers.proofs.Held.{passed}
-use Rattle.clusters.specs.PairList.{inRange}
+use Rattle.clusters.specs.PairList.{scoreLimit, inRange}
 use Rattle.lists.proofs.Walk.{started, Passed, next, failed, ended}
 use Rattle.matrix.proofs.in_range.Statement.{statement}
 use Rattle.matrix.proofs.in_range.Tie as tie
 
 abbrev Inv-loop : tie.InvT-loop
-Inv-loop pairs i₀ i-end i = (i ≤ i-end) × (i-end ≡ length pairs) × Passed (λ v. leZ (negℤ (pos 1000000)) v && leZ v (pos 1000000)) pairs i
+Inv-loop pairs i₀ i-end i = (i ≤ i-end) × (i-end ≡ length pairs) × Passed (λ v. leZ (negℤ (pos scoreLimit)) v && leZ v (pos scoreLimit)) pairs i
 
 abbrev μ-loop : tie.MeasureT-loop
 μ-loop pairs i₀ i-end i = i-end - i

@@ -1,0 +1,31 @@
+use mathlib.Core.Path.{sym, ap, _∙_}
+use mathlib.Core.Bool.{not}
+use borrow.Author.Needs.{needs}
+use Rattle.interface.proofs.Refusals.{gives, first-yes, first-no, no-more}
+use Rattle.matrix.specs.Checks.{pairChecks}
+use Rattle.matrix.proofs.Checks.{length-refused, length-passed}
+use Rattle.matrix.proofs.refusal.Statement.{statement}
+use Rattle.matrix.proofs.refusal.Tie as tie
+
+length-refusal-requires : tie.Need-length-refusal-requires
+length-refusal-requires c κs = search needs
+
+returns : tie.Need-returns
+unfolding pairChecks
+returns c = gives (length-refused _ _ (c .before .length-refusal .ensures) (c .if1 .taken))
+
+in-range-requires : tie.Need-in-range-requires
+in-range-requires c κs = search needs
+
+returns-2 : tie.Need-returns-2
+unfolding pairChecks
+returns-2 c = let p = c .before .before in
+    gives (length-passed _ _ (p .before .length-refusal .ensures) (p .if1 .left) (first-yes (ap not (sym (c .before .in-range .ensures)) ∙ c .if2 .taken)))
+
+returns-3 : tie.Need-returns-3
+unfolding pairChecks
+returns-3 c = let p = c .before .before in
+    gives (length-passed _ _ (p .before .length-refusal .ensures) (p .if1 .left) (first-no (ap not (sym (c .before .in-range .ensures)) ∙ c .if2 .left) no-more))
+
+pub refusal-spec : {M : Type 1} → statement M
+refusal-spec = tie.close (tie.spec length-refusal-requires returns in-range-requires returns-2 returns-3)
