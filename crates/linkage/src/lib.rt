@@ -89,20 +89,16 @@ pub fn merge_all(average: bool, n: usize, pairs: &[i32], out: &mut [u32])
 fn linkage(average: bool, n: usize, pairs: &[i32], blocks: &mut [u32]) -> Answer
     ensures { λ r. ⌜ LinkageCall (linkageOf average) n (now (pairs .entry)) (now (blocks .entry)) r (now (blocks .exit)) ⌝ }
 {
-    if matrix::is_wrong_count(n) {
-        return Answer::Refused(6);
+    let refused = matrix::refusal(n, pairs);
+    if refused != 0 {
+        return Answer::Refused(refused);
     }
-    if !matrix::has_length(n, pairs) {
-        return Answer::Refused(10);
-    }
-    if !matrix::in_range(pairs) {
-        return Answer::Refused(11);
-    }
-    if blocks.len() < n - 1 {
+    let count = n - 1;
+    if blocks.len() < count {
         return Answer::Refused(15);
     }
     merge_all(average, n, pairs, blocks);
-    Answer::Count(n - 1)
+    Answer::Count(count)
 }
 
 pub fn single_linkage(n: usize, pairs: &[i32], blocks: &mut [u32]) -> Answer
