@@ -12,7 +12,7 @@ use Rattle.lists.proofs.Tests.{and-T, T-and, T-same}
 use Rattle.lists.proofs.Lists.{below-lt, lt-below, all-in, in-all}
 use Rattle.integers.specs.Integers.{eqZ, half, even}
 use Rattle.integers.proofs.Linear.{up, dn, zarith, -at, yes-eqZ}
-use Rattle.clusters.specs.PairList.{Similarity, score, inRange, areDistances}
+use Rattle.clusters.specs.PairList.{Similarity, score, scoreLimit, inRange, areDistances}
 use Rattle.clusters.specs.Farris.{unfarris, distancesBack, isAnchored}
 use Rattle.clusters.proofs.PairList.{in-pairList, of-pairList}
 use Rattle.clusters.proofs.Farris.{score-back}
@@ -33,19 +33,20 @@ own-zero S a = ap half (less-itself (S a a +ℤ S a a))
 
 -- what check 11 asks of one value
 abbrev ranged : ℤ → Bool
-ranged z = leZ (negℤ (pos 1000000)) z && leZ z (pos 1000000)
+ranged z = leZ (negℤ (pos scoreLimit)) z && leZ z (pos scoreLimit)
 
-distance-parts : (z : ℤ) → T (isDistance z) → T (leZ (pos 0) z) × T (leZ z (pos 1000000))
+distance-parts : (z : ℤ) → T (isDistance z) → T (leZ (pos 0) z) × T (leZ z (pos scoreLimit))
 unfolding isDistance
-distance-parts z t = and-T (leZ (pos 0) z) (leZ z (pos 1000000)) t
+distance-parts z t = and-T (leZ (pos 0) z) (leZ z (pos scoreLimit)) t
 
-distance-ranged : (z : ℤ) → T (leZ (pos 0) z) × T (leZ z (pos 1000000)) → T (ranged z)
+distance-ranged : (z : ℤ) → T (leZ (pos 0) z) × T (leZ z (pos scoreLimit)) → T (ranged z)
+unfolding scoreLimit
 distance-ranged (pos a) (t, u) = u
 distance-ranged (negsuc a) (t, u) = absurd t
 
 ranged-distance : (z : ℤ) → T (ranged z) → T (leZ (pos 0) z) → T (isDistance z)
 unfolding isDistance
-ranged-distance z t u = T-and (leZ (pos 0) z) (leZ z (pos 1000000)) u (and-T (leZ (negℤ (pos 1000000)) z) (leZ z (pos 1000000)) t .1)
+ranged-distance z t u = T-and (leZ (pos 0) z) (leZ z (pos scoreLimit)) u (and-T (leZ (negℤ (pos scoreLimit)) z) (leZ z (pos scoreLimit)) t .1)
 
 module _ (n : ℕ) (l : List ℤ) where
   abbrev D : List ℤ
@@ -62,7 +63,7 @@ module _ (n : ℕ) (l : List ℤ) where
   fore t = T-and (inRange D) (areDistances n D) (in-all ranged D (λ z m. distance-ranged z (each z m)))
       (T-and (all (leZ (pos 0)) D) (all own (below n)) (in-all (leZ (pos 0)) D (λ z m. each z m .0)) (in-all own (below n) (λ a m. own-passes a (below-lt n m))))
     where
-      each : (z : ℤ) → z ∈ D → T (leZ (pos 0) z) × T (leZ z (pos 1000000))
+      each : (z : ℤ) → z ∈ D → T (leZ (pos 0) z) × T (leZ z (pos scoreLimit))
       each z m =
           let (a, b, h, k, e) = of-pairList n (unfarris (score l)) m in
           let r = all-in row (below n) t (lt-below n a h) in

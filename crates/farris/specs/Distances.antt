@@ -1,7 +1,8 @@
--- What 11 and 12 ask of one distance (document 01, Where a call is turned away): "a value .. above 1,000,000", "a negative value".
+-- The code's own vocabulary, which nobody need believe: what 11 and 12 ask of one distance.
 use mathlib.Core.Bool.{Bool, _&&_}
 use lib.IntN.{ℤ, pos}
 use lib.Signed.{leZ}
+use Rattle.clusters.specs.PairList.{scoreLimit}
 
 unfoldable pub isDistance : ℤ → Bool
-isDistance v = leZ (pos 0) v && leZ v (pos 1000000)
+isDistance v = leZ (pos 0) v && leZ v (pos scoreLimit)

@@ -1,4 +1,4 @@
--- Each way between distances and anchored scores, as the code holds it (document 01, Anchored scores).
+-- The code's own vocabulary, which nobody need believe: each way between distances and anchored scores.
 use mathlib.Core.List.{List}
 use Prim.Native.Nat.{ℕ, _<_}
 use lib.Dec.{T}

@@ -3,7 +3,7 @@ ghost use mathlib.Core.Path.{_≡_};
 ghost use mathlib.Core.Bool.{_&&_, _||_};
 ghost use mathlib.Core.List.{_++_, map};
 ghost use Prim.Native.Nat.{suc, _^_, _<_, _≤_};
-ghost use lib.Dec.{T, leb, ltb};
+ghost use lib.Dec.{T};
 ghost use lib.IntN.{pos};
 ghost use lib.ListN.{length, drop};
 ghost use lib.Seq.{sets};
@@ -12,7 +12,8 @@ ghost use Rattle.integers.specs.Integers.{eqZ, even};
 ghost use Rattle.integers.specs.Range.{Within};
 ghost use Rattle.clusters.specs.PairList.{rowStart, place, score, pairList, inRange, areDistances};
 ghost use Rattle.clusters.specs.Farris.{farris, unfarris, anchoredScores, distancesBack, isAnchored};
-ghost use Rattle.interface.specs.Refusals.{wrongCount, anchoredRefusal, backRefusal};
+ghost use Rattle.interface.specs.Refusals.{wrongAnchor, shortSlice, anchoredRefusal, backRefusal};
+ghost use Rattle.interface.specs.Calls.{AnchoredCall, BackCall};
 ghost use Rattle.answers.specs.Answers.{answer, slots};
 ghost use Rattle.farris.specs.Distances.{isDistance};
 ghost use Rattle.farris.specs.Ways.{converted, Convertible};
@@ -108,7 +109,7 @@ fn answered(refusal: usize, way: Way, n: usize, pairs: &[i32], out: &mut [i32]) 
 // Check 15, of every call on a list with an anchor: the anchor, and the room for the result.
 fn is_out_of_place(n: usize, x: usize, room: usize) -> bool
     requires { ⌜ n ≤ 32 ⌝ }
-    ensures { λ r. ⌜ r ≡ (leb n x || ltb room (rowStart n)) ⌝ }
+    ensures { λ r. ⌜ r ≡ (wrongAnchor n x || shortSlice room (rowStart n)) ⌝ }
 {
     if n <= x {
         return true;
@@ -120,14 +121,9 @@ fn is_out_of_place(n: usize, x: usize, room: usize) -> bool
 fn anchored_refusal(n: usize, x: usize, pairs: &[i32], room: usize) -> usize
     ensures { λ r. ⌜ r ≡ anchoredRefusal n x (now (pairs .entry)) room ⌝ }
 {
-    if matrix::is_wrong_count(n) {
-        return 6;
-    }
-    if !matrix::has_length(n, pairs) {
-        return 10;
-    }
-    if !matrix::in_range(pairs) {
-        return 11;
+    let refused = matrix::refusal(n, pairs);
+    if refused != 0 {
+        return refused;
     }
     if !matrix::are_distances(n, pairs) {
         return 12;
@@ -140,8 +136,7 @@ fn anchored_refusal(n: usize, x: usize, pairs: &[i32], room: usize) -> usize
 
 // The anchored call.
 pub fn anchored_scores(n: usize, x: usize, pairs: &[i32], out: &mut [i32]) -> Answer
-    ensures { λ r. ⌜ r ≡ answer (anchoredRefusal n x (now (pairs .entry)) (length (now (out .entry)))) (rowStart n) ⌝ }
-    ensures { λ _. ⌜ now (out .exit) ≡ slots (anchoredRefusal n x (now (pairs .entry)) (length (now (out .entry)))) (anchoredScores n x (now (pairs .entry))) (now (out .entry)) ⌝ }
+    ensures { λ r. ⌜ AnchoredCall n x (now (pairs .entry)) (now (out .entry)) r (now (out .exit)) ⌝ }
 {
     let refusal = anchored_refusal(n, x, pairs, out.len());
     answered(refusal, Way::Anchored(x), n, pairs, out)
@@ -214,11 +209,9 @@ fn is_anchored(n: usize, x: usize, scores: &[i32]) -> bool
 fn back_refusal(n: usize, x: usize, scores: &[i32], room: usize) -> usize
     ensures { λ r. ⌜ r ≡ backRefusal n x (now (scores .entry)) room ⌝ }
 {
-    if matrix::is_wrong_count(n) {
-        return 6;
-    }
-    if !matrix::has_length(n, scores) {
-        return 10;
+    let refused = matrix::length_refusal(n, scores);
+    if refused != 0 {
+        return refused;
     }
     if is_out_of_place(n, x, room) {
         return 15;
@@ -231,8 +224,7 @@ fn back_refusal(n: usize, x: usize, scores: &[i32], room: usize) -> usize
 
 // The way back.
 pub fn distances_back(n: usize, x: usize, scores: &[i32], out: &mut [i32]) -> Answer
-    ensures { λ r. ⌜ r ≡ answer (backRefusal n x (now (scores .entry)) (length (now (out .entry)))) (rowStart n) ⌝ }
-    ensures { λ _. ⌜ now (out .exit) ≡ slots (backRefusal n x (now (scores .entry)) (length (now (out .entry)))) (distancesBack n (now (scores .entry))) (now (out .entry)) ⌝ }
+    ensures { λ r. ⌜ BackCall n x (now (scores .entry)) (now (out .entry)) r (now (out .exit)) ⌝ }
 {
     let refusal = back_refusal(n, x, scores, out.len());
     answered(refusal, Way::Back, n, scores, out)

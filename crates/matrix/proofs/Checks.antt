@@ -14,13 +14,27 @@ use Rattle.interface.specs.Refusals.{Check, firstOf, wrongCount, check6, check1
 use Rattle.interface.proofs.Refusals.{Gives, no-first, first-front, first-back, some-count, right-count, right-length}
 use Rattle.matrix.specs.Checks.{lengthChecks, pairChecks, Checked}
 
+-- a table that goes on behind them and gives 0, read backwards
+module _ (n : ℕ) (l : List ℤ) (rest : List Check) where
+  pub length-none : firstOf (check6 n ∷ check10 n l ∷ rest) ≡ 0 → (n ≤ 32) × (length l ≡ rowStart n) × (firstOf rest ≡ 0)
+  length-none e =
+      let (c₆, e₆) = no-first 6 (wrongCount n) _ (lit< tt) e in
+      let (c₁₀, e₁₀) = no-first 10 (not (hasLength n l)) _ (lit< tt) e₆ in
+      (right-count n c₆, right-length n l c₁₀, e₁₀)
+
+  pub pairs-none : firstOf (check6 n ∷ check10 n l ∷ check11 l ∷ rest) ≡ 0 → Checked n l × (firstOf rest ≡ 0)
+  pairs-none e =
+      let (c₆, e₆) = no-first 6 (wrongCount n) _ (lit< tt) e in
+      let (c₁₀, e₁₀) = no-first 10 (not (hasLength n l)) _ (lit< tt) e₆ in
+      let (c₁₁, e₁₁) = no-first 11 (not (inRange l)) _ (lit< tt) e₁₀ in
+      let range = true-T (not-false (inRange l) c₁₁) in
+      (record { some = some-count n c₆; few = right-count n c₆; long = right-length n l c₁₀; range = range }, e₁₁)
+
+-- they give k, found by the code: what they leave if that is 0, and what the table gives
 module _ (n : ℕ) (l : List ℤ) {k : ℕ} (e : k ≡ firstOf (lengthChecks n l)) where
   pub length-left : k ≡ 0 → (n ≤ 32) × (length l ≡ rowStart n)
   unfolding lengthChecks
-  length-left z =
-      let (c₆, e₆) = no-first 6 (wrongCount n) _ (lit< tt) (sym e ∙ z) in
-      let (c₁₀, _) = no-first 10 (not (hasLength n l)) _ (lit< tt) e₆ in
-      (right-count n c₆, right-length n l c₁₀)
+  length-left z = let (few, long, _) = length-none n l [] (sym e ∙ z) in (few, long)
 
   pub length-refused : {rest : List Check} → (k ≡ 0 → ⊥) → Gives (check6 n ∷ check10 n l ∷ rest) k
   unfolding lengthChecks all
@@ -33,11 +47,7 @@ module _ (n : ℕ) (l : List ℤ) {k : ℕ} (e : k ≡ firstOf (lengthChecks n l
 module _ (n : ℕ) (l : List ℤ) {k : ℕ} (e : k ≡ firstOf (pairChecks n l)) where
   pub pairs-left : k ≡ 0 → Checked n l
   unfolding pairChecks
-  pairs-left z =
-      let (c₆, e₆) = no-first 6 (wrongCount n) _ (lit< tt) (sym e ∙ z) in
-      let (c₁₀, e₁₀) = no-first 10 (not (hasLength n l)) _ (lit< tt) e₆ in
-      let (c₁₁, _) = no-first 11 (not (inRange l)) _ (lit< tt) e₁₀ in
-      record { some = some-count n c₆; few = right-count n c₆; long = right-length n l c₁₀; range = true-T (not-false (inRange l) c₁₁) }
+  pairs-left z = pairs-none n l [] (sym e ∙ z) .0
 
   pub pairs-refused : {rest : List Check} → (k ≡ 0 → ⊥) → Gives (check6 n ∷ check10 n l ∷ check11 l ∷ rest) k
   unfolding pairChecks all

@@ -7,20 +7,22 @@ use Rattle.farris.proofs.Refusals.{anchored-passes}
 use Rattle.farris.proofs.anchored_scores.Statement.{statement}
 use Rattle.farris.proofs.anchored_scores.Tie as tie
 
+returns : tie.Need-returns
+unfolding anchoredScores converted
+returns c = let (a, w) = rw (c .before .before .before .anchored-refusal .ensures) at (c .before .answered .ensures) in
+    record { answered = a; written = w }
+
 anchored-refusal-requires : tie.Need-anchored-refusal-requires
 anchored-refusal-requires c κs = search needs
 
 answered-requires : tie.Need-answered-requires
 unfolding Convertible
 answered-requires c κs z = let r = c .before in let a = r .before .args in
-    let (n, x, l, v, o) = anchored-passes (a .n) (a .x) (a .pairs .now) (length (a .out .now)) (sym (r .anchored-refusal .ensures) ∙ z) in (n, l, (x, v), o)
+    let (k, x, room) = anchored-passes (a .n) (a .x) (a .pairs .now) (length (a .out .now)) (sym (r .anchored-refusal .ensures) ∙ z) in
+    (k .few, k .long, (x, k .range), room)
 
 same-length : tie.Need-same-length
 same-length c = search needs
-
-returns : tie.Need-returns
-unfolding anchoredScores converted
-returns c = rw (c .before .before .before .anchored-refusal .ensures) at (c .before .answered .ensures)
 
 pub anchored-scores-spec : {M : Type 1} → statement M
 anchored-scores-spec = tie.close (tie.spec anchored-refusal-requires answered-requires same-length returns)
