@@ -1,22 +1,23 @@
 -- The two ways out of the numbers call.
 use mathlib.Core.Path.{_≡_, sym, ap, _∙_}
-use mathlib.Core.Bool.{not, _||_}
+use mathlib.Core.Bool.{false}
 use mathlib.Core.List.{List, _++_, map, map-map, map-id}
 use Prim.Native.Nat.{ℕ, _*_, _-_, _≤_}
 use native.Mathlib.Omega.{arith}
-use borrow.Author.Tests.{eq-eqb, ne-eqb, ltb-false, not-false}
+use borrow.Author.Tests.{eq-eqb, ne-eqb, ltb-false}
 use lib.Dec.{ltb, lit<}
 use lib.IntN.{ℤ, pos}
 use lib.ListN.{length, replicate, length-take, length-map}
-use Rattle.lists.proofs.Tests.{true-T, or-none}
+use Rattle.lists.proofs.Tests.{or-none}
 use Rattle.clusters.specs.Groups.{Kind, index, groupSets, groups, kindOf}
-use Rattle.clusters.specs.PairList.{score, hasLength, inRange}
-use Rattle.interface.specs.Refusals.{wrongKind, wrongCount, wrongDistances, numbersChecks, numbersRefusal}
-use Rattle.interface.proofs.Refusals.{no-first, some-count, right-count, right-length}
+use Rattle.clusters.specs.PairList.{score}
+use Rattle.interface.specs.Refusals.{wrongKind, wrongDistances, fewSlots, numbersChecks, numbersRefusal}
+use Rattle.interface.proofs.Refusals.{no-first}
 use Rattle.answers.specs.Answers.{answer, filled}
 use Rattle.answers.specs.declared.Answer.the-variants.{Count, Refused}
 use Rattle.answers.proofs.WaysOut.{refused}
 use Rattle.matrix.specs.Checks.{Checked}
+use Rattle.matrix.proofs.Checks.{pairs-none}
 use Rattle.interface.specs.Listing.{groupsFound}
 use Rattle.interface.specs.Calls.{setsFound, indicesFound, NumbersCall}
 use Rattle.groups.specs.Found.{setsOf, indicesOf, Groups}
@@ -24,20 +25,22 @@ use Rattle.groups.specs.declared.Found.{Found}
 use Rattle.groups.proofs.Listing.{groups-few}
 
 -- what the call relies on once no check refuses it
-pub numbers-pass : (kind : ℤ) (n : ℕ) (l : List ℤ) (sets indices : ℕ) → numbersRefusal kind n l sets indices ≡ 0 → Checked n l × (2 * n ≤ sets) × (2 * n ≤ indices)
+room : (n sets indices : ℕ) → fewSlots n sets indices ≡ false → (2 * n ≤ sets) × (2 * n ≤ indices)
+unfolding fewSlots
+room n sets indices e =
+    let (p, q) = or-none (ltb sets (2 * n)) (ltb indices (2 * n)) e in
+    (ltb-false sets (2 * n) p, ltb-false indices (2 * n) q)
+
+pub numbers-pass : (kind : ℤ) (n : ℕ) (l : List ℤ) (sets indices : ℕ) → numbersRefusal kind n l sets indices ≡ 0
+    → Checked n l × (2 * n ≤ sets) × (2 * n ≤ indices)
 unfolding numbersRefusal numbersChecks
-numbers-pass kind n l sets indices e₀ =
-    let (c₁, e₁) = no-first 1 (wrongKind kind) _ (lit< tt) e₀ in
-    let (c₆, e₆) = no-first 6 (wrongCount n) _ (lit< tt) e₁ in
-    let (c₁₀, e₁₀) = no-first 10 (not (hasLength n l)) _ (lit< tt) e₆ in
-    let (c₁₁, e₁₁) = no-first 11 (not (inRange l)) _ (lit< tt) e₁₀ in
+numbers-pass kind n l sets indices e =
+    let (c₁, e₁) = no-first 1 (wrongKind kind) _ (lit< tt) e in
+    let (checked, e₁₁) = pairs-none n l _ e₁ in
     let (c₁₂, e₁₂) = no-first 12 (wrongDistances kind n l) _ (lit< tt) e₁₁ in
-    let (c₁₃, e₁₃) = no-first 13 (ltb sets (2 * n) || ltb indices (2 * n)) _ (lit< tt) e₁₂ in
-    let (p, q) = or-none (ltb sets (2 * n)) (ltb indices (2 * n)) c₁₃ in (
-      record { some = some-count n c₆; few = right-count n c₆; long = right-length n l c₁₀; range = true-T (not-false (inRange l) c₁₁) },
-      ltb-false sets (2 * n) p,
-      ltb-false indices (2 * n) q,
-    )
+    let (c₁₃, _) = no-first 13 (fewSlots n sets indices) _ (lit< tt) e₁₂ in
+    let (p, q) = room n sets indices c₁₃ in
+    (checked, p, q)
 
 -- the sets and the indices of the groups
 sets-found : (kind : ℤ) (n : ℕ) (l : List ℤ) → setsFound kind n l ≡ groupSets (kindOf kind) n (score l)
