@@ -1,4 +1,5 @@
 pub mod Pieces
 pub mod Bytes
 pub mod Words
+pub mod Values
 pub mod Numerals

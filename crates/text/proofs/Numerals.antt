@@ -15,21 +15,34 @@ use mir.Val.{SFits, toZ, boolByte}
 use mir.Syntax.{w32}
 use mir.Facts.{toZ-pos}
 use Rattle.lists.specs.Lists.{all}
-use Rattle.interface.specs.Sheet.{isDigit, isNumeral, isValue, numberFrom, valueOf}
-use Rattle.text.specs.Reading.{pieceAt, digits, readOn, isEnd, valueAt}
+use Rattle.interface.specs.Sheet.{isDigit, isNumeral, isValue, digitValue, numberFrom, valueOf}
+use Rattle.text.specs.Reading.{pieceAt, digits, readOn, isEnd}
 use Rattle.text.specs.declared.Digits.{Digits}
-use Rattle.text.specs.declared.ValueRead.the-variants.{Value, Refused}
+use Rattle.text.specs.declared.ValueRead.{ValueRead}
+use Rattle.text.specs.declared.ValueRead.the-variants.{Refused}
 use Rattle.text.proofs.Pieces.{here, piece-none, piece-stop, piece-step}
-use Rattle.text.proofs.Words.{and-left, and-right, empty}
+use Rattle.text.proofs.Words.{and-both, empty}
+use Rattle.text.proofs.Values.{valueIf, valueAt}
 
 -- a digit
 pub digit-low : (b : ℕ) → isDigit b ≡ true → 48 ≤ b
 unfolding isDigit
-digit-low b e = leb-true 48 b (and-left (leb 48 b) (leb b 57) e)
+digit-low b e = leb-true 48 b (and-both (leb 48 b) (leb b 57) e .0)
 
 pub digit-high : (b : ℕ) → isDigit b ≡ true → b ≤ 57
 unfolding isDigit
-digit-high b e = leb-true b 57 (and-right (leb 48 b) (leb b 57) e)
+digit-high b e = leb-true b 57 (and-both (leb 48 b) (leb b 57) e .1)
+
+pub digit-value : (b : ℕ) → isDigit b ≡ true → digitValue b ≡ b - 48
+unfolding digitValue
+digit-value b e = rw e
+
+digit-zero : (b : ℕ) → isDigit b ≡ true → eqb b 48 ≡ eqb (digitValue b) 0
+digit-zero b e = rw (digit-value b e) (go (eqb b 48) refl)
+  where
+    go : (x : Bool) → eqb b 48 ≡ x → eqb b 48 ≡ eqb (b - 48) 0
+    go true t = t ∙ sym (eq-eqb (b - 48) 0 (omega (arith, eqb-true b 48 t)))
+    go false t = t ∙ sym (ne-eqb (b - 48) 0 (λ z. eqb-false b 48 t (omega (arith, digit-low b e))))
 
 -- a number grows by a digit
 pub ten-step : (k v d : ℕ) → v < 10 ^ k → d ≤ 9 → v * 10 + d < 10 ^ (k + 1)
@@ -39,7 +52,8 @@ pub ten-bound : (k n : ℕ) → k ≤ n → 10 ^ k ≤ 10 ^ n
 ten-bound k n p = pow-le-pow-right (lit< tt) p
 
 -- digits read on from a place: nothing is left to read, the line ends, another byte stands there, a digit does
-pub read-nothing : (v i k : ℕ) (s : List ℕ) → digits k (drop i s) ≡ [] → record { number = v; end = i } ≡ readOn v i (digits k (drop i s))
+pub read-nothing : (v i k : ℕ) (s : List ℕ) → digits k (drop i s) ≡ []
+    → record { number = v; end = i } ≡ readOn v i (digits k (drop i s))
 unfolding readOn numberFrom
 read-nothing v i k s e = let z : i + 0 ≡ i = omega arith in rw (e, z)
 
@@ -64,15 +78,16 @@ module _ (k : ℕ) (s : List ℕ) (i : ℕ) where
       go zero = refl
       go (suc k) = rw e
 
-pub read-digit : (v k i : ℕ) (s : List ℕ) → 0 < k → i < length s → isDigit (getD s i 0) ≡ true → readOn v i (digits k (drop i s)) ≡ readOn (v * 10 + (getD s i 0 - 48)) (i + 1) (digits (k - 1) (drop (i + 1) s))
+pub read-digit : (v k i : ℕ) (s : List ℕ) → 0 < k → i < length s → isDigit (getD s i 0) ≡ true
+    → readOn v i (digits k (drop i s)) ≡ readOn (v * 10 + (getD s i 0 - 48)) (i + 1) (digits (k - 1) (drop (i + 1) s))
 unfolding digits readOn numberFrom
 read-digit v zero i s p h e = absurd (omega arith)
 read-digit v (suc k) i s p h e =
     let q : suc k - 1 ≡ k = omega arith in
     let r : i + suc (length (digits k (drop (i + 1) s))) ≡ i + 1 + length (digits k (drop (i + 1) s)) = omega arith in
-    rw (here s i h, e, q, r)
+    rw (← digit-value (getD s i 0) e, here s i h, e, q, r)
 
-pub digits-read : (r : Digits) (v at : ℕ) (ds : List ℕ) → r ≡ readOn v at ds → (r .number ≡ numberFrom v ds) × (r .end ≡ at + length ds)
+pub digits-read : (r : Digits) (v at : ℕ) (ds : List ℕ) → r ≡ readOn v at ds → (r .number ≡ numberFrom 10 v ds) × (r .end ≡ at + length ds)
 unfolding readOn
 digits-read r v at ds e = (ap (λ (d : Digits). d .number) e, ap (λ (d : Digits). d .end) e)
 
@@ -100,12 +115,15 @@ record Start (k : ℕ) (t ds : List ℕ) : Type 0 where
 
 nothing : (k : ℕ) (t : List ℕ) → (isEnd t ≡ false → isRun k (pieceAt 32 t 0) ≡ false) → Start k t []
 unfolding all
-nothing k t f = record { run = le-leb 0 k (omega arith); inside = omega arith; first = λ h. absurd (omega arith); whole = first-end t; part = f }
+nothing k t f =
+    record { run = le-leb 0 k (omega arith); inside = omega arith; first = λ h. absurd (omega arith); whole = first-end t; part = f }
 
 digits-start : (k : ℕ) (t : List ℕ) → Start k t (digits k t)
 unfolding digits isEnd all
 digits-start zero [] = nothing 0 [] (λ e. absurd (true≢false e))
-digits-start zero (b ∷ t) = nothing 0 (b ∷ t) (λ e. rw (first-step b t e) (rw (lt-leb (suc (length (pieceAt 32 t 0))) 0 (omega arith)) (and-false (all isDigit (b ∷ pieceAt 32 t 0)))))
+digits-start zero (b ∷ t) =
+    let w = b ∷ pieceAt 32 t 0 in
+    nothing 0 (b ∷ t) (λ e. rw (first-step b t e) (rw (lt-leb (length w) 0 (omega arith)) (and-false (all isDigit w))))
 digits-start (suc k) [] = nothing (suc k) [] (λ e. absurd (true≢false e))
 digits-start (suc k) (b ∷ t) = go (isDigit b) refl (digits-start k t)
   where
@@ -122,7 +140,8 @@ digits-start (suc k) (b ∷ t) = go (isDigit b) refl (digits-start k t)
     go false d r = nothing (suc k) (b ∷ t) (λ e. rw (first-step b t e, d))
 
 -- a numeral by its first byte and its length
-numeral-is : (w : List ℕ) → 0 < length w → isNumeral w ≡ (isRun 7 w && (not (eqb (getD w 0 0) 48) || eqb (length w) 1))
+numeral-is : (w : List ℕ) → 0 < length w
+    → isNumeral w ≡ (isRun 7 w && (not (eqb (getD w 0 0) 48) || eqb (length w) 1))
 unfolding isNumeral
 numeral-is [] h = absurd (omega arith)
 numeral-is (b ∷ w) h = rw (leb·suc-suc (length w) 6, eqb·suc-suc (length w) 0)
@@ -152,7 +171,8 @@ module _ (s : List ℕ) (from end : ℕ) (is : end ≡ from + length (digits 7 (
   unfolding isNumeral
   numeral-none e z = ap isNumeral (numeral-whole e) ∙ empty isNumeral (digits 7 (drop from s)) (omega arith) refl
 
-  pub numeral-test : isEnd (drop end s) ≡ true → (end ≡ from → ⊥) → isNumeral (pieceAt 32 s from) ≡ (not (eqb (getD s from 0) 48) || eqb (end - from) 1)
+  pub numeral-test : isEnd (drop end s) ≡ true → (end ≡ from → ⊥)
+      → isNumeral (pieceAt 32 s from) ≡ (not (eqb (getD s from 0) 48) || eqb (end - from) 1)
   numeral-test e f =
       let ds = digits 7 (drop from s) in
       let r = digits-start 7 (drop from s) in
@@ -170,49 +190,52 @@ module _ (s : List ℕ) (from end : ℕ) (is : end ≡ from + length (digits 7 (
       go false t = absurd (true≢false (sym e ∙ numeral-part t))
 
 -- the number that digits stand for: its size, and when it is 0
-number-small : (k v : ℕ) (w : List ℕ) → v < 10 ^ k → all isDigit w ≡ true → numberFrom v w < 10 ^ (k + length w)
+number-small : (k v : ℕ) (w : List ℕ) → v < 10 ^ k → all isDigit w ≡ true → numberFrom 10 v w < 10 ^ (k + length w)
 unfolding numberFrom all
 number-small k v [] p e = let z : k + 0 ≡ k = omega arith in rw z p
 number-small k v (b ∷ w) p e =
-    let d = and-left (isDigit b) (all isDigit w) e in
-    let q : b - 48 ≤ 9 = omega (arith, digit-high b d) in
+    let (d, r) = and-both (isDigit b) (all isDigit w) e in
+    let q : digitValue b ≤ 9 = omega (arith, digit-value b d, digit-high b d) in
     let z : k + suc (length w) ≡ k + 1 + length w = omega arith in
-    rw z (number-small (k + 1) (v * 10 + (b - 48)) w (ten-step k v (b - 48) p q) (and-right (isDigit b) (all isDigit w) e))
+    rw z (number-small (k + 1) (v * 10 + digitValue b) w (ten-step k v (digitValue b) p q) r)
 
-pub digits-small : (t : List ℕ) → numberFrom 0 (digits 7 t) < 10000000
+pub digits-small : (t : List ℕ) → numberFrom 10 0 (digits 7 t) < 10000000
 digits-small t =
     let ds = digits 7 t in
-    let r = digits-start 7 t .run in
-    let n = leb-true (length ds) 7 (and-right (all isDigit ds) (leb (length ds) 7) r) in
-    omega (arith, number-small 0 0 ds (lit< tt) (and-left (all isDigit ds) (leb (length ds) 7) r), ten-bound (0 + length ds) 7 (omega arith))
+    let (d, s) = and-both (all isDigit ds) (leb (length ds) 7) (digits-start 7 t .run) in
+    let n = leb-true (length ds) 7 s in
+    omega (arith, number-small 0 0 ds (lit< tt) d, ten-bound (0 + length ds) 7 (omega arith))
 
-number-grows : (v : ℕ) (w : List ℕ) → v ≤ numberFrom v w
+number-grows : (v : ℕ) (w : List ℕ) → v ≤ numberFrom 10 v w
 unfolding numberFrom
 number-grows v [] = omega arith
-number-grows v (b ∷ w) = omega (arith, number-grows (v * 10 + (b - 48)) w)
+number-grows v (b ∷ w) = omega (arith, number-grows (v * 10 + digitValue b) w)
 
-first-zero : (b : ℕ) (w : List ℕ) → 48 ≤ b → (not (eqb b 48) || eqb (length w) 0) ≡ true → eqb b 48 ≡ eqb (numberFrom (0 * 10 + (b - 48)) w) 0
+-- a number whose first digit is d, if no other digit follows a 0
+first-zero : (d : ℕ) (w : List ℕ) → (not (eqb d 0) || eqb (length w) 0) ≡ true → eqb d 0 ≡ eqb (numberFrom 10 d w) 0
 unfolding numberFrom
-first-zero b w low t = go w (eqb b 48) refl t
+first-zero d w t = go w (eqb d 0) refl t
   where
-    go : (w : List ℕ) (x : Bool) → eqb b 48 ≡ x → (not x || eqb (length w) 0) ≡ true → eqb b 48 ≡ eqb (numberFrom (0 * 10 + (b - 48)) w) 0
-    go w false n t = n ∙ sym (ne-eqb (numberFrom (0 * 10 + (b - 48)) w) 0 (λ z. eqb-false b 48 n (omega (arith, z, number-grows (0 * 10 + (b - 48)) w))))
-    go [] true n t = n ∙ sym (eq-eqb (0 * 10 + (b - 48)) 0 (omega (arith, eqb-true b 48 n)))
-    go (d ∷ w) true n t = absurd (true≢false (sym t ∙ ne-eqb (suc (length w)) 0 (λ z. absurd (omega arith))))
+    go : (w : List ℕ) (x : Bool) → eqb d 0 ≡ x → (not x || eqb (length w) 0) ≡ true → eqb d 0 ≡ eqb (numberFrom 10 d w) 0
+    go w false n t = n ∙ sym (ne-eqb (numberFrom 10 d w) 0 (λ z. eqb-false d 0 n (omega (arith, z, number-grows d w))))
+    go [] true n t = refl
+    go (b ∷ w) true n t = absurd (true≢false (sym t ∙ ne-eqb (suc (length w)) 0 (λ z. absurd (omega arith))))
 
-number-zero : (w : List ℕ) → isNumeral w ≡ true → eqb (getD w 0 0) 48 ≡ eqb (numberFrom 0 w) 0
+number-zero : (w : List ℕ) → isNumeral w ≡ true → eqb (getD w 0 0) 48 ≡ eqb (numberFrom 10 0 w) 0
 unfolding isNumeral numberFrom all
 number-zero [] e = absurd (true≢false (sym e))
 number-zero (b ∷ w) e =
-    let run = and-left (isDigit b && all isDigit w && leb (length w) 6) (not (eqb b 48) || eqb (length w) 0) e in
-    let d = and-left (isDigit b) (all isDigit w) (and-left (isDigit b && all isDigit w) (leb (length w) 6) run) in
-    first-zero b w (digit-low b d) (and-right (isDigit b && all isDigit w && leb (length w) 6) (not (eqb b 48) || eqb (length w) 0) e)
+    let (run, t) = and-both (isDigit b && all isDigit w && leb (length w) 6) (not (eqb b 48) || eqb (length w) 0) e in
+    let d = and-both (isDigit b) (all isDigit w) (and-both (isDigit b && all isDigit w) (leb (length w) 6) run .0) .0 in
+    let z = digit-zero b d in
+    let k : 0 * 10 + digitValue b ≡ digitValue b = omega arith in
+    z ∙ first-zero (digitValue b) w (rw z at t) ∙ ap (λ (m : ℕ). eqb (numberFrom 10 m w) 0) (sym k)
 
 -- a value by its sign and the numeral behind it
-minus-test : (w : List ℕ) → (isNumeral w && not (eqb (getD w 0 0) 48)) ≡ (isNumeral w && not (eqb (numberFrom 0 w) 0))
+minus-test : (w : List ℕ) → (isNumeral w && not (eqb (getD w 0 0) 48)) ≡ (isNumeral w && not (eqb (numberFrom 10 0 w) 0))
 minus-test w = go (isNumeral w) refl
   where
-    go : (x : Bool) → isNumeral w ≡ x → (x && not (eqb (getD w 0 0) 48)) ≡ (x && not (eqb (numberFrom 0 w) 0))
+    go : (x : Bool) → isNumeral w ≡ x → (x && not (eqb (getD w 0 0) 48)) ≡ (x && not (eqb (numberFrom 10 0 w) 0))
     go true e = ap not (number-zero w e)
     go false e = refl
 
@@ -221,7 +244,7 @@ unfolding isValue isNumeral
 plain-test [] e = refl
 plain-test (b ∷ w) e = rw e
 
-plain-value : (w : List ℕ) → eqb (getD w 0 0) 45 ≡ false → valueOf w ≡ pos (numberFrom 0 w)
+plain-value : (w : List ℕ) → eqb (getD w 0 0) 45 ≡ false → valueOf w ≡ pos (numberFrom 10 0 w)
 unfolding valueOf numberFrom
 plain-value [] e = refl
 plain-value (b ∷ w) e = rw e
@@ -229,6 +252,10 @@ plain-value (b ∷ w) e = rw e
 abbrev pub signed : Bool → ℕ → ℤ
 signed true n = negℤ (pos n)
 signed false n = pos n
+
+-- what is read where digits that stand for n end at a place, if they are a numeral
+abbrev pub numberRead : (negative good : Bool) (n place : ℕ) → ValueRead
+numberRead negative good n place = valueIf (good && not (negative && eqb n 0)) (signed negative n) place
 
 module _ (s : List ℕ) (at : ℕ) (h : at < length s) where
   first-byte : eqb (getD s at 0) 45 ≡ false → eqb (getD (pieceAt 32 s at) 0 0) 45 ≡ false
@@ -238,7 +265,8 @@ module _ (s : List ℕ) (at : ℕ) (h : at < length s) where
       go true t = rw (piece-stop 32 s at h (eqb-true _ 32 t))
       go false t = rw (piece-step 32 s at h (eqb-false _ 32 t)) e
 
-  pub value-is : (x : Bool) (w : List ℕ) → eqb (getD s at 0) 45 ≡ x → pieceAt 32 s (at + boolByte x) ≡ w → valueAt s at ≡ cond (isNumeral w && not (x && eqb (numberFrom 0 w) 0)) (Value (signed x (numberFrom 0 w)) (record { at = at + boolByte x + length w })) Refused
+  pub value-is : (x : Bool) (w : List ℕ) → eqb (getD s at 0) 45 ≡ x → pieceAt 32 s (at + boolByte x) ≡ w
+      → valueAt s at ≡ numberRead x (isNumeral w) (numberFrom 10 0 w) (at + boolByte x + length w)
   unfolding valueAt isValue valueOf
   value-is true w e p =
       let b = eqb-true (getD s at 0) 45 e in

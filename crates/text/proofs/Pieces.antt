@@ -1,6 +1,6 @@
 -- The pieces of a list from a place on, one after the other.
 use mathlib.Core.Path.{_≡_, refl, sym, ap, _∙_}
-use mathlib.Core.Bool.{Bool, true, false, cond, _||_}
+use mathlib.Core.Bool.{Bool, true, false, _||_}
 use mathlib.Core.List.{List, [], _∷_}
 use Prim.Native.Nat.{ℕ, zero, suc, _+_, _-_, _≤_, _<_}
 use native.Mathlib.Numerals.{add-one}
@@ -10,7 +10,9 @@ use borrow.Author.Tests.{eq-eqb, ne-eqb, eqb-true, eqb-false, ltb-true, ltb-fals
 use lib.Dec.{eqb, ltb}
 use lib.ListN.{length, getD, take, drop, length-drop, drop-of-length-le}
 use lib.Seq.{drop-cons, drop-drop, take-all}
+use Rattle.lists.proofs.Tests.{cond-elim}
 use Rattle.interface.specs.Sheet.{longer, cut}
+use Rattle.interface.proofs.Pieces.{some-piece}
 use Rattle.text.specs.Reading.{pieceAt}
 
 -- the list from a place on is its first byte and the list from the next place on
@@ -26,75 +28,70 @@ unfolding longer
 longer-first b [] = refl
 longer-first b (w ∷ ws) = refl
 
+-- of the pieces ws of a list t: the first is the start of t; without its first k bytes it is the first of what is left; where c ends it,
+-- the others are those of what follows, and else there are no others
+abbrev first : List (List ℕ) → List ℕ
+first ws = getD ws 0 []
+
+abbrev On : ℕ → ℕ → List ℕ → List (List ℕ) → Type 0
+On c k t ws = k ≤ length (first ws) → length (first ws) ≡ k + length (first (cut c (drop k t)))
+
+abbrev More : ℕ → List ℕ → List (List ℕ) → Type 0
+More c t ws = length (first ws) < length t → ws ≡ first ws ∷ cut c (drop (suc (length (first ws))) t)
+
+abbrev Last : List ℕ → List (List ℕ) → Type 0
+Last t ws = length t ≤ length (first ws) → ws ≡ first ws ∷ []
+
 module _ (c : ℕ) where
-  -- the first piece is the start of the list
-  first-le : (t : List ℕ) → length (getD (cut c t) 0 []) ≤ length t
+  first-le : (t : List ℕ) → length (first (cut c t)) ≤ length t
   unfolding cut
   first-le [] = omega arith
-  first-le (b ∷ t) = go (eqb b c) (first-le t)
-    where
-      go : (x : Bool) → length (getD (cut c t) 0 []) ≤ length t → length (getD (cond x ([] ∷ cut c t) (longer b (cut c t))) 0 []) ≤ suc (length t)
-      go true h = omega arith
-      go false h = rw (longer-first b (cut c t)) (omega arith)
+  first-le (b ∷ t) =
+      let ws = cut c t in
+      cond-elim (eqb b c) ([] ∷ ws) (longer b ws) (λ vs. length (first vs) ≤ suc (length t))
+      (λ _. omega arith)
+      (λ _. rw (longer-first b ws) (omega (arith, first-le t)))
 
-  first-take : (t : List ℕ) → take (length (getD (cut c t) 0 [])) t ≡ getD (cut c t) 0 []
+  first-take : (t : List ℕ) → take (length (first (cut c t))) t ≡ first (cut c t)
   unfolding cut
   first-take [] = refl
-  first-take (b ∷ t) = go (eqb b c) (first-take t)
-    where
-      go : (x : Bool) → take (length (getD (cut c t) 0 [])) t ≡ getD (cut c t) 0 [] → take (length (getD (cond x ([] ∷ cut c t) (longer b (cut c t))) 0 [])) (b ∷ t) ≡ getD (cond x ([] ∷ cut c t) (longer b (cut c t))) 0 []
-      go true e = refl
-      go false e = rw (longer-first b (cut c t)) (ap (λ (l : List ℕ). b ∷ l) e)
+  first-take (b ∷ t) =
+      let ws = cut c t in
+      cond-elim (eqb b c) ([] ∷ ws) (longer b ws) (λ vs. take (length (first vs)) (b ∷ t) ≡ first vs)
+      (λ _. refl)
+      (λ _. rw (longer-first b ws) (ap (λ (l : List ℕ). b ∷ l) (first-take t)))
 
-  -- the first piece without its first k bytes
-  first-on : (k : ℕ) (t : List ℕ) → k ≤ length (getD (cut c t) 0 []) → length (getD (cut c t) 0 []) ≡ k + length (getD (cut c (drop k t)) 0 [])
+  first-on : (k : ℕ) (t : List ℕ) → On c k t (cut c t)
   unfolding cut
   first-on zero t h = omega arith
   first-on (suc k) [] h = absurd (omega arith)
-  first-on (suc k) (b ∷ t) h = go (eqb b c) (first-on k t) h
-    where
-      go : (x : Bool) → (k ≤ length (getD (cut c t) 0 []) → length (getD (cut c t) 0 []) ≡ k + length (getD (cut c (drop k t)) 0 [])) → suc k ≤ length (getD (cond x ([] ∷ cut c t) (longer b (cut c t))) 0 []) → length (getD (cond x ([] ∷ cut c t) (longer b (cut c t))) 0 []) ≡ suc k + length (getD (cut c (drop k t)) 0 [])
-      go true ih p = absurd (omega arith)
-      go false ih p =
-          let e = ap length (longer-first b (cut c t)) in
-          omega (arith, e, ih (omega (arith, e)))
+  first-on (suc k) (b ∷ t) h =
+      let ws = cut c t in
+      let e = ap length (longer-first b ws) in
+      cond-elim (eqb b c) ([] ∷ ws) (longer b ws) (On c (suc k) (b ∷ t))
+      (λ _ h. absurd (omega arith))
+      (λ _ h. omega (arith, e, first-on k t (omega (arith, e))))
+      h
 
-  -- a piece that c ends, and the last
-  first-more : (t : List ℕ) → length (getD (cut c t) 0 []) < length t → cut c t ≡ getD (cut c t) 0 [] ∷ cut c (drop (suc (length (getD (cut c t) 0 []))) t)
+  first-more : (t : List ℕ) → More c t (cut c t)
   unfolding cut longer
   first-more [] h = absurd (omega arith)
-  first-more (b ∷ t) h = go (eqb b c) (first-more t) h
-    where
-      go : (x : Bool) → (length (getD (cut c t) 0 []) < length t → cut c t ≡ getD (cut c t) 0 [] ∷ cut c (drop (suc (length (getD (cut c t) 0 []))) t)) → length (getD (cond x ([] ∷ cut c t) (longer b (cut c t))) 0 []) < suc (length t) → cond x ([] ∷ cut c t) (longer b (cut c t)) ≡ getD (cond x ([] ∷ cut c t) (longer b (cut c t))) 0 [] ∷ cut c (drop (suc (length (getD (cond x ([] ∷ cut c t) (longer b (cut c t))) 0 []))) (b ∷ t))
-      go true ih p = refl
-      go false ih p =
-          let q : length (getD (cut c t) 0 []) < length t = omega (arith, ap length (longer-first b (cut c t))) in
-          rw (longer-first b (cut c t)) (ap (longer b) (ih q))
+  first-more (b ∷ t) h =
+      let ws = cut c t in
+      cond-elim (eqb b c) ([] ∷ ws) (longer b ws) (More c (b ∷ t))
+      (λ _ h. refl)
+      (λ _ h. rw (longer-first b ws) (ap (longer b) (first-more t (omega (arith, ap length (longer-first b ws))))))
+      h
 
-  first-last : (t : List ℕ) → length t ≤ length (getD (cut c t) 0 []) → cut c t ≡ getD (cut c t) 0 [] ∷ []
+  first-last : (t : List ℕ) → Last t (cut c t)
   unfolding cut longer
   first-last [] h = refl
-  first-last (b ∷ t) h = go (eqb b c) (first-last t) h
-    where
-      go : (x : Bool) → (length t ≤ length (getD (cut c t) 0 []) → cut c t ≡ getD (cut c t) 0 [] ∷ []) → suc (length t) ≤ length (getD (cond x ([] ∷ cut c t) (longer b (cut c t))) 0 []) → cond x ([] ∷ cut c t) (longer b (cut c t)) ≡ getD (cond x ([] ∷ cut c t) (longer b (cut c t))) 0 [] ∷ []
-      go true ih p = absurd (omega arith)
-      go false ih p =
-          let q : length t ≤ length (getD (cut c t) 0 []) = omega (arith, ap length (longer-first b (cut c t))) in
-          rw (longer-first b (cut c t)) (ap (longer b) (ih q))
-
-  -- there is a piece
-  pub some-piece : (t : List ℕ) → 0 < length (cut c t)
-  unfolding cut longer
-  some-piece [] = omega arith
-  some-piece (b ∷ t) = go (eqb b c) (some-piece t)
-    where
-      long : (ws : List (List ℕ)) → 0 < length (longer b ws)
-      long [] = omega arith
-      long (w ∷ ws) = omega arith
-
-      go : (x : Bool) → 0 < length (cut c t) → 0 < length (cond x ([] ∷ cut c t) (longer b (cut c t)))
-      go true h = omega arith
-      go false h = long (cut c t)
+  first-last (b ∷ t) h =
+      let ws = cut c t in
+      cond-elim (eqb b c) ([] ∷ ws) (longer b ws) (Last (b ∷ t))
+      (λ _ h. absurd (omega arith))
+      (λ _ h. rw (longer-first b ws) (ap (longer b) (first-last t (omega (arith, ap length (longer-first b ws))))))
+      h
 
 longer-length : (b : ℕ) (ws : List (List ℕ)) → 0 < length ws → length (longer b ws) ≡ length ws
 unfolding longer
@@ -142,7 +139,8 @@ module _ (c : ℕ) (s : List ℕ) (from end : ℕ) (inside : from ≤ length s) 
   pieces-more h =
       let p : length (getD (cut c (drop from s)) 0 []) < length (drop from s) = omega (arith, length-drop from s) in
       let q : from + suc (length (getD (cut c (drop from s)) 0 [])) ≡ end + 1 = omega arith in
-      first-more c (drop from s) p ∙ ap (λ (l : List ℕ). getD (cut c (drop from s)) 0 [] ∷ cut c l) (drop-drop _ from s ∙ ap (λ (k : ℕ). drop k s) q)
+      first-more c (drop from s) p
+      ∙ ap (λ (l : List ℕ). first (cut c (drop from s)) ∷ cut c l) (drop-drop _ from s ∙ ap (λ (k : ℕ). drop k s) q)
 
   pub pieces-last : length s ≤ end → cut c (drop from s) ≡ pieceAt c s from ∷ []
   unfolding pieceAt
@@ -154,13 +152,21 @@ module _ (c : ℕ) (s : List ℕ) (from k : ℕ) where
   unfolding pieceAt
   piece-on h = first-on c k (drop from s) h ∙ ap (λ (l : List ℕ). k + length (getD (cut c l) 0 [])) (drop-drop k from s)
 
-  pub piece-near : from + k < length s → (ltb (length (pieceAt c s from)) k || eqb (getD s (from + k) 0) c) ≡ ltb (length (pieceAt c s from)) (k + 1)
-  piece-near h = go (ltb L k) (eqb (getD s (from + k) 0) c) refl refl
+  pub piece-near : from + k < length s
+      → (ltb (length (pieceAt c s from)) k || eqb (getD s (from + k) 0) c) ≡ ltb (length (pieceAt c s from)) (k + 1)
+  piece-near h = go (ltb L k) (eqb b c) refl refl
     where
       L : ℕ
       L = length (pieceAt c s from)
 
-      go : (x y : Bool) → ltb L k ≡ x → eqb (getD s (from + k) 0) c ≡ y → (x || y) ≡ ltb L (k + 1)
+      b : ℕ
+      b = getD s (from + k) 0
+
+      go : (x y : Bool) → ltb L k ≡ x → eqb b c ≡ y → (x || y) ≡ ltb L (k + 1)
       go true y e u = sym (lt-ltb L (k + 1) (omega (arith, ltb-true L k e)))
-      go false true e u = sym (lt-ltb L (k + 1) (omega (arith, piece-on (ltb-false L k e), ap length (piece-stop c s (from + k) h (eqb-true (getD s (from + k) 0) c u)))))
-      go false false e u = sym (le-ltb L (k + 1) (omega (arith, piece-on (ltb-false L k e), ap length (piece-step c s (from + k) h (eqb-false (getD s (from + k) 0) c u)))))
+      go false true e u =
+          let z = piece-stop c s (from + k) h (eqb-true b c u) in
+          sym (lt-ltb L (k + 1) (omega (arith, piece-on (ltb-false L k e), ap length z)))
+      go false false e u =
+          let z = piece-step c s (from + k) h (eqb-false b c u) in
+          sym (le-ltb L (k + 1) (omega (arith, piece-on (ltb-false L k e), ap length z)))

@@ -7,18 +7,13 @@ use native.Mathlib.Omega.{arith}
 use lib.Dec.{leb, leb·suc-suc}
 use lib.ListN.{length, getD, drop}
 use Rattle.lists.specs.Lists.{all}
+use Rattle.lists.proofs.Tests.{T-true, true-T, and-T}
 use Rattle.interface.specs.Sheet.{isUpper, isName}
 use Rattle.text.specs.Reading.{inClass}
 use Rattle.text.specs.declared.Class.the-variants.{NameByte}
 
-pub and-left : (a b : Bool) → (a && b) ≡ true → a ≡ true
-and-left true b e = refl
-and-left false b e = e
-
-pub and-right : (a b : Bool) → (a && b) ≡ true → b ≡ true
-and-right true b e = e
-and-right false true e = refl
-and-right false false e = e
+pub and-both : (a b : Bool) → (a && b) ≡ true → (a ≡ true) × (b ≡ true)
+and-both a b e = let (s, t) = and-T a b (true-T e) in (T-true s, T-true t)
 
 -- a word by its first byte, its length and what follows
 pub name-is : (s : List ℕ) → 0 < length s → isName s ≡ isUpper (getD s 0 0) && all (inClass NameByte) (drop 1 s) && leb (length s) 8

@@ -1,7 +1,9 @@
--- What the functions on bytes answer.
+-- The code's own vocabulary for reading bytes, which a reader of the statements need not believe.
+use mathlib.Core.Path.{_≡_}
 use mathlib.Core.Bool.{Bool, true, cond, _||_}
 use mathlib.Core.List.{List, [], _∷_}
 use Prim.Native.Nat.{ℕ, zero, suc, _+_}
+use lib.IntN.{ℤ, pos}
 use lib.Dec.{eqb}
 use lib.ListN.{length, getD, drop}
 use Rattle.interface.specs.Sheet.{space, isUpper, isDigit, cut, isValue, numberFrom, valueOf}
@@ -29,16 +31,29 @@ digits (suc k) (b ∷ s) = cond (isDigit b) (b ∷ digits k s) []
 
 -- the number v read on by digits that start at a place
 unfoldable pub readOn : ℕ → ℕ → List ℕ → Digits
-readOn v at ds = record { number = numberFrom v ds; end = at + length ds }
+readOn v at ds = record { number = numberFrom 10 v ds; end = at + length ds }
 
 -- what stands behind a piece
 unfoldable pub isEnd : List ℕ → Bool
 isEnd [] = true
 isEnd (b ∷ s) = eqb b space
 
--- "In reading, a value is read with the place after it, or the line is refused."
-unfoldable pub valueAt : List ℕ → ℕ → ValueRead
-valueAt line at =
-    cond (isValue (pieceAt space line at))
-    (Value (valueOf (pieceAt space line at)) (record { at = at + length (pieceAt space line at) }))
-    Refused
+-- "a value is read with the place after it, or the line is refused": for each case of what was read, the number of the
+-- refusal, 0 for none; the value; and the place after it
+unfoldable pub refusalOf : ValueRead → ℕ
+refusalOf (Value v next) = 0
+refusalOf Refused = 8
+
+unfoldable pub valueIn : ValueRead → ℤ
+valueIn (Value v next) = v
+valueIn Refused = pos 0
+
+unfoldable pub placeIn : ValueRead → ℕ
+placeIn (Value v next) = next .at
+placeIn Refused = 0
+
+-- what is read at a place of a line
+pub record ValueCall (line : List ℕ) (at : ℕ) (r : ValueRead) : Type 0 where
+  pub number : refusalOf r ≡ cond (isValue (pieceAt space line at)) 0 8
+  pub value : valueIn r ≡ cond (isValue (pieceAt space line at)) (valueOf (pieceAt space line at)) (pos 0)
+  pub place : placeIn r ≡ cond (isValue (pieceAt space line at)) (at + length (pieceAt space line at)) 0

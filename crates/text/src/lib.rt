@@ -4,7 +4,7 @@ ghost use lib.Dec.{ltb};
 ghost use lib.ListN.{length, drop};
 ghost use Rattle.lists.specs.Lists.{all};
 ghost use Rattle.interface.specs.Sheet.{lineFeed, space, isUpper, isDigit, cut, isName, isNumeral};
-ghost use Rattle.text.specs.Reading.{inClass, pieceAt, digits, readOn, isEnd, valueAt};
+ghost use Rattle.text.specs.Reading.{inClass, pieceAt, digits, readOn, isEnd, ValueCall};
 
 // Classes of bytes.
 pub enum Class {
@@ -62,7 +62,7 @@ fn in_class(class: Class, b: u8) -> bool
     }
 }
 
-// Every byte is of the class. Without an early exit the loop becomes vector code; so it does in is_near and piece_count.
+// Every byte is of the class. Without an early exit the loop becomes vector code, as in is_near and piece_count.
 pub fn all_in(class: Class, s: &[u8]) -> bool
     ensures { λ r. ⌜ r ≡ all (inClass class) (now (s .entry)) ⌝ }
 {
@@ -105,7 +105,8 @@ fn is_near(s: &[u8], c: u8, from: usize) -> bool
 // Passes over 16 bytes of the piece that starts at from as long as none of them is c.
 fn skip(s: &[u8], c: u8, from: usize) -> usize
     requires { ⌜ from ≤ length (now s) ⌝ }
-    ensures { λ r. ⌜ (r ≤ length (now (s .entry))) × (r + length (pieceAt c (now (s .entry)) r) ≡ from + length (pieceAt c (now (s .entry)) from)) ⌝ }
+    ensures { λ r. ⌜ r ≤ length (now (s .entry)) ⌝ }
+    ensures { λ r. ⌜ r + length (pieceAt c (now (s .entry)) r) ≡ from + length (pieceAt c (now (s .entry)) from) ⌝ }
 {
     let mut at = from;
     while s.len() - at >= 16 {
@@ -206,10 +207,10 @@ fn is_numeral(line: &[u8], from: usize, end: usize) -> bool
     (line[from] != b'0') | (end - from == 1)
 }
 
-// The value that stands at a place of a line, with the place after it: a numeral, or a minus and a numeral that is not 0.
+// The value that stands at a place of a line, with the place after it: a numeral, or a minus and one that is not 0.
 pub fn read_value(line: &[u8], at: usize) -> ValueRead
     requires { ⌜ at ≤ length (now line) ⌝ }
-    ensures { λ r. ⌜ r ≡ valueAt (now (line .entry)) at ⌝ }
+    ensures { λ r. ⌜ ValueCall (now (line .entry)) at r ⌝ }
 {
     if at >= line.len() {
         return ValueRead::Refused;

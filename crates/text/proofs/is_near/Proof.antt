@@ -38,7 +38,8 @@ loop-again : tie.Need-loop-again Inv-loop μ-loop
 loop-again c =
     let a = c .before .before .before .args in
     let l = c .before .before .loop in
-    (omega arith, ap (λ x. x || eqb (getD (a .s .now) (a .from + l .k) 0) (a .c)) (l .inv .1) ∙ piece-near (a .c) (a .s .now) (a .from) (l .k) (omega arith))
+    let b = getD (a .s .now) (a .from + l .k) 0 in
+    (omega arith, ap (λ x. x || eqb b (a .c)) (l .inv .1) ∙ piece-near (a .c) (a .s .now) (a .from) (l .k) (omega arith))
 
 returns : tie.Need-returns Inv-loop μ-loop
 returns c =

@@ -15,7 +15,8 @@ is-end-requires c κs = search needs
 returns : tie.Need-returns
 returns c =
     let a = c .before .before .before .args in
-    sym (numeral-part (a .line .now) (a .from) (a .end) (c .before .before .before .pre .1) (sym (c .before .is-end .ensures) ∙ not-true _ (c .if1 .taken)))
+    let e = sym (c .before .is-end .ensures) ∙ not-true _ (c .if1 .taken) in
+    sym (numeral-part (a .line .now) (a .from) (a .end) (c .before .before .before .pre .1) e)
 
 ended : (c : tie.Else1) → isEnd (drop (c .before .before .before .args .end) (c .before .before .before .args .line .now)) ≡ true
 ended c = sym (c .before .is-end .ensures) ∙ not-false _ (c .if1 .left)
@@ -23,7 +24,8 @@ ended c = sym (c .before .is-end .ensures) ∙ not-false _ (c .if1 .left)
 returns-2 : tie.Need-returns-2
 returns-2 c =
     let a = c .before .before .before .before .args in
-    sym (numeral-none (a .line .now) (a .from) (a .end) (c .before .before .before .before .pre .1) (ended (c .before)) (c .if2 .taken))
+    let p = c .before .before .before .before .pre in
+    sym (numeral-none (a .line .now) (a .from) (a .end) (p .1) (ended (c .before)) (c .if2 .taken))
 
 shared-slice-read-result : tie.Need-shared-slice-read-result
 shared-slice-read-result c =
@@ -37,7 +39,8 @@ sub-result c = search needs
 returns-3 : tie.Need-returns-3
 returns-3 c =
     let a = c .before .before .before .before .before .args in
-    sym (numeral-test (a .line .now) (a .from) (a .end) (c .before .before .before .before .before .pre .1) (ended (c .before .before)) (c .before .if2 .left))
+    let p = c .before .before .before .before .before .pre in
+    sym (numeral-test (a .line .now) (a .from) (a .end) (p .1) (ended (c .before .before)) (c .before .if2 .left))
 
 pub is-numeral-spec : {M : Type 1} → statement M
 is-numeral-spec =

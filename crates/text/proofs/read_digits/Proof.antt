@@ -1,6 +1,6 @@
 use mathlib.Core.Path.{_≡_, refl, sym, _∙_}
 use mathlib.Core.Bool.{true, false}
-use Prim.Native.Nat.{_+_, _-_, _^_, _≤_, _<_}
+use Prim.Native.Nat.{ℕ, _+_, _-_, _^_, _≤_, _<_}
 use native.Mathlib.Omega.{arith}
 use borrow.Author.Tests.{not-true, not-false}
 use borrow.Author.Needs.{needs}
@@ -8,15 +8,26 @@ use lib.Dec.{lit<}
 use lib.ListN.{length, getD, drop}
 use Rattle.interface.specs.Sheet.{isDigit}
 use Rattle.text.specs.Reading.{digits, readOn}
-use Rattle.text.proofs.Numerals.{digit-low, digit-high, ten-step, ten-bound, read-nothing, read-digit, no-more, no-byte, no-digit}
+use Rattle.text.proofs.Numerals.{
+  digit-low,
+  digit-high,
+  ten-step,
+  ten-bound,
+  read-nothing,
+  read-digit,
+  no-more,
+  no-byte,
+  no-digit,
+}
 use Rattle.text.proofs.read_digits.Statement.{statement}
 use Rattle.text.proofs.read_digits.Tie as tie
 
+-- left and number have room for a digit more than are read
 abbrev Inv-loop : tie.InvT-loop
 Inv-loop line from number₀ end₀ left₀ number end left =
     (end ≤ length line)
-    × (left ≤ 7)
-    × (number < 10 ^ (7 - left))
+    × (left ≤ 8)
+    × (number < 10 ^ (8 - left))
     × (readOn number end (digits left (drop end line)) ≡ readOn 0 from (digits 7 (drop from line)))
 
 abbrev μ-loop : tie.MeasureT-loop
@@ -44,15 +55,20 @@ returns-2 c =
     let e : isDigit (getD s (l .end) 0) ≡ false = sym (c .before .is-digit .ensures) ∙ not-true _ (c .if2 .taken) in
     read-nothing (l .number) (l .end) (l .left) s (no-digit (l .left) s (l .end) (c .before .before .before .if1 .left) e) ∙ l .inv .3
 
--- a digit stands here, and at most 6 were read
-digit : (c : tie.Else2 Inv-loop μ-loop) → isDigit (getD (c .before .before .before .before .before .before .before .args .line .now) (c .before .before .before .before .before .loop .end) 0) ≡ true
+-- the byte of a turn; a digit stands here, and the number has room for it
+abbrev byte : tie.Else2 Inv-loop μ-loop → ℕ
+byte c =
+    let s = c .before .before .before .before .before .before .before .args .line .now in
+    getD s (c .before .before .before .before .before .loop .end) 0
+
+digit : (c : tie.Else2 Inv-loop μ-loop) → isDigit (byte c) ≡ true
 digit c = sym (c .before .is-digit .ensures) ∙ not-false _ (c .if2 .left)
 
-small : (c : tie.In-loop Inv-loop μ-loop) → c .before .loop .number < 1000000
+small : (c : tie.In-loop Inv-loop μ-loop) → c .before .loop .number < 10000000
 small c =
-    let k = 7 - c .before .loop .left in
-    let six : k ≤ 6 = omega arith in
-    omega (arith, ten-bound k 6 six)
+    let k = 8 - c .before .loop .left in
+    let seven : k ≤ 7 = omega arith in
+    omega (arith, ten-bound k 7 seven)
 
 mul-number : tie.Need-mul-number Inv-loop μ-loop
 mul-number c = omega (arith, small (c .before .before .before .before))
@@ -79,10 +95,10 @@ loop-again : tie.Need-loop-again Inv-loop μ-loop
 loop-again c =
     let s = c .before .before .before .before .before .before .before .args .line .now in
     let l = c .before .before .before .before .before .loop in
-    let e : 7 - l .left + 1 ≡ 7 - (l .left - 1) = omega arith in (
+    let e : 8 - l .left + 1 ≡ 8 - (l .left - 1) = omega arith in (
       omega arith,
       omega arith,
-      rw e at (ten-step (7 - l .left) (l .number) (getD s (l .end) 0 - 48) (l .inv .2) (omega (arith, digit-high _ (digit c)))),
+      rw e at (ten-step (8 - l .left) (l .number) (getD s (l .end) 0 - 48) (l .inv .2) (omega (arith, digit-high _ (digit c)))),
       sym (read-digit (l .number) (l .left) (l .end) s (omega arith) (omega arith) (digit c)) ∙ l .inv .3,
     )
 

@@ -37,7 +37,7 @@ loop-again : tie.Need-loop-again Inv-loop μ-loop
 loop-again c =
     let a = c .before .before .before .before .before .args in
     let l = c .before .before .before .loop in
-    let far = ltb-false _ _ (sym (c .before .is-near .ensures) ∙ c .if1 .left) in
+    let far : 16 ≤ length (pieceAt (a .c) (a .s .now) (l .at)) = ltb-false _ _ (sym (c .before .is-near .ensures) ∙ c .if1 .left) in
     (omega arith, omega (arith, piece-on (a .c) (a .s .now) (l .at) 16 far))
 
 returns-2 : tie.Need-returns-2 Inv-loop μ-loop
