@@ -10,10 +10,12 @@ use lib.Dec.{eqb}
 use lib.ListN.{length, getD, take, drop}
 use lib.Seq.{length-take-le}
 use Rattle.lists.specs.Lists.{all}
+use Rattle.lists.proofs.Tests.{cond-elim}
 use Rattle.interface.specs.Sheet.{longer, cut, isName, lines, names, entries}
-use Rattle.text.specs.Reading.{pieceAt}
-use Rattle.text.proofs.Pieces.{some-piece, piece-part, piece-inside, pieces-more, pieces-last}
 use Rattle.interface.specs.Refusals.{wrongNames, wrongLines}
+use Rattle.interface.proofs.Pieces.{some-piece}
+use Rattle.text.specs.Reading.{pieceAt}
+use Rattle.text.proofs.Pieces.{piece-part, piece-inside, pieces-more, pieces-last}
 
 -- a list with an element is its first and the others
 split : (ws : List (List ℕ)) → 0 < length ws → ws ≡ getD ws 0 [] ∷ drop 1 ws
@@ -65,33 +67,46 @@ whole c t e = go (decLt (length (getD (cut c t) 0 [])) (length t))
         absurd (omega (arith, ap length p, some-piece c (drop (length (getD (cut c t) 0 []) + 1) t)))
     go (no f) = omega arith
 
+-- the last of some pieces is empty, or not; the same with an empty piece before them, and with a byte more in the first
+abbrev LastEmpty : List (List ℕ) → Bool → Type 0
+LastEmpty ws x = (k : ℕ) → length ws ≡ suc k → eqb (length (getD ws k [])) 0 ≡ x
+
+empty-more : (ws : List (List ℕ)) (x : Bool) → LastEmpty ws x → 0 < length ws → LastEmpty ([] ∷ ws) x
+empty-more ws x is h zero e = absurd (omega arith)
+empty-more ws x is h (suc k) e = is k (omega arith)
+
+empty-longer : (b : ℕ) (ws : List (List ℕ)) (x : Bool) → LastEmpty ws x → 0 < length ws → (length ws ≡ 1 → 0 < length (getD ws 0 []))
+    → LastEmpty (longer b ws) x
+unfolding longer
+empty-longer b [] x is h one k e = absurd (omega arith)
+empty-longer b (w ∷ []) x is h one k e =
+    let z : k ≡ 0 = omega arith in
+    let p = one refl in
+    rw z (ne-eqb (suc (length w)) 0 (λ q. omega arith) ∙ sym (ne-eqb (length w) 0 (λ q. omega arith)) ∙ is 0 refl)
+empty-longer b (w ∷ v ∷ ws) x is h one zero e = absurd (omega arith)
+empty-longer b (w ∷ v ∷ ws) x is h one (suc k) e = is (suc k) e
+
 -- the last piece is empty where c stands last
-pub last-piece : (c : ℕ) (s : List ℕ) (k : ℕ) → 0 < length s → length (cut c s) ≡ suc k → eqb (length (getD (cut c s) k [])) 0 ≡ eqb (getD s (length s - 1) 0) c
+pub last-piece : (c : ℕ) (s : List ℕ) → 0 < length s → LastEmpty (cut c s) (eqb (getD s (length s - 1) 0) c)
 unfolding cut longer
-last-piece c [] k h e = absurd (omega arith)
-last-piece c (b ∷ []) k h e = go (eqb b c) refl k e
+last-piece c [] h k e = absurd (omega arith)
+last-piece c (b ∷ []) h k e = go (eqb b c) refl k e
   where
-    go : (x : Bool) → eqb b c ≡ x → (k : ℕ) → length (cond x ([] ∷ [] ∷ []) ((b ∷ []) ∷ [])) ≡ suc k → eqb (length (getD (cond x ([] ∷ [] ∷ []) ((b ∷ []) ∷ [])) k [])) 0 ≡ eqb b c
+    go : (x : Bool) → eqb b c ≡ x → LastEmpty (cond x ([] ∷ [] ∷ []) ((b ∷ []) ∷ [])) (eqb b c)
     go true q k e = let z : k ≡ 1 = omega arith in rw (q, z)
     go false q k e = let z : k ≡ 0 = omega arith in rw (q, z)
-last-piece c (b ∷ d ∷ t) k h e =
+last-piece c (b ∷ d ∷ t) h k e =
+    let ws = cut c (d ∷ t) in
+    let x = eqb (getD (d ∷ t) (length (d ∷ t) - 1) 0) c in
+    let is : LastEmpty ws x = last-piece c (d ∷ t) (omega arith) in
+    let some = some-piece c (d ∷ t) in
     let z : suc (length (d ∷ t) - 1) ≡ length (b ∷ d ∷ t) - 1 = omega arith in
-    go (eqb b c) (λ j. last-piece c (d ∷ t) j (omega arith)) (whole c (d ∷ t)) (some-piece c (d ∷ t)) k e
+    cond-elim (eqb b c) ([] ∷ ws) (longer b ws) (λ vs. LastEmpty vs x)
+    (λ _. empty-more ws x is some)
+    (λ _. empty-longer b ws x is some (λ one. omega (arith, whole c (d ∷ t) one)))
+    k
+    e
     ∙ ap (λ (i : ℕ). eqb (getD (b ∷ d ∷ t) i 0) c) z
-  where
-    long : (ws : List (List ℕ)) (x : Bool) → ((j : ℕ) → length ws ≡ suc j → eqb (length (getD ws j [])) 0 ≡ x) → (length ws ≡ 1 → suc (length t) ≤ length (getD ws 0 [])) → 0 < length ws → (k : ℕ) → length (longer b ws) ≡ suc k → eqb (length (getD (longer b ws) k [])) 0 ≡ x
-    long [] x ih one h k e = absurd (omega arith)
-    long (w ∷ []) x ih one h k e =
-        let z : k ≡ 0 = omega arith in
-        let p = one refl in
-        rw z (ne-eqb (suc (length w)) 0 (λ q. omega arith) ∙ sym (ne-eqb (length w) 0 (λ q. omega arith)) ∙ ih 0 refl)
-    long (w ∷ v ∷ ws) x ih one h zero e = absurd (omega arith)
-    long (w ∷ v ∷ ws) x ih one h (suc k) e = ih (suc k) e
-
-    go : (x : Bool) → ((j : ℕ) → length (cut c (d ∷ t)) ≡ suc j → eqb (length (getD (cut c (d ∷ t)) j [])) 0 ≡ eqb (getD (d ∷ t) (length (d ∷ t) - 1) 0) c) → (length (cut c (d ∷ t)) ≡ 1 → length (d ∷ t) ≤ length (getD (cut c (d ∷ t)) 0 [])) → 0 < length (cut c (d ∷ t)) → (k : ℕ) → length (cond x ([] ∷ cut c (d ∷ t)) (longer b (cut c (d ∷ t)))) ≡ suc k → eqb (length (getD (cond x ([] ∷ cut c (d ∷ t)) (longer b (cut c (d ∷ t)))) k [])) 0 ≡ eqb (getD (d ∷ t) (length (d ∷ t) - 1) 0) c
-    go true ih one h zero e = absurd (omega arith)
-    go true ih one h (suc k) e = ih k (omega arith)
-    go false ih one h k e = long (cut c (d ∷ t)) (eqb (getD (d ∷ t) (length (d ∷ t) - 1) 0) c) ih one h k e
 
 -- check 7 by the count of lines and the last byte
 module _ (s : List ℕ) (n k : ℕ) (is : n ≡ entries s) (count : k ≡ length (cut 10 s)) where
@@ -103,4 +118,4 @@ module _ (s : List ℕ) (n k : ℕ) (is : n ≡ entries s) (count : k ≡ length
   unfolding wrongLines lines
   lines-right h e =
       let z : length (cut 10 s) ≡ suc (n + 1) = omega arith in
-      rw (← is, ← count, eq-eqb k (n + 2) e) (ap not (sym (last-piece 10 s (n + 1) h z)))
+      rw (← is, ← count, eq-eqb k (n + 2) e) (ap not (sym (last-piece 10 s h (n + 1) z)))

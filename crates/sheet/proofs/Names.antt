@@ -14,7 +14,8 @@ use Rattle.text.proofs.Pieces.{here, pieces-more, pieces-last}
 use Rattle.sheet.proofs.Lines.{pieces-from}
 
 -- two lists of bytes, from a place on
-pub same-step : (s t : List ℕ) (i : ℕ) → i < length s → i < length t → sameBytes (drop i s) (drop i t) ≡ eqb (getD s i 0) (getD t i 0) && sameBytes (drop (i + 1) s) (drop (i + 1) t)
+pub same-step : (s t : List ℕ) (i : ℕ) → i < length s → i < length t
+    → sameBytes (drop i s) (drop i t) ≡ eqb (getD s i 0) (getD t i 0) && sameBytes (drop (i + 1) s) (drop (i + 1) t)
 unfolding sameBytes
 same-step s t i p q = rw (here s i p, here t i q)
 
@@ -34,7 +35,8 @@ left-none i n p = go (eqb i n) refl
     go true e = rw e (eq-eqb 0 (n - i) (omega (arith, eqb-true i n e)))
     go false e = let d = eqb-false i n e in rw e (ne-eqb 0 (n - i) (λ z. d (omega arith)))
 
-pub same-end : (s t : List ℕ) (i : ℕ) → length s ≤ i → i ≤ length t → sameBytes (drop i s) (drop i t) ≡ eqb i (length t)
+pub same-end : (s t : List ℕ) (i : ℕ) → length s ≤ i → i ≤ length t
+    → sameBytes (drop i s) (drop i t) ≡ eqb i (length t)
 same-end s t i p q = rw (drop-of-length-le s p) (same-nil (drop i t) ∙ rw (length-drop i t) (left-none i (length t) q))
 
 -- a test of every name, a word among names, two equal names: from the piece at a place on
@@ -52,7 +54,8 @@ module _ (line : List ℕ) (at end : ℕ) (inside : at ≤ length line) (is : en
   unfolding all
   last-name h = rw (pieces-last 32 line at end inside is h) (and-true _)
 
-  pub more-names : end < length line → isName (pieceAt 32 line at) ≡ true → all isName (cut 32 (drop at line)) ≡ all isName (cut 32 (drop (end + 1) line))
+  pub more-names : end < length line → isName (pieceAt 32 line at) ≡ true
+      → all isName (cut 32 (drop at line)) ≡ all isName (cut 32 (drop (end + 1) line))
   unfolding all
   more-names h e = rw (pieces-more 32 line at end inside is h, e)
 
@@ -60,7 +63,8 @@ module _ (line : List ℕ) (at end : ℕ) (inside : at ≤ length line) (is : en
   unfolding isAmong
   last-among w h = rw (pieces-last 32 line at end inside is h) (or-false _)
 
-  pub more-among : (w : List ℕ) → end < length line → sameBytes w (pieceAt 32 line at) ≡ false → isAmong w (cut 32 (drop at line)) ≡ isAmong w (cut 32 (drop (end + 1) line))
+  pub more-among : (w : List ℕ) → end < length line → sameBytes w (pieceAt 32 line at) ≡ false
+      → isAmong w (cut 32 (drop at line)) ≡ isAmong w (cut 32 (drop (end + 1) line))
   unfolding isAmong
   more-among w h e = rw (pieces-more 32 line at end inside is h, e)
 
@@ -68,6 +72,7 @@ module _ (line : List ℕ) (at end : ℕ) (inside : at ≤ length line) (is : en
   unfolding hasEqual isAmong
   last-equal h = rw (pieces-last 32 line at end inside is h)
 
-  pub more-equal : end < length line → hasEqual (cut 32 (drop at line)) ≡ isAmong (pieceAt 32 line at) (cut 32 (drop (end + 1) line)) || hasEqual (cut 32 (drop (end + 1) line))
+  pub more-equal : end < length line
+      → hasEqual (cut 32 (drop at line)) ≡ isAmong (pieceAt 32 line at) (cut 32 (drop (end + 1) line)) || hasEqual (cut 32 (drop (end + 1) line))
   unfolding hasEqual
   more-equal h = rw (pieces-more 32 line at end inside is h)

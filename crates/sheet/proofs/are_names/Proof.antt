@@ -32,7 +32,9 @@ part-is-name-start : tie.Need-part-is-name-start Inv-loop μ-loop
 part-is-name-start c = search needs
 
 part-is-name-end : tie.Need-part-is-name-end Inv-loop μ-loop
-part-is-name-end c = piece-inside 32 (c .before .before .before .args .line .now) (c .before .loop .at) _ (c .before .loop .inv .0) (c .piece-end .ensures)
+part-is-name-end c =
+    let l = c .before .loop in
+    piece-inside 32 (c .before .before .before .args .line .now) (l .at) _ (l .inv .0) (c .piece-end .ensures)
 
 is-name-requires : tie.Need-is-name-requires Inv-loop μ-loop
 is-name-requires c κs = search needs

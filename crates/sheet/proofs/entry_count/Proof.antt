@@ -24,7 +24,8 @@ piece-count-requires c κs =
 returns : tie.Need-returns
 unfolding entries names
 returns c =
-    c .piece-count .ensures ∙ ap (λ (l : List ℕ). length (cut 32 l)) (first-line (c .before .before .before .before .args .sheet .now) (c .before .before .line-end .result) (c .before .before .line-end .ensures))
+    let s = c .before .before .before .before .args .sheet .now in
+    c .piece-count .ensures ∙ ap (λ (l : List ℕ). length (cut 32 l)) (first-line s _ (c .before .before .line-end .ensures))
 
 pub entry-count-spec : {M : Type 1} → statement M
 entry-count-spec =

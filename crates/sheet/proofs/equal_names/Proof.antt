@@ -20,7 +20,8 @@ has-equal-requires c κs = search needs
 returns : tie.Need-returns
 unfolding names equalNames
 returns c =
-    c .has-equal .ensures ∙ ap (λ (l : List ℕ). hasEqual (cut 32 l)) (first-line (c .before .before .before .before .args .sheet .now) _ (c .before .before .line-end .ensures))
+    let s = c .before .before .before .before .args .sheet .now in
+    c .has-equal .ensures ∙ ap (λ (l : List ℕ). hasEqual (cut 32 l)) (first-line s _ (c .before .before .line-end .ensures))
 
 pub equal-names-spec : {M : Type 1} → statement M
 equal-names-spec =

@@ -30,7 +30,9 @@ part-same-bytes-start : tie.Need-part-same-bytes-start Inv-loop μ-loop
 part-same-bytes-start c = search needs
 
 part-same-bytes-end : tie.Need-part-same-bytes-end Inv-loop μ-loop
-part-same-bytes-end c = piece-inside 32 (c .before .before .before .before .args .line .now) (c .before .loop .at) _ (c .before .loop .inv .0) (c .piece-end .ensures)
+part-same-bytes-end c =
+    let l = c .before .loop in
+    piece-inside 32 (c .before .before .before .before .args .line .now) (l .at) _ (l .inv .0) (c .piece-end .ensures)
 
 same-bytes-requires : tie.Need-same-bytes-requires Inv-loop μ-loop
 same-bytes-requires c κs = search needs

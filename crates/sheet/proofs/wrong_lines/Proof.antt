@@ -10,7 +10,9 @@ add-if1 : tie.Need-add-if1
 add-if1 c = search needs
 
 returns : tie.Need-returns
-returns c = lines-wrong (c .before .before .before .args .sheet .now) (c .before .before .before .args .n) _ (c .before .before .before .pre .2) (c .before .piece-count .ensures) (c .if1 .taken)
+returns c =
+    let b = c .before .before .before in
+    lines-wrong (b .args .sheet .now) (b .args .n) _ (b .pre .2) (c .before .piece-count .ensures) (c .if1 .taken)
 
 sub-last : tie.Need-sub-last
 sub-last c = search needs
@@ -19,7 +21,10 @@ shared-slice-read-result : tie.Need-shared-slice-read-result
 shared-slice-read-result c = search needs
 
 returns-2 : tie.Need-returns-2
-returns-2 c = lines-right (c .before .before .before .before .args .sheet .now) (c .before .before .before .before .args .n) _ (c .before .before .before .before .pre .2) (c .before .before .piece-count .ensures) (c .before .before .before .before .pre .0) (c .before .if1 .left)
+returns-2 c =
+    let b = c .before .before .before .before in
+    let n = c .before .before .piece-count .ensures in
+    lines-right (b .args .sheet .now) (b .args .n) _ (b .pre .2) n (b .pre .0) (c .before .if1 .left)
 
 pub wrong-lines-spec : {M : Type 1} → statement M
 wrong-lines-spec =

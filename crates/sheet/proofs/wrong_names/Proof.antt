@@ -25,8 +25,9 @@ returns-2 : tie.Need-returns-2
 unfolding names
 returns-2 c =
     let s = c .before .before .before .before .before .args .sheet .now in
-    let f = first-line s _ (c .before .before .before .line-end .ensures) in
-    ap not (c .are-names .ensures ∙ ap (λ (l : List ℕ). all isName (cut 32 l)) f) ∙ names-left s _ (c .before .before .before .line-end .ensures) (c .before .before .if1 .left)
+    let e = c .before .before .before .line-end .ensures in
+    ap not (c .are-names .ensures ∙ ap (λ (l : List ℕ). all isName (cut 32 l)) (first-line s _ e))
+    ∙ names-left s _ e (c .before .before .if1 .left)
 
 pub wrong-names-spec : {M : Type 1} → statement M
 wrong-names-spec =
