@@ -1,5 +1,4 @@
 use mathlib.Core.Path.{_≡_, refl, sym, ap, _∙_}
-use mathlib.Core.Bool.{true}
 use Prim.Native.Nat.{_-_, _≤_}
 use native.Mathlib.Omega.{arith}
 use borrow.Author.Tests.{not-true, not-false}
@@ -39,36 +38,40 @@ part-is-name-end c =
 is-name-requires : tie.Need-is-name-requires Inv-loop μ-loop
 is-name-requires c κs = search needs
 
+-- what the call says of the piece of a turn
+named : (c : tie.After-is-name Inv-loop μ-loop) →
+    let p = c .before .before in
+    c .is-name .result ≡ isName (pieceAt 32 (p .before .before .before .args .line .now) (p .before .loop .at))
+named c =
+    let p = c .before .before in
+    let l = p .before .loop in
+    c .is-name .ensures ∙ ap isName (piece-part 32 _ (l .at) _ (l .inv .0) (p .piece-end .ensures))
+
 returns : tie.Need-returns Inv-loop μ-loop
 returns c =
-    let s = c .before .before .before .before .before .before .args .line .now in
-    let l = c .before .before .before .before .loop in
-    let p = piece-part 32 s (l .at) _ (l .inv .0) (c .before .before .before .piece-end .ensures) in
-    sym (sym (l .inv .1) ∙ not-name s (l .at) (sym (c .before .is-name .ensures ∙ ap isName p) ∙ not-true _ (c .if1 .taken)))
+    let p = c .before .before .before in
+    let l = p .before .loop in
+    sym (sym (l .inv .1) ∙ not-name _ (l .at) (sym (named (c .before)) ∙ not-true _ (c .if1 .taken)))
 
 returns-2 : tie.Need-returns-2 Inv-loop μ-loop
 returns-2 c =
-    let s = c .before .before .before .before .before .before .before .args .line .now in
-    let l = c .before .before .before .before .before .loop in
-    let p = piece-part 32 s (l .at) _ (l .inv .0) (c .before .before .before .before .piece-end .ensures) in
-    let e : isName (pieceAt 32 s (l .at)) ≡ true = sym (c .before .before .is-name .ensures ∙ ap isName p) ∙ not-false _ (c .before .if1 .left) in
-    sym (sym (l .inv .1) ∙ last-name s (l .at) _ (l .inv .0) (c .before .before .before .before .piece-end .ensures) (c .if2 .taken) ∙ e)
+    let p = c .before .before .before .before in
+    let l = p .before .loop in
+    let e = sym (named (c .before .before)) ∙ not-false _ (c .before .if1 .left) in
+    sym (sym (l .inv .1) ∙ last-name _ (l .at) _ (l .inv .0) (p .piece-end .ensures) (c .if2 .taken) ∙ e)
 
 add-at : tie.Need-add-at Inv-loop μ-loop
 add-at c = search needs
 
 loop-less : tie.Need-loop-less Inv-loop μ-loop
-loop-less c =
-    let s = c .before .before .before .before .before .before .before .args .line .now in
-    omega (arith, c .before .before .before .before .piece-end .ensures)
+loop-less c = omega (arith, c .before .before .before .before .piece-end .ensures)
 
 loop-again : tie.Need-loop-again Inv-loop μ-loop
 loop-again c =
-    let s = c .before .before .before .before .before .before .before .args .line .now in
-    let l = c .before .before .before .before .before .loop in
-    let p = piece-part 32 s (l .at) _ (l .inv .0) (c .before .before .before .before .piece-end .ensures) in
-    let e : isName (pieceAt 32 s (l .at)) ≡ true = sym (c .before .before .is-name .ensures ∙ ap isName p) ∙ not-false _ (c .before .if1 .left) in
-    (omega arith, sym (more-names s (l .at) _ (l .inv .0) (c .before .before .before .before .piece-end .ensures) (c .if2 .left) e) ∙ l .inv .1)
+    let p = c .before .before .before .before in
+    let l = p .before .loop in
+    let e = sym (named (c .before .before)) ∙ not-false _ (c .before .if1 .left) in
+    (omega arith, sym (more-names _ (l .at) _ (l .inv .0) (p .piece-end .ensures) (c .if2 .left) e) ∙ l .inv .1)
 
 pub are-names-spec : {M : Type 1} → statement M
 are-names-spec =

@@ -13,7 +13,7 @@ line-end-requires : tie.Need-line-end-requires
 line-end-requires c κs = search needs
 
 slice-aggregate-piece-count : tie.Need-slice-aggregate-piece-count
-slice-aggregate-piece-count c = line-length (c .before .before .before .args .sheet .now) (c .before .line-end .result) (c .before .line-end .ensures)
+slice-aggregate-piece-count c = line-length (c .before .before .before .args .sheet .now) _ (c .before .line-end .ensures)
 
 piece-count-requires : tie.Need-piece-count-requires
 piece-count-requires c κs =

@@ -1,5 +1,4 @@
 use mathlib.Core.Path.{_≡_, refl, sym, ap, _∙_}
-use mathlib.Core.Bool.{false}
 use Prim.Native.Nat.{_-_, _≤_}
 use native.Mathlib.Omega.{arith}
 use borrow.Author.Needs.{needs}
@@ -37,22 +36,28 @@ part-same-bytes-end c =
 same-bytes-requires : tie.Need-same-bytes-requires Inv-loop μ-loop
 same-bytes-requires c κs = search needs
 
+-- what the call says of the piece of a turn
+compared : (c : tie.After-same-bytes Inv-loop μ-loop) →
+    let p = c .before .before in
+    let a = p .before .before .before .before .args in
+    c .same-bytes .result ≡ sameBytes (a .word .now) (pieceAt 32 (a .line .now) (p .before .loop .at))
+compared c =
+    let p = c .before .before in
+    let a = p .before .before .before .before .args in
+    let l = p .before .loop in
+    c .same-bytes .ensures ∙ ap (sameBytes (a .word .now)) (piece-part 32 _ (l .at) _ (l .inv .0) (p .piece-end .ensures))
+
 returns : tie.Need-returns Inv-loop μ-loop
 returns c =
-    let w = c .before .before .before .before .before .before .before .args .word .now in
-    let s = c .before .before .before .before .before .before .before .args .line .now in
     let l = c .before .before .before .before .loop in
-    let p = piece-part 32 s (l .at) _ (l .inv .0) (c .before .before .before .piece-end .ensures) in
-    sym (sym (l .inv .1) ∙ is-among s (l .at) w (sym (c .before .same-bytes .ensures ∙ ap (sameBytes w) p) ∙ c .if1 .taken))
+    sym (sym (l .inv .1) ∙ is-among _ (l .at) _ (sym (compared (c .before)) ∙ c .if1 .taken))
 
 returns-2 : tie.Need-returns-2 Inv-loop μ-loop
 returns-2 c =
-    let w = c .before .before .before .before .before .before .before .before .args .word .now in
-    let s = c .before .before .before .before .before .before .before .before .args .line .now in
-    let l = c .before .before .before .before .before .loop in
-    let p = piece-part 32 s (l .at) _ (l .inv .0) (c .before .before .before .before .piece-end .ensures) in
-    let e : sameBytes w (pieceAt 32 s (l .at)) ≡ false = sym (c .before .before .same-bytes .ensures ∙ ap (sameBytes w) p) ∙ c .before .if1 .left in
-    sym (sym (l .inv .1) ∙ last-among s (l .at) _ (l .inv .0) (c .before .before .before .before .piece-end .ensures) w (c .if2 .taken) ∙ e)
+    let p = c .before .before .before .before in
+    let l = p .before .loop in
+    let e = sym (compared (c .before .before)) ∙ c .before .if1 .left in
+    sym (sym (l .inv .1) ∙ last-among _ (l .at) _ (l .inv .0) (p .piece-end .ensures) _ (c .if2 .taken) ∙ e)
 
 add-at : tie.Need-add-at Inv-loop μ-loop
 add-at c = search needs
@@ -62,12 +67,10 @@ loop-less c = omega (arith, c .before .before .before .before .piece-end .ensure
 
 loop-again : tie.Need-loop-again Inv-loop μ-loop
 loop-again c =
-    let w = c .before .before .before .before .before .before .before .before .args .word .now in
-    let s = c .before .before .before .before .before .before .before .before .args .line .now in
-    let l = c .before .before .before .before .before .loop in
-    let p = piece-part 32 s (l .at) _ (l .inv .0) (c .before .before .before .before .piece-end .ensures) in
-    let e : sameBytes w (pieceAt 32 s (l .at)) ≡ false = sym (c .before .before .same-bytes .ensures ∙ ap (sameBytes w) p) ∙ c .before .if1 .left in
-    (omega arith, sym (more-among s (l .at) _ (l .inv .0) (c .before .before .before .before .piece-end .ensures) w (c .if2 .left) e) ∙ l .inv .1)
+    let p = c .before .before .before .before in
+    let l = p .before .loop in
+    let e = sym (compared (c .before .before)) ∙ c .before .if1 .left in
+    (omega arith, sym (more-among _ (l .at) _ (l .inv .0) (p .piece-end .ensures) _ (c .if2 .left) e) ∙ l .inv .1)
 
 pub is-among-spec : {M : Type 1} → statement M
 is-among-spec =
