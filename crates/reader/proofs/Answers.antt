@@ -1,31 +1,42 @@
 -- The table of checks, line by line, and the answers.
-use mathlib.Core.Path.{_≡_, refl, sym, ap₂, _∙_}
-use mathlib.Core.Bool.{Bool, true, false, cond}
-use mathlib.Core.List.{List, []}
-use Prim.Native.Nat.{ℕ, suc, _≤_, _<_}
+use mathlib.Core.Path.{_≡_, refl, sym, ap, ap₂, _∙_}
+use mathlib.Core.Bool.{Bool, true, false}
+use mathlib.Core.List.{List, [], _++_}
+use Prim.Native.Nat.{ℕ, zero, suc, _+_, _≤_, _<_}
 use native.Mathlib.Omega.{arith}
-use borrow.Author.Tests.{ne-eqb, eqb-true, eqb-false, ltb-false, lt-ltb, le-ltb}
+use borrow.Author.Tests.{ne-eqb, eqb-false, ltb-false, lt-ltb, le-ltb}
 use lib.Dec.{eqb, ltb, lit<}
 use lib.IntN.{ℤ}
-use lib.ListN.{length, getD, take}
-use lib.Seq.{sets}
+use lib.ListN.{length, getD, take, drop}
+use lib.Seq.{take-at}
 use Rattle.lists.specs.Lists.{below}
 use Rattle.lists.proofs.Lists.{below-lt, all-cong}
 use Rattle.lists.proofs.Tests.{or-none}
 use Rattle.integers.specs.Integers.{eqZ}
 use Rattle.clusters.specs.PairList.{Similarity, pairList, rowStart}
-use Rattle.interface.specs.Refusals.{firstOf, wrongCount, readerChecks, wrongLength, wrongByte, wrongNames, equalNames}
-use Rattle.clusters.proofs.PairList.{rowStart-le, pairList-cong, length-pairList}
-use Rattle.interface.proofs.Refusals.{Gives, no-first, right-count}
+use Rattle.clusters.proofs.PairList.{pairList-cong, length-pairList}
+use Rattle.answers.specs.declared.Answer.the-variants.{Count, Refused}
+use Rattle.answers.specs.Answers.{answer, slots}
+use Rattle.answers.proofs.Answers.{slots-written}
+use Rattle.answers.proofs.WaysOut as ways
 use Rattle.interface.specs.Sheet.{names, entries, value, pairs, mirrored}
-use Rattle.interface.specs.Calls.{nameOf}
-use Rattle.reader.specs.declared.Reading.the-variants.{Entries, Refused}
-use Rattle.reader.specs.Answer.{reading, slots, square, Holds}
-use Rattle.reader.proofs.Slots.{pairs-taken}
+use Rattle.interface.specs.Refusals.{
+  mostBytes,
+  wrongLength,
+  wrongByte,
+  wrongNames,
+  equalNames,
+  wrongCount,
+  readerChecks,
+  readerRefusal,
+}
+use Rattle.interface.specs.Calls.{ReaderCall, hasName, nameOf, startOf, nameStart, behind, NameCall}
+use Rattle.interface.proofs.Refusals.{Gives, no-first, right-count}
+use Rattle.reader.specs.Square.{square, Holds}
 
 -- what check 2 leaves
 pub length-right : (s : List ℕ) → wrongLength s ≡ false → (0 < length s) × (length s ≤ 12288)
-unfolding wrongLength
+unfolding wrongLength mostBytes
 length-right s e =
     let p = or-none (eqb (length s) 0) (ltb 12288 (length s)) e in
     let f = eqb-false (length s) 0 (p .0) in
@@ -35,56 +46,60 @@ length-right s e =
 pub mirrored-same : (l : List ℤ) (n : ℕ) (v : Similarity) → Holds l n v → mirrored n (square l) ≡ mirrored n v
 unfolding mirrored
 mirrored-same l n v h =
-    all-cong _ _ (below n) (λ i p. all-cong _ _ (below n) (λ j q. ap₂ eqZ (h i j (below-lt n p) (below-lt n q)) (h j i (below-lt n q) (below-lt n p))))
+    all-cong _ _ (below n) (λ i p. all-cong _ _ (below n)
+    (λ j q. ap₂ eqZ (h i j (below-lt n p) (below-lt n q)) (h j i (below-lt n q) (below-lt n p))))
 
--- the answers
+pub pairs-length : (s : List ℕ) → length (pairs s) ≡ rowStart (entries s)
+unfolding pairs
+pairs-length s = length-pairList (entries s) (value s)
+
+pairs-held : (s : List ℕ) (n : ℕ) (m : List ℤ) → n ≡ entries s → Holds m n (value s) → pairList n (square m) ≡ pairs s
+unfolding pairs
+pairs-held s n m is h = pairList-cong n (square m) (value s) (λ a b p q. h a b p (omega arith)) ∙ rw is
+
+-- the ways out of the reader
 module _ (s : List ℕ) (l : List ℤ) where
-  pub refused : {k : ℕ} → Gives (readerChecks s) (suc k) → (Refused (suc k) ≡ reading s) × (l ≡ slots s l)
-  unfolding reading slots
-  refused {k} g = let z = ne-eqb (suc k) 0 (λ e. omega arith) in (rw (sym (g .is), z), rw (sym (g .is), z))
+  pub refused : {k : ℕ} → Gives (readerChecks s) (suc k) → ReaderCall s l (Refused (suc k)) l
+  unfolding readerRefusal
+  refused {k} g =
+      let (a, w) = ways.refused (entries s) (pairs s) l (g .is) (λ z. omega arith) in
+      record { answered = a; written = w }
 
-  pub passed : (n : ℕ) (m : List ℤ) → Gives (readerChecks s) 0 → n ≡ entries s → Holds m n (value s) → (Entries n ≡ reading s) × (sets l 0 (pairList n (square m)) ≡ slots s l)
-  unfolding reading slots pairs
-  passed n m g is h = (rw (sym (g .is), is), rw (sym (g .is), pairList-cong n (square m) (value s) (λ a b p q. h a b p (omega arith)), is))
+  pub passed : (n : ℕ) (m : List ℤ) {o : List ℤ} → Gives (readerChecks s) 0 → n ≡ entries s → Holds m n (value s)
+      → o ≡ pairList n (square m) ++ drop (rowStart n) l → ReaderCall s l (Count n) o
+  unfolding readerRefusal answer
+  passed n m g is h e =
+      let z : rowStart n ≡ length (pairs s) = ap rowStart is ∙ sym (pairs-length s) in
+      record {
+        answered = ap₂ answer (g .is) is;
+        written =
+            e
+            ∙ ap₂ (λ (ps : List ℤ) (k : ℕ). ps ++ drop k l) (pairs-held s n m is h) z
+            ∙ sym (slots-written (pairs s) l)
+            ∙ ap (λ (r : ℕ). slots r (pairs s) l) (g .is);
+      }
 
 -- the number of the refusal in an answer, which is not 0, and the entries
-pub number-is : (s : List ℕ) (k : ℕ) → reading s ≡ Refused k → (k ≡ firstOf (readerChecks s)) × (k ≡ 0 → ⊥)
-unfolding reading
-number-is s k e = go (eqb (firstOf (readerChecks s)) 0) refl e
-  where
-    go : (b : Bool) → eqb (firstOf (readerChecks s)) 0 ≡ b → cond b (Entries (entries s)) (Refused (firstOf (readerChecks s))) ≡ Refused k → (k ≡ firstOf (readerChecks s)) × (k ≡ 0 → ⊥)
-    go true q e = let z : _≡_ {A = ℕ} 0 1 = cc in absurd (omega arith)
-    go false q e = let is : k ≡ firstOf (readerChecks s) = cc in (is, λ z. eqb-false _ 0 q (sym is ∙ z))
+module _ (s : List ℕ) where
+  pub number-is : (k : ℕ) → answer (readerRefusal s) (entries s) ≡ Refused k → (k ≡ readerRefusal s) × (k ≡ 0 → ⊥)
+  unfolding answer
+  number-is k e = go (readerRefusal s) e
+    where
+      go : (r : ℕ) → answer r (entries s) ≡ Refused k → (k ≡ r) × (k ≡ 0 → ⊥)
+      go zero e = let z : _≡_ {A = ℕ} 0 1 = cc in absurd (omega arith)
+      go (suc r) e = let is : k ≡ suc r = cc in (is, λ z. omega arith)
 
-pub entries-is : (s : List ℕ) (n : ℕ) → reading s ≡ Entries n → (firstOf (readerChecks s) ≡ 0) × (n ≡ entries s)
-unfolding reading
-entries-is s n e = go (eqb (firstOf (readerChecks s)) 0) refl e
-  where
-    go : (b : Bool) → eqb (firstOf (readerChecks s)) 0 ≡ b → cond b (Entries (entries s)) (Refused (firstOf (readerChecks s))) ≡ Entries n → (firstOf (readerChecks s) ≡ 0) × (n ≡ entries s)
-    go true q e = (eqb-true (firstOf (readerChecks s)) 0 q, cc)
-    go false q e = let z : _≡_ {A = ℕ} 0 1 = cc in absurd (omega arith)
+  pub entries-is : (n : ℕ) → answer (readerRefusal s) (entries s) ≡ Count n → (readerRefusal s ≡ 0) × (n ≡ entries s)
+  unfolding answer
+  entries-is n e = go (readerRefusal s) e
+    where
+      go : (r : ℕ) → answer r (entries s) ≡ Count n → (r ≡ 0) × (n ≡ entries s)
+      go zero e = (refl, cc)
+      go (suc r) e = let z : _≡_ {A = ℕ} 0 1 = cc in absurd (omega arith)
 
--- the name of an entry
-module _ (s : List ℕ) (i : ℕ) where
-  pub name-none : (k : ℕ) → reading s ≡ Refused k → [] ≡ nameOf s i
-  unfolding nameOf
-  name-none k e = let (is, some) = number-is s k e in rw (sym is, ne-eqb k 0 some)
-
-  pub name-past : (n : ℕ) → reading s ≡ Entries n → n ≤ i → [] ≡ nameOf s i
-  unfolding nameOf
-  name-past n e h =
-      let q = entries-is s n e in
-      rw (q .0, le-ltb i (entries s) (omega arith))
-
-  pub name-at : (n : ℕ) → reading s ≡ Entries n → i < n → getD (names s) i [] ≡ nameOf s i
-  unfolding nameOf
-  name-at n e h =
-      let q = entries-is s n e in
-      rw (q .0, lt-ltb i (entries s) (omega arith))
-
--- a sheet that passes
-pub passes-few : (s : List ℕ) → firstOf (readerChecks s) ≡ 0 → entries s ≤ 32
-unfolding readerChecks
+-- a sheet that passes: it has few entries, and the first slots are its pair list
+pub passes-few : (s : List ℕ) → readerRefusal s ≡ 0 → entries s ≤ 32
+unfolding readerRefusal readerChecks
 passes-few s e₁ =
     let (_, e₂) = no-first 2 (wrongLength s) _ (lit< tt) e₁ in
     let (_, e₃) = no-first 3 (wrongByte s) _ (lit< tt) e₂ in
@@ -92,11 +107,32 @@ passes-few s e₁ =
     let (_, e₅) = no-first 5 (equalNames s) _ (lit< tt) e₄ in
     right-count (entries s) (no-first 6 (wrongCount (entries s)) _ (lit< tt) e₅ .0)
 
-pub pairs-length : (s : List ℕ) → length (pairs s) ≡ rowStart (entries s)
-unfolding pairs
-pairs-length s = length-pairList (entries s) (value s)
+pub slots-pairs : (s : List ℕ) (l : List ℤ) → readerRefusal s ≡ 0
+    → take (rowStart (entries s)) (slots (readerRefusal s) (pairs s) l) ≡ pairs s
+slots-pairs s l e = rw (e, slots-written (pairs s) l) (take-at (pairs s) _ (rowStart (entries s)) (pairs-length s))
 
--- the first slots of a sheet that passes are its pair list
-pub slots-pairs : (s : List ℕ) (l : List ℤ) → length l ≡ 528 → firstOf (readerChecks s) ≡ 0 → take (rowStart (entries s)) (slots s l) ≡ pairs s
-unfolding slots pairs
-slots-pairs s l h e = rw e (pairs-taken (value s) (entries s) l (omega (arith, rowStart-le (entries s) (passes-few s e))))
+-- the ways out of the name of an entry: an empty part at the sheet's own place, or the name at its place
+behind-none : (at : ℕ × ℕ) → at ≡ behind 0 at
+unfolding behind
+behind-none (block, offset) = let z : offset ≡ 0 + offset = omega arith in ap (λ (k : ℕ). (block, k)) z
+
+module _ (s : List ℕ) (i : ℕ) (at : ℕ × ℕ) where
+  nothing : hasName s i ≡ false → NameCall s at i [] at
+  unfolding nameOf nameStart
+  nothing e = record { bytes = rw e; lies = rw e (behind-none at) }
+
+  pub name-none : (k : ℕ) → answer (readerRefusal s) (entries s) ≡ Refused k → NameCall s at i [] at
+  unfolding hasName
+  name-none k e = let (is, some) = number-is s k e in nothing (rw (sym is, ne-eqb k 0 some))
+
+  pub name-past : (n : ℕ) → answer (readerRefusal s) (entries s) ≡ Count n → n ≤ i → NameCall s at i [] at
+  unfolding hasName
+  name-past n e h = let (z, is) = entries-is s n e in nothing (rw (z, le-ltb i (entries s) (omega arith)))
+
+  pub name-at : (n from : ℕ) {part : List ℕ} → answer (readerRefusal s) (entries s) ≡ Count n → i < n
+      → part ≡ getD (names s) i [] → from ≡ startOf (names s) i → NameCall s at i part (at .0, from + at .1)
+  unfolding hasName nameOf nameStart behind
+  name-at n from e h p q =
+      let (z, is) = entries-is s n e in
+      let l = lt-ltb i (entries s) (omega arith) in
+      record { bytes = p ∙ rw (z, l); lies = ap (λ (k : ℕ). behind k at) q ∙ rw (z, l) }

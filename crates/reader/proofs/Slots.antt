@@ -1,20 +1,17 @@
 -- Values stored in a row of slots.
 use mathlib.Core.Path.{_≡_, refl, sym, ap, _∙_}
 use mathlib.Core.Bool.{Bool, true, false}
-use mathlib.Core.List.{List}
 use Prim.Native.Nat.{ℕ, _+_, _≤_, _<_}
 use native.Mathlib.Omega.{arith}
 use lib.IntN.{ℤ}
-use lib.ListN.{length, take, drop}
-use lib.Seq.{sets, sets-eq, take-at}
 use mir.Val.{SFits, toZ, ofZ}
 use mir.Syntax.{w32}
 use mir.Facts.{toZ-ofZ}
 use Rattle.lists.proofs.Tests.{T-true, true-T}
 use Rattle.integers.specs.Integers.{eqZ}
 use Rattle.integers.proofs.Linear.{eqZ-yes, yes-eqZ}
-use Rattle.clusters.specs.PairList.{Similarity, pairList, rowStart}
-use Rattle.clusters.proofs.PairList.{rowStart-le, row-lt, length-pairList}
+use Rattle.clusters.specs.PairList.{rowStart}
+use Rattle.clusters.proofs.PairList.{rowStart-le, row-lt}
 
 -- two signed numbers are equal where their bits are
 pub bits-same : (x y : ℤ) → SFits w32 x → SFits w32 y → ofZ w32 x ≡ ofZ w32 y → eqZ x y ≡ true
@@ -29,9 +26,3 @@ bits-other x y d = go (eqZ x y) refl
 
 pub row-room : (i : ℕ) → i ≤ 31 → rowStart i + i < 528
 row-room i h = omega (arith, row-lt 32 i i (omega arith) (omega arith), rowStart-le 32 (omega arith))
-
--- the pair list is the first slots
-pub pairs-taken : (v : Similarity) (n : ℕ) (l : List ℤ) → rowStart n ≤ length l → take (rowStart n) (sets l 0 (pairList n v)) ≡ pairList n v
-pairs-taken v n l h =
-    let e = length-pairList n v in
-    rw (sets-eq (pairList n v) l 0 (omega arith)) (take-at (pairList n v) (drop (0 + length (pairList n v)) l) (rowStart n) e)

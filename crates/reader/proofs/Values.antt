@@ -20,7 +20,7 @@ use Rattle.interface.specs.Sheet.{cut, valueOf, lines, entries, words, value}
 use Rattle.text.specs.Reading.{pieceAt}
 use Rattle.text.proofs.Pieces.{piece-part, pieces-more, pieces-last}
 use Rattle.interface.specs.Refusals.{isRow, wrongLines, wrongValues}
-use Rattle.reader.specs.Answer.{square}
+use Rattle.reader.specs.Square.{square}
 
 -- what check 7 leaves
 pub line-count : (s : List ℕ) → wrongLines s ≡ false → length (lines s) ≡ entries s + 2

@@ -1,30 +1,25 @@
 ghost use mathlib.Core.Path.{_≡_};
 ghost use mathlib.Core.Bool.{false, not, cond};
-ghost use mathlib.Core.List.{[], map};
+ghost use mathlib.Core.List.{_++_, map};
 ghost use Prim.Native.Nat.{suc, _+_, _≤_, _<_};
-ghost use lib.ListN.{length, getD};
+ghost use lib.ListN.{length, drop};
 ghost use lib.Seq.{sets};
 ghost use Rattle.lists.specs.Lists.{all, below};
 ghost use Rattle.integers.specs.Integers.{eqZ};
+ghost use Rattle.clusters.specs.PairList.{rowStart, pairList};
 ghost use Rattle.interface.specs.Sheet.{space, cut, valueOf, entries, value, mirrored};
-ghost use Rattle.text.specs.Reading.{pieceAt};
-ghost use Rattle.clusters.specs.PairList.{pairList};
-ghost use Rattle.interface.specs.Refusals.{firstOf, isRow, wrongLines, wrongValues, readerChecks};
-ghost use Rattle.interface.specs.Calls.{nameOf};
-ghost use Rattle.reader.specs.Answer.{reading, slots, square, Holds};
+ghost use Rattle.interface.specs.Refusals.{isRow, wrongLines, wrongValues, readerRefusal};
+ghost use Rattle.interface.specs.Calls.{ReaderCall, startOf, NameCall};
+ghost use Rattle.reader.specs.Square.{square, Holds};
+use answers::Answer;
 use text::ValueRead;
-
-// The number of entries, or the number of the refusal.
-pub enum Reading {
-    Entries(usize),
-    Refused(usize),
-}
 
 // Reads a line of n values into the slots from base on; answers 8 if the line is refused, else 0.
 fn read_row(line: &[u8], n: usize, base: usize, values: &mut [i32]) -> usize
     requires { ⌜ base + n ≤ length (now values) ⌝ }
     ensures { λ r. ⌜ r ≡ cond (not (isRow n (cut space (now (line .entry))))) 8 0 ⌝ }
-    ensures { λ r. ⌜ (r ≡ 0 → now (values .exit) ≡ sets (now (values .entry)) base (map valueOf (cut space (now (line .entry))))) ⌝ }
+    ensures { λ r. ⌜ (r ≡ 0 →
+        now (values .exit) ≡ sets (now (values .entry)) base (map valueOf (cut space (now (line .entry))))) ⌝ }
 {
     let mut at: usize = 0;
     let mut k: usize = 0;
@@ -48,7 +43,8 @@ fn read_row(line: &[u8], n: usize, base: usize, values: &mut [i32]) -> usize
 
 // Reads the n value lines; answers 8 if one is refused, else 0.
 fn read_rows(sheet: &[u8], n: usize, values: &mut [i32]) -> usize
-    requires { ⌜ (n ≡ entries (now sheet)) × (n ≤ 32) × (wrongLines (now sheet) ≡ false) × (length (now values) ≡ 1024) ⌝ }
+    requires { ⌜ (n ≡ entries (now sheet)) × (n ≤ 32) × (wrongLines (now sheet) ≡ false)
+        × (length (now values) ≡ 1024) ⌝ }
     ensures { λ r. ⌜ r ≡ cond (wrongValues (now (sheet .entry))) 8 0 ⌝ }
     ensures { λ r. ⌜ (r ≡ 0 → Holds (now (values .exit)) n (value (now (sheet .entry)))) ⌝ }
 {
@@ -66,7 +62,8 @@ fn read_rows(sheet: &[u8], n: usize, values: &mut [i32]) -> usize
 // Row i equals column i.
 fn is_mirrored_row(values: &[i32], n: usize, i: usize) -> bool
     requires { ⌜ (i < n) × (n ≤ 32) × (length (now values) ≡ 1024) ⌝ }
-    ensures { λ r. ⌜ r ≡ all (λ j. eqZ (square (now (values .entry)) i j) (square (now (values .entry)) j i)) (below n) ⌝ }
+    ensures { λ r. ⌜ r
+        ≡ all (λ j. eqZ (square (now (values .entry)) i j) (square (now (values .entry)) j i)) (below n) ⌝ }
 {
     for j in 0..n {
         let a = i * 32 + j;
@@ -92,9 +89,10 @@ fn is_mirrored(values: &[i32], n: usize) -> bool
 }
 
 // Writes row i of the lower triangle to the slots from start on.
-fn fill_row(values: &[i32], i: usize, start: usize, pairs: &mut [i32; 528])
-    requires { ⌜ (i < 32) × (start + i < 528) × (length (now values) ≡ 1024) ⌝ }
-    ensures { λ _. ⌜ now (pairs .exit) ≡ sets (now (pairs .entry)) start (map (square (now (values .entry)) i) (below (suc i))) ⌝ }
+fn fill_row(pairs: &mut [i32], values: &[i32], i: usize, start: usize)
+    requires { ⌜ (i < 32) × (start + i < length (now pairs)) × (length (now values) ≡ 1024) ⌝ }
+    ensures { λ _. ⌜ now (pairs .exit)
+        ≡ sets (now (pairs .entry)) start (map (square (now (values .entry)) i) (below (suc i))) ⌝ }
 {
     let count = i + 1;
     for j in 0..count {
@@ -104,58 +102,58 @@ fn fill_row(values: &[i32], i: usize, start: usize, pairs: &mut [i32; 528])
 }
 
 // Writes the pair list to the first slots.
-fn fill(values: &[i32], n: usize, pairs: &mut [i32; 528])
-    requires { ⌜ (n ≤ 32) × (length (now values) ≡ 1024) ⌝ }
-    ensures { λ _. ⌜ now (pairs .exit) ≡ sets (now (pairs .entry)) 0 (pairList n (square (now (values .entry)))) ⌝ }
+fn fill(pairs: &mut [i32], values: &[i32], n: usize)
+    requires { ⌜ (n ≤ 32) × (length (now pairs) ≡ 528) × (length (now values) ≡ 1024) ⌝ }
+    ensures { λ _. ⌜ now (pairs .exit)
+        ≡ pairList n (square (now (values .entry))) ++ drop (rowStart n) (now (pairs .entry)) ⌝ }
 {
     let mut start: usize = 0;
     for i in 0..n {
-        fill_row(values, i, start, pairs);
+        fill_row(pairs, values, i, start);
         start += i + 1;
     }
 }
 
-// Checks 2 to 9 and, if none refuses, the pair list in the first slots.
-pub fn read(sheet: &[u8], pairs: &mut [i32; 528]) -> Reading
-    ensures { λ r. ⌜ r ≡ reading (now (sheet .entry)) ⌝ }
-    ensures { λ _. ⌜ now (pairs .exit) ≡ slots (now (sheet .entry)) (now (pairs .entry)) ⌝ }
+// Checks 2 to 9 and, if none refuses, the number of entries, and the pair list in the first slots.
+pub fn read(sheet: &[u8], pairs: &mut [i32; 528]) -> Answer
+    ensures { λ r. ⌜ ReaderCall (now (sheet .entry)) (now (pairs .entry)) r (now (pairs .exit)) ⌝ }
 {
     if sheet::wrong_length(sheet) {
-        return Reading::Refused(2);
+        return Answer::Refused(2);
     }
     if sheet::wrong_byte(sheet) {
-        return Reading::Refused(3);
+        return Answer::Refused(3);
     }
     if sheet::wrong_names(sheet) {
-        return Reading::Refused(4);
+        return Answer::Refused(4);
     }
     if sheet::equal_names(sheet) {
-        return Reading::Refused(5);
+        return Answer::Refused(5);
     }
     let n = sheet::entry_count(sheet);
     if matrix::is_wrong_count(n) {
-        return Reading::Refused(6);
+        return Answer::Refused(6);
     }
     if sheet::wrong_lines(sheet, n) {
-        return Reading::Refused(7);
+        return Answer::Refused(7);
     }
     let mut values = [0i32; 1024];
     if read_rows(sheet, n, &mut values) != 0 {
-        return Reading::Refused(8);
+        return Answer::Refused(8);
     }
     if !is_mirrored(&values, n) {
-        return Reading::Refused(9);
+        return Answer::Refused(9);
     }
-    fill(&values, n, pairs);
-    Reading::Entries(n)
+    fill(pairs, &values, n);
+    Answer::Count(n)
 }
 
 // The number of the first of checks 2 to 9 that refuses the sheet, 0 if none does.
 pub fn refusal(sheet: &[u8]) -> usize
-    ensures { λ r. ⌜ r ≡ firstOf (readerChecks (now (sheet .entry))) ⌝ }
+    ensures { λ r. ⌜ r ≡ readerRefusal (now (sheet .entry)) ⌝ }
 {
     let mut pairs = [0i32; 528];
-    let Reading::Refused(number) = read(sheet, &mut pairs) else {
+    let Answer::Refused(number) = read(sheet, &mut pairs) else {
         return 0;
     };
     number
@@ -164,7 +162,7 @@ pub fn refusal(sheet: &[u8]) -> usize
 // The place where piece i of the line starts.
 fn piece_start(line: &[u8], i: usize) -> usize
     requires { ⌜ i < length (cut space (now line)) ⌝ }
-    ensures { λ r. ⌜ (r ≤ length (now (line .entry))) × (pieceAt space (now (line .entry)) r ≡ getD (cut space (now (line .entry))) i []) ⌝ }
+    ensures { λ r. ⌜ r ≡ startOf (cut space (now (line .entry))) i ⌝ }
 {
     let mut at: usize = 0;
     let mut left = i;
@@ -177,10 +175,10 @@ fn piece_start(line: &[u8], i: usize) -> usize
 
 // The name of an entry as its own part of the sheet; the empty part if the sheet is refused or has no such entry.
 pub fn name(sheet: &[u8], entry: usize) -> &[u8]
-    ensures { λ r. ⌜ now r ≡ nameOf (now (sheet .entry)) entry ⌝ }
+    ensures { λ r. ⌜ NameCall (now (sheet .entry)) (sheet .entry .ptr) entry (now r) (r .ptr) ⌝ }
 {
     let mut pairs = [0i32; 528];
-    let Reading::Entries(n) = read(sheet, &mut pairs) else {
+    let Answer::Count(n) = read(sheet, &mut pairs) else {
         return &sheet[..0];
     };
     if entry >= n {

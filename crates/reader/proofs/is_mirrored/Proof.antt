@@ -7,7 +7,7 @@ use Rattle.lists.specs.Lists.{all, below}
 use Rattle.lists.proofs.Walk.{Passed, started, next-below, failed-below, ended-below}
 use Rattle.integers.specs.Integers.{eqZ}
 use Rattle.interface.specs.Sheet.{mirrored}
-use Rattle.reader.specs.Answer.{square}
+use Rattle.reader.specs.Square.{square}
 use Rattle.reader.proofs.is_mirrored.Statement.{statement}
 use Rattle.reader.proofs.is_mirrored.Tie as tie
 

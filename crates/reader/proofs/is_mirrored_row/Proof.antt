@@ -6,7 +6,7 @@ use borrow.Author.Needs.{needs}
 use Rattle.lists.specs.Lists.{below}
 use Rattle.lists.proofs.Walk.{Passed, started, next-below, failed-below, ended-below}
 use Rattle.integers.specs.Integers.{eqZ}
-use Rattle.reader.specs.Answer.{square}
+use Rattle.reader.specs.Square.{square}
 use Rattle.reader.proofs.Slots.{bits-same, bits-other}
 use Rattle.reader.proofs.is_mirrored_row.Statement.{statement}
 use Rattle.reader.proofs.is_mirrored_row.Tie as tie

@@ -1,9 +1,14 @@
-use mathlib.Core.Path.{sym, _∙_}
-use Prim.Native.Nat.{_≤_}
-use native.Mathlib.Omega.{arith}
+use mathlib.Core.Path.{_≡_, sym, _∙_}
+use mathlib.Core.List.{List}
+use Prim.Native.Nat.{ℕ, _<_}
 use borrow.Author.Needs.{needs}
+use lib.ListN.{length, take}
+use Rattle.answers.specs.declared.Answer.the-variants.{Count, Refused}
+use Rattle.answers.specs.Answers.{answer}
+use Rattle.interface.specs.Sheet.{cut, entries}
+use Rattle.interface.specs.Refusals.{readerRefusal}
 use Rattle.sheet.proofs.Lines.{line-length}
-use Rattle.reader.proofs.Parts.{entry-in, name-inside, name-part}
+use Rattle.reader.proofs.Parts.{entry-in, name-start, name-from, name-inside, name-part}
 use Rattle.reader.proofs.Answers.{entries-is, name-none, name-past, name-at}
 use Rattle.reader.proofs.name.Statement.{statement}
 use Rattle.reader.proofs.name.Tie as tie
@@ -17,37 +22,63 @@ enum-known-n c = search needs
 enum-told : tie.Need-enum-told
 enum-told c = search needs
 
+-- the sheet, the number that is asked for, and what the reader answered
+abbrev sheet : tie.After-read → List ℕ
+sheet c = c .before .before .before .args .sheet .now
+
+abbrev entry : tie.After-read → ℕ
+entry c = c .before .before .before .args .entry
+
+counted : (c : tie.After-n) →
+    let s = sheet (c .before .before) in
+    answer (readerRefusal s) (entries s) ≡ Count (c .n .given .0 .0)
+counted c = sym (c .before .before .read .ensures .answered) ∙ c .n .given .1
+
 slice-aggregate-result : tie.Need-slice-aggregate-result
 slice-aggregate-result c = search needs
 
 returns : tie.Need-returns
-returns c = name-none (c .before .before .before .before .before .before .args .sheet .now) (c .before .before .before .before .before .before .args .entry) _ (sym (c .before .before .before .read .ensures .0) ∙ c .before .enum-told .given .1)
+returns c =
+    let r = c .before .before .before in
+    name-none (sheet r) (entry r) _ _ (sym (r .read .ensures .answered) ∙ c .before .enum-told .given .1)
 
 slice-aggregate-result-2 : tie.Need-slice-aggregate-result-2
 slice-aggregate-result-2 c = search needs
 
 returns-2 : tie.Need-returns-2
 returns-2 c =
-    let h : c .before .before .before .n .given .0 .0 ≤ c .before .before .before .before .before .before .before .before .args .entry = omega arith in
-    name-past (c .before .before .before .before .before .before .before .before .args .sheet .now) (c .before .before .before .before .before .before .before .before .args .entry) _ (sym (c .before .before .before .before .before .read .ensures .0) ∙ c .before .before .before .n .given .1) h
+    let n = c .before .before .before in
+    let r = n .before .before in
+    name-past (sheet r) (entry r) _ _ (counted n) (c .before .if1 .taken)
 
 line-end-requires : tie.Need-line-end-requires
 line-end-requires c κs = search needs
 
+-- line 1 has that many names
+has : (c : tie.After-line-end) →
+    let r = c .before .before .before .before .before in
+    entry r < length (cut 32 (take (c .line-end .result) (sheet r)))
+has c =
+    let n = c .before .before .before in
+    let r = n .before .before in
+    entry-in (sheet r) _ (entry r) _ (c .line-end .ensures) (entries-is _ _ (counted n) .1) (c .before .if1 .left)
+
 slice-aggregate-piece-start : tie.Need-slice-aggregate-piece-start
-slice-aggregate-piece-start c = line-length (c .before .before .before .before .before .before .before .before .before .args .sheet .now) _ (c .before .line-end .ensures)
+slice-aggregate-piece-start c = line-length (sheet (c .before .before .before .before .before .before)) _ (c .before .line-end .ensures)
 
 piece-start-requires : tie.Need-piece-start-requires
-piece-start-requires c κs =
-    let s = c .before .before .before .before .before .before .before .before .before .args .sheet .now in
-    let e = entries-is s _ (sym (c .before .before .before .before .before .before .read .ensures .0) ∙ c .before .before .before .before .n .given .1) .1 in
-    entry-in s _ (c .before .before .before .before .before .before .before .before .before .args .entry) _ (c .before .line-end .ensures) e (c .before .before .if1 .left)
+piece-start-requires c κs = has (c .before)
 
 slice-aggregate-piece-end : tie.Need-slice-aggregate-piece-end
-slice-aggregate-piece-end c = line-length (c .before .before .before .before .before .before .before .before .before .before .before .args .sheet .now) _ (c .before .before .before .line-end .ensures)
+slice-aggregate-piece-end c =
+    let e = c .before .before .before in
+    line-length (sheet (e .before .before .before .before .before)) _ (e .line-end .ensures)
 
 piece-end-requires : tie.Need-piece-end-requires
-piece-end-requires c κs = c .before .piece-start .ensures .0
+piece-end-requires c κs =
+    let e = c .before .before .before in
+    let r = e .before .before .before .before .before in
+    name-from (sheet r) _ _ (entry r) (e .line-end .ensures) (has e) (c .before .piece-start .ensures)
 
 sub-result : tie.Need-sub-result
 sub-result c = search needs
@@ -57,13 +88,20 @@ part-result-start c = search needs
 
 part-result-end : tie.Need-part-result-end
 part-result-end c =
-    name-inside (c .before .before .before .before .before .before .before .before .before .before .before .before .args .sheet .now) _ _ _ (c .before .before .before .before .before .before .before .before .before .before .before .before .args .entry) (c .before .before .before .before .line-end .ensures) (c .before .before .piece-start .ensures .0) (c .before .before .piece-start .ensures .1) (c .piece-end .ensures)
+    let e = c .before .before .before .before in
+    let r = e .before .before .before .before .before in
+    name-inside (sheet r) _ _ (entry r) (e .line-end .ensures) (has e) (c .before .before .piece-start .ensures) _ (c .piece-end .ensures)
 
 returns-3 : tie.Need-returns-3
 returns-3 c =
-    let s = c .before .before .before .before .before .before .before .before .before .before .before .before .before .args .sheet .now in
-    name-part s _ _ _ (c .before .before .before .before .before .before .before .before .before .before .before .before .before .args .entry) (c .before .before .before .before .before .line-end .ensures) (c .before .before .before .piece-start .ensures .0) (c .before .before .before .piece-start .ensures .1) (c .before .piece-end .ensures)
-    ∙ name-at s (c .before .before .before .before .before .before .before .before .before .before .before .before .before .args .entry) _ (sym (c .before .before .before .before .before .before .before .before .before .before .read .ensures .0) ∙ c .before .before .before .before .before .before .before .before .n .given .1) (c .before .before .before .before .before .before .if1 .left)
+    let e = c .before .before .before .before .before in
+    let n = e .before .before .before in
+    let r = n .before .before in
+    let l = e .line-end .ensures in
+    let f = c .before .before .before .piece-start .ensures in
+    name-at (sheet r) (entry r) _ _ _ (counted n) (e .before .if1 .left)
+    (name-part (sheet r) _ _ (entry r) l (has e) f _ (c .before .piece-end .ensures))
+    (name-start (sheet r) _ _ (entry r) l (has e) f)
 
 pub name-spec : {M : Type 1} → statement M
 name-spec =

@@ -13,7 +13,19 @@ use mir.Syntax.{w32}
 use mir.Facts.{toZ-ofZ}
 use Rattle.interface.specs.Sheet.{cut, valueOf}
 use Rattle.interface.specs.Refusals.{isRow}
-use Rattle.reader.proofs.Rows.{Got, value-got, value-not, row-none, row-refused, row-last, row-more, store-last, store-more, row-eight, row-zero}
+use Rattle.reader.proofs.Rows.{
+  Got,
+  value-got,
+  value-not,
+  row-none,
+  row-refused,
+  row-last,
+  row-more,
+  store-last,
+  store-more,
+  row-eight,
+  row-zero,
+}
 use Rattle.reader.proofs.read_row.Statement.{statement}
 use Rattle.reader.proofs.read_row.Tie as tie
 
@@ -54,11 +66,10 @@ same-length c = search needs
 
 returns : tie.Need-returns Inv-loop μ-loop
 returns c =
-    let s = c .before .before .before .before .before .before .args .line .now in
-    let l = c .before .before .before .before .loop in (
-      row-eight (c .before .before .before .before .before .before .args .n) (cut 32 s) (sym (l .inv .2) ∙ row-refused _ s (l .at) (value-not s (l .at) (sym (c .before .before .read-value .ensures) ∙ c .enum-told .given .1))),
-      λ z. absurd (omega (arith, z)),
-    )
+    let p = c .before .before in
+    let l = p .before .before .loop in
+    let e = row-refused _ _ (l .at) (value-not (p .read-value .ensures) (c .enum-told .given .1)) in
+    (row-eight _ _ (sym (l .inv .2) ∙ e), λ z. absurd (omega (arith, z)))
 
 add-v : tie.Need-add-v Inv-loop μ-loop
 add-v c = search needs
@@ -73,34 +84,44 @@ add-k : tie.Need-add-k Inv-loop μ-loop
 add-k c = search needs
 
 -- the value that was read and the place after it
-got : (c : tie.After-v Inv-loop μ-loop) → Got (c .before .before .before .before .before .before .args .line .now) (c .before .before .before .before .loop .at) (c .v .given .0 .0) (c .v .given .0 .1 .0)
-got c = value-got _ _ _ _ (sym (c .before .before .read-value .ensures) ∙ c .v .given .1)
+got : (c : tie.After-v Inv-loop μ-loop) →
+    let l = c .before .before .before .before in
+    Got (l .before .before .args .line .now) (l .loop .at) (c .v .given .0 .0) (c .v .given .0 .1 .0)
+got c = value-got _ _ (c .before .before .read-value .ensures) (c .v .given .1)
+
+-- the line ends behind the value: it is a row if no other value is wanted
+ends : (c : tie.Then1 Inv-loop μ-loop) →
+    let l = c .before .before .before .before .before .before in
+    let a = l .before .before .args in
+    isRow (a .n) (cut 32 (a .line .now)) ≡ eqb 1 (a .n - l .loop .k)
+ends c =
+    let l = c .before .before .before .before .before .before .loop in
+    let g = got (c .before .before) in
+    sym (l .inv .2) ∙ row-last _ (l .at) _ (l .inv .1) (g .end) _ (c .if1 .taken) (g .good)
 
 same-length-2 : tie.Need-same-length-2 Inv-loop μ-loop
 same-length-2 c = search needs
 
 returns-2 : tie.Need-returns-2 Inv-loop μ-loop
 returns-2 c =
-    let s = c .before .before .before .before .before .before .before .before .before .args .line .now in
     let l = c .before .before .before .before .before .before .before .loop in
-    let g = got (c .before .before .before) in
-    let e : eqb 1 (c .before .before .before .before .before .before .before .before .before .args .n - l .k) ≡ false = ne-eqb 1 (c .before .before .before .before .before .before .before .before .before .args .n - l .k) (λ z. omega arith) in (
-      row-eight (c .before .before .before .before .before .before .before .before .before .args .n) (cut 32 s) (sym (l .inv .2) ∙ row-last s (l .at) _ (l .inv .1) (g .end) (c .before .before .before .before .before .before .before .before .before .args .n - l .k) (c .before .if1 .taken) (g .good) ∙ e),
-      λ z. absurd (omega (arith, z)),
-    )
+    let a = c .before .before .before .before .before .before .before .before .before .args in
+    let e : eqb 1 (a .n - l .k) ≡ false = ne-eqb 1 (a .n - l .k) (λ z. omega arith) in
+    (row-eight _ _ (ends (c .before) ∙ e), λ z. absurd (omega (arith, z)))
 
 same-length-3 : tie.Need-same-length-3 Inv-loop μ-loop
 same-length-3 c = search needs
 
 returns-3 : tie.Need-returns-3 Inv-loop μ-loop
 returns-3 c =
-    let s = c .before .before .before .before .before .before .before .before .before .args .line .now in
     let l = c .before .before .before .before .before .before .before .loop in
+    let a = c .before .before .before .before .before .before .before .before .before .args in
     let g = got (c .before .before .before) in
-    let f : SFits w32 (c .before .before .before .v .given .0 .0) = search needs in
-    let e : eqb 1 (c .before .before .before .before .before .before .before .before .before .args .n - l .k) ≡ true = eq-eqb 1 (c .before .before .before .before .before .before .before .before .before .args .n - l .k) (omega arith) in (
-      row-zero (c .before .before .before .before .before .before .before .before .before .args .n) (cut 32 s) (sym (l .inv .2) ∙ row-last s (l .at) _ (l .inv .1) (g .end) (c .before .before .before .before .before .before .before .before .before .args .n - l .k) (c .before .if1 .taken) (g .good) ∙ e),
-      λ z. rw (toZ-ofZ f, g .is) (store-last s (l .at) _ (l .inv .1) (g .end) (l .values) (c .before .before .before .before .before .before .before .before .before .args .base + l .k) (c .before .if1 .taken) ∙ l .inv .3),
+    let e : eqb 1 (a .n - l .k) ≡ true = eq-eqb 1 (a .n - l .k) (omega arith) in
+    let f : SFits w32 (c .before .before .before .v .given .0 .0) = search needs in (
+      row-zero _ _ (ends (c .before) ∙ e),
+      λ z. rw (toZ-ofZ f, g .is)
+          (store-last _ (l .at) _ (l .inv .1) (g .end) (l .values) (a .base + l .k) (c .before .if1 .taken) ∙ l .inv .3),
     )
 
 add-at : tie.Need-add-at Inv-loop μ-loop
@@ -111,17 +132,18 @@ loop-less c = search needs
 
 loop-again : tie.Need-loop-again Inv-loop μ-loop
 loop-again c =
-    let s = c .before .before .before .before .before .before .before .before .args .line .now in
     let l = c .before .before .before .before .before .before .loop in
+    let a = c .before .before .before .before .before .before .before .before .args in
     let g = got (c .before .before) in
     let f : SFits w32 (c .before .before .v .given .0 .0) = search needs in
-    let e : c .before .before .before .before .before .before .before .before .args .n - l .k ≡ suc (c .before .before .before .before .before .before .before .before .args .n - (l .k + 1)) = omega arith in
-    let i : c .before .before .before .before .before .before .before .before .args .base + (l .k + 1) ≡ c .before .before .before .before .before .before .before .before .args .base + l .k + 1 = omega arith in (
+    let e : a .n - l .k ≡ suc (a .n - (l .k + 1)) = omega arith in
+    let i : a .base + (l .k + 1) ≡ a .base + l .k + 1 = omega arith in (
       omega arith,
       omega arith,
-      sym (row-more s (l .at) _ (l .inv .1) (g .end) _ _ e (c .if1 .left) (g .good)) ∙ l .inv .2,
-      rw (toZ-ofZ f, g .is, i) (store-more s (l .at) _ (l .inv .1) (g .end) (l .values) (c .before .before .before .before .before .before .before .before .args .base + l .k) (c .if1 .left) ∙ l .inv .3),
-      length-set (l .values) (c .before .before .before .before .before .before .before .before .args .base + l .k) _ ∙ l .inv .4,
+      sym (row-more _ (l .at) _ (l .inv .1) (g .end) _ _ e (c .if1 .left) (g .good)) ∙ l .inv .2,
+      rw (toZ-ofZ f, g .is, i)
+          (store-more _ (l .at) _ (l .inv .1) (g .end) (l .values) (a .base + l .k) (c .if1 .left) ∙ l .inv .3),
+      length-set (l .values) (a .base + l .k) _ ∙ l .inv .4,
     )
 
 same-length-4 : tie.Need-same-length-4 Inv-loop μ-loop
@@ -129,11 +151,8 @@ same-length-4 c = search needs
 
 returns-4 : tie.Need-returns-4 Inv-loop μ-loop
 returns-4 c =
-    let s = c .before .before .before .args .line .now in
-    let l = c .before .loop in (
-      row-eight (c .before .before .before .args .n) (cut 32 s) (sym (l .inv .2) ∙ row-none _ (drop (l .at) s) (omega arith)),
-      λ z. absurd (omega (arith, z)),
-    )
+    let l = c .before .loop in
+    (row-eight _ _ (sym (l .inv .2) ∙ row-none _ _ (omega arith)), λ z. absurd (omega (arith, z)))
 
 pub read-row-spec : {M : Type 1} → statement M
 read-row-spec =

@@ -11,7 +11,7 @@ use Rattle.lists.specs.Lists.{below}
 use Rattle.lists.proofs.Walk.{Passed, started, next-below, failed-below, ended-below}
 use Rattle.interface.specs.Sheet.{valueOf, cut, lines, words, value}
 use Rattle.interface.specs.Refusals.{isRow}
-use Rattle.reader.specs.Answer.{square}
+use Rattle.reader.specs.Square.{square}
 use Rattle.reader.proofs.Rows.{row-length, refuses, passes}
 use Rattle.reader.proofs.Values.{Line, line-count, line-at, first-at, line-words, values-tested, square-next, value-at}
 use Rattle.reader.proofs.read_rows.Statement.{statement}

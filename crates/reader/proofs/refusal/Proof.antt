@@ -14,10 +14,10 @@ enum-told : tie.Need-enum-told
 enum-told c = search needs
 
 returns : tie.Need-returns
-returns c = sym (entries-is (c .before .before .before .before .before .args .sheet .now) _ (sym (c .before .before .read .ensures .0) ∙ c .enum-told .given .1) .0)
+returns c = sym (entries-is _ _ (sym (c .before .before .read .ensures .answered) ∙ c .enum-told .given .1) .0)
 
 returns-2 : tie.Need-returns-2
-returns-2 c = number-is (c .before .before .before .before .before .before .args .sheet .now) _ (sym (c .before .before .before .read .ensures .0) ∙ c .before .number .given .1) .0
+returns-2 c = number-is _ _ (sym (c .before .before .before .read .ensures .answered) ∙ c .before .number .given .1) .0
 
 pub refusal-spec : {M : Type 1} → statement M
 refusal-spec = tie.close (tie.spec read-requires enum-known-number enum-told returns returns-2)
