@@ -9,13 +9,13 @@ read-requires : tie.Need-read-requires
 read-requires c κs = search needs
 
 as-number-requires : tie.Need-as-number-requires
-as-number-requires c κs = read-small (c .before .before .before .args .sheet .now) (c .before .read .ensures .answered)
+as-number-requires c κs = read-small (c .before .before .before .args .sheet .now) (c .read .ensures .answered)
 
 returns : tie.Need-returns
 returns c = record {
-  given = c .before .before .read .result;
+  given = c .before .read .result;
   number = passed w64 (c .as-number .ok) (c .as-number .ensures);
-  holds = c .before .before .read .ensures;
+  holds = c .before .read .ensures;
 }
 
 pub exported-read-spec : {M : Type 1} → statement M

@@ -39,7 +39,8 @@ room c =
     let l = c .before .before .before .before .listing in
     let read = c .before .before .before .before .before .before .before .before .read-full in
     let kind = c .before .before .before .before .before .before .before .before .before .before .args .kind in
-    omega (arith, ap countOf (l .ensures .0), ap countOf (c .before .answer .given .1), count-le (toZ w32 (ofZ w32 kind)) (take (read .result) (read .last .1 .0)) 2048, l .kept .1 .1 .0)
+    let few = count-le (toZ w32 (ofZ w32 kind)) (take (read .result) (read .last .1 .0)) 2048 in
+    omega (arith, ap countOf (l .ensures .answered), ap countOf (c .before .answer .given .1), few, l .kept .1 .1 .0)
 
 array-share-prefix-output : tie.Need-array-share-prefix-output
 array-share-prefix-output c = room c
