@@ -65,8 +65,10 @@ fn converted(way: Way, n: usize, pairs: &[i32], a: usize, b: usize) -> i64
 
 // Row a of the list, converted.
 fn convert_row(way: Way, n: usize, pairs: &[i32], a: usize, out: &mut [i32])
-    requires { ⌜ (n ≤ 32) × (length (now pairs) ≡ rowStart n) × Convertible way n (now pairs) × (a < n) × (rowStart n ≤ length (now out)) ⌝ }
-    ensures { λ _. ⌜ now (out .exit) ≡ sets (now (out .entry)) (rowStart a) (map (converted way (score (now (pairs .entry))) a) (below (suc a))) ⌝ }
+    requires { ⌜ (n ≤ 32) × (length (now pairs) ≡ rowStart n) × Convertible way n (now pairs) × (a < n)
+        × (rowStart n ≤ length (now out)) ⌝ }
+    ensures { λ _. ⌜ now (out .exit) ≡
+        sets (now (out .entry)) (rowStart a) (map (converted way (score (now (pairs .entry))) a) (below (suc a))) ⌝ }
 {
     let start = matrix::row_start(a);
     for b in 0..a + 1 {
@@ -76,8 +78,10 @@ fn convert_row(way: Way, n: usize, pairs: &[i32], a: usize, out: &mut [i32])
 
 // A pair list that passed its checks, converted.
 fn convert(way: Way, n: usize, pairs: &[i32], out: &mut [i32])
-    requires { ⌜ (n ≤ 32) × (length (now pairs) ≡ rowStart n) × Convertible way n (now pairs) × (rowStart n ≤ length (now out)) ⌝ }
-    ensures { λ _. ⌜ now (out .exit) ≡ pairList n (converted way (score (now (pairs .entry)))) ++ drop (rowStart n) (now (out .entry)) ⌝ }
+    requires { ⌜ (n ≤ 32) × (length (now pairs) ≡ rowStart n) × Convertible way n (now pairs)
+        × (rowStart n ≤ length (now out)) ⌝ }
+    ensures { λ _. ⌜ now (out .exit) ≡
+        pairList n (converted way (score (now (pairs .entry)))) ++ drop (rowStart n) (now (out .entry)) ⌝ }
 {
     for a in 0..n {
         convert_row(way, n, pairs, a, out);
@@ -86,17 +90,21 @@ fn convert(way: Way, n: usize, pairs: &[i32], out: &mut [i32])
 
 // The anchored scores of distances that passed their checks.
 pub fn anchor(n: usize, x: usize, pairs: &[i32], out: &mut [i32])
-    requires { ⌜ (n ≤ 32) × (x < n) × (length (now pairs) ≡ rowStart n) × T (inRange (now pairs)) × (rowStart n ≤ length (now out)) ⌝ }
-    ensures { λ _. ⌜ now (out .exit) ≡ anchoredScores n x (now (pairs .entry)) ++ drop (rowStart n) (now (out .entry)) ⌝ }
+    requires { ⌜ (n ≤ 32) × (x < n) × (length (now pairs) ≡ rowStart n) × T (inRange (now pairs))
+        × (rowStart n ≤ length (now out)) ⌝ }
+    ensures { λ _. ⌜ now (out .exit) ≡
+        anchoredScores n x (now (pairs .entry)) ++ drop (rowStart n) (now (out .entry)) ⌝ }
 {
     convert(Way::Anchored(x), n, pairs, out);
 }
 
 // The answer of either call whose table gives this number; if that is 0, the list is converted.
 fn answered(refusal: usize, way: Way, n: usize, pairs: &[i32], out: &mut [i32]) -> Answer
-    requires { ⌜ (refusal ≡ 0 → (n ≤ 32) × (length (now pairs) ≡ rowStart n) × Convertible way n (now pairs) × (rowStart n ≤ length (now out))) ⌝ }
+    requires { ⌜ (refusal ≡ 0 → (n ≤ 32) × (length (now pairs) ≡ rowStart n) × Convertible way n (now pairs)
+        × (rowStart n ≤ length (now out))) ⌝ }
     ensures { λ r. ⌜ r ≡ answer refusal (rowStart n) ⌝ }
-    ensures { λ _. ⌜ now (out .exit) ≡ slots refusal (pairList n (converted way (score (now (pairs .entry))))) (now (out .entry)) ⌝ }
+    ensures { λ _. ⌜ now (out .exit) ≡
+        slots refusal (pairList n (converted way (score (now (pairs .entry))))) (now (out .entry)) ⌝ }
 {
     if refusal != 0 {
         return Answer::Refused(refusal);
@@ -165,7 +173,8 @@ fn is_row_back(n: usize, scores: &[i32], a: usize) -> bool
 // What is found back passes checks 11 and 12.
 fn are_distances_back(n: usize, scores: &[i32]) -> bool
     requires { ⌜ (n ≤ 32) × (length (now scores) ≡ rowStart n) ⌝ }
-    ensures { λ r. ⌜ r ≡ (inRange (distancesBack n (now (scores .entry))) && areDistances n (distancesBack n (now (scores .entry)))) ⌝ }
+    ensures { λ r. ⌜ r ≡
+        (inRange (distancesBack n (now (scores .entry))) && areDistances n (distancesBack n (now (scores .entry)))) ⌝ }
 {
     for a in 0..n {
         if !is_row_back(n, scores, a) {
@@ -187,7 +196,8 @@ fn is_anchored_entry(n: usize, x: usize, scores: &[i32], a: usize) -> bool
 // The same at every entry.
 fn are_anchored_entries(n: usize, x: usize, scores: &[i32]) -> bool
     requires { ⌜ (n ≤ 32) × (x < n) × (length (now scores) ≡ rowStart n) ⌝ }
-    ensures { λ r. ⌜ r ≡ all (λ a. eqZ (score (now (scores .entry)) a x) (pos 0) && even (score (now (scores .entry)) a a)) (below n) ⌝ }
+    ensures { λ r. ⌜ r ≡
+        all (λ a. eqZ (score (now (scores .entry)) a x) (pos 0) && even (score (now (scores .entry)) a a)) (below n) ⌝ }
 {
     for a in 0..n {
         if !is_anchored_entry(n, x, scores, a) {

@@ -1,4 +1,4 @@
--- Groups as the code holds them.
+-- The code's own vocabulary, which nobody need believe: groups as the code holds them.
 use mathlib.Core.Path.{_≡_}
 use mathlib.Core.List.{List, map}
 use Prim.Native.Nat.{ℕ, _≤_}

@@ -1,4 +1,4 @@
--- What the code for the indices asks of its callers.
+-- The code's own vocabulary, which nobody need believe: what the code for the indices asks of its callers.
 use mathlib.Core.Path.{_≡_}
 use mathlib.Core.List.{List}
 use Prim.Native.Nat.{ℕ, _^_, _≤_, _<_}

@@ -1,4 +1,4 @@
--- The indices of differences (document 01, Definitions: strong index, separation index) by their margins.
+-- The code's own vocabulary, which nobody need believe: the strong index and the separation index by their margins.
 use mathlib.Core.Path.{_≡_}
 use mathlib.Core.Bool.{Bool, Bool·beq, cond}
 use mathlib.Core.List.{List, map}
@@ -37,7 +37,8 @@ Numbers n t = (y : ℕ) → y < n → Within (2 ^ 22) (number t y)
 
 -- the least margin of the scores of x, less the numbers of a table, over the x in A, or over those outside
 unfoldable pub leastMargin : ℕ → Similarity → ℕ → List ℤ → Bool → ℤ
-leastMargin n s A t inner = least (map (λ x. margin n (λ y. s x y -ℤ number t y) A) (keep (λ x. Bool·beq (has A x) inner) (below n)))
+leastMargin n s A t inner =
+    least (map (λ x. margin n (λ y. s x y -ℤ number t y) A) (keep (λ x. Bool·beq (has A x) inner) (below n)))
 
 -- no value less the number of a table exceeds z
 abbrev pub AtMost : ℕ → (ℕ → ℤ) → List ℤ → ℤ → Type 0
@@ -45,7 +46,9 @@ AtMost n f t z = (y : ℕ) → y < n → (f y -ℤ number t y) ≤ℤ z
 
 -- the values less the numbers of two tables: by how much the least for the first exceeds the greatest for the second
 unfoldable pub spread : ℕ → (ℕ → ℤ) → List ℤ → List ℤ → ℤ
-spread n f inside outside = least (map (λ y. f y -ℤ number inside y) (below n)) -ℤ greatest (map (λ y. f y -ℤ number outside y) (below n))
+spread n f inside outside =
+    least (map (λ y. f y -ℤ number inside y) (below n))
+    -ℤ greatest (map (λ y. f y -ℤ number outside y) (below n))
 
 -- the first table has the numbers of the members, the second those of the others, and else what is beyond every score
 pub record Parted (n : ℕ) (numbers : List ℤ) (A : ℕ) (inside outside : List ℤ) : Type 0 where

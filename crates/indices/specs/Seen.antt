@@ -1,4 +1,4 @@
--- The least and the greatest, as a loop finds them.
+-- The code's own vocabulary, which nobody need believe: the least and the greatest, as a loop finds them.
 use mathlib.Core.Path.{_≡_}
 use mathlib.Core.List.{List, foldl}
 use Prim.Native.Nat.{ℕ, _-_, _^_}

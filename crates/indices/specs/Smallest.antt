@@ -1,4 +1,4 @@
--- The smallest numbers of a list (document 01, Clean index: "the sum of the |A| − 1 smallest weights"), kept one by one.
+-- The code's own vocabulary, which nobody need believe: the smallest numbers of a list, kept one by one.
 use mathlib.Core.List.{List, foldl}
 use Prim.Native.Nat.{ℕ, _<_}
 use lib.IntN.{ℤ}

@@ -1,4 +1,4 @@
--- Kinds as the code holds them.
+-- The code's own vocabulary, which nobody need believe: kinds as the code holds them.
 use Rattle.clusters.specs.Groups.{strong, clean, splits}
 use Rattle.clusters.specs.Groups as Groups
 use Rattle.kinds.specs.declared.Kind.{Kind}

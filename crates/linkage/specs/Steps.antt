@@ -1,4 +1,4 @@
--- What the functions below the linkage calls compute.
+-- The code's own vocabulary, which nobody need believe: what the functions below the linkage calls compute.
 use mathlib.Core.Path.{_≡_}
 use mathlib.Core.Bool.{Bool, cond}
 use mathlib.Core.List.{List, _++_}

@@ -54,7 +54,8 @@ fn weight(average: bool, set: u32) -> usize
 // The weights of the blocks that remain: the union's at the first's place, the last block's at the second's.
 fn merge_weights(weights: &mut [usize; 32], union: usize, i: usize, j: usize, last: usize)
     requires { ⌜ (i < 32) × (j < 32) × (last < 32) ⌝ }
-    ensures { λ _. ⌜ now (weights .exit) ≡ set (set (now (weights .entry)) i union) j (getD (set (now (weights .entry)) i union) last 0) ⌝ }
+    ensures { λ _. ⌜ now (weights .exit) ≡
+        set (set (now (weights .entry)) i union) j (getD (set (now (weights .entry)) i union) last 0) ⌝ }
 {
     weights[i] = union;
     weights[j] = weights[last];
@@ -62,7 +63,8 @@ fn merge_weights(weights: &mut [usize; 32], union: usize, i: usize, j: usize, la
 
 // All merges of a tree: each merged block goes into the next slot.
 pub fn merge_all(average: bool, n: usize, pairs: &[i32], out: &mut [u32])
-    requires { ⌜ (1 ≤ n) × (n ≤ 32) × (length (now pairs) ≡ rowStart n) × Bounded (2 ^ 22) (now pairs) × (n - 1 ≤ length (now out)) ⌝ }
+    requires { ⌜ (1 ≤ n) × (n ≤ 32) × (length (now pairs) ≡ rowStart n) × Bounded (2 ^ 22) (now pairs)
+        × (n - 1 ≤ length (now out)) ⌝ }
     ensures { λ _. ⌜ Merged (linkageOf average) n (now (pairs .entry)) (now (out .entry)) (now (out .exit)) ⌝ }
 {
     let mut blocks = Blocks::singles(n);
@@ -87,7 +89,8 @@ pub fn merge_all(average: bool, n: usize, pairs: &[i32], out: &mut [u32])
 
 // The checks of a linkage call, in the table's order, and the merges.
 fn linkage(average: bool, n: usize, pairs: &[i32], blocks: &mut [u32]) -> Answer
-    ensures { λ r. ⌜ LinkageCall (linkageOf average) n (now (pairs .entry)) (now (blocks .entry)) r (now (blocks .exit)) ⌝ }
+    ensures { λ r. ⌜ LinkageCall (linkageOf average) n (now (pairs .entry))
+        (now (blocks .entry)) r (now (blocks .exit)) ⌝ }
 {
     let refused = matrix::refusal(n, pairs);
     if refused != 0 {

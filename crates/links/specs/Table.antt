@@ -1,5 +1,6 @@
--- The table of the links between the blocks left, as the code holds it (document 01, Linkage trees): 32 rows of 32 numbers. The
--- link of two blocks is a quotient; the table has its numerator, and the denominator is the product of two weights.
+-- The code's own vocabulary, which nobody need believe: the table of the links between the blocks left, 32 rows of 32
+-- numbers. The link of two blocks is a quotient; the table has its numerator, and the denominator is the product of two
+-- weights.
 use mathlib.Core.Path.{_≡_}
 use mathlib.Core.Bool.{Bool, cond}
 use mathlib.Core.Logic.{_≢_}
@@ -42,7 +43,8 @@ pub record Written (i : ℕ) (g : ℕ → ℤ) (k : ℕ) (t₀ t : List ℤ) : T
   pub column : (q : ℕ) → q < k → entry t q i ≡ g q
   pub rest : (p q : ℕ) → p < 32 → q < 32 → (p ≡ i → k ≤ q) → (q ≡ i → k ≤ p) → entry t p q ≡ entry t₀ p q
 
--- the numerator for a union of two blocks: "the greatest score between the blocks (single) or the sum of scores" (average)
+-- the numerator for a union of two blocks: "the greatest score between the blocks (single) or the sum of scores"
+-- (average)
 unfoldable pub joined : Bool → ℤ → ℤ → ℤ
 joined average x y = cond average (x +ℤ y) (maxZ x y)
 
@@ -58,8 +60,8 @@ quotientAt w t a b = record { num = entry t a b; den = getD w a 0 * getD w b 0 }
 abbrev pub Weights : ℕ → List ℕ → Type 0
 Weights k w = (a : ℕ) → a < k → (1 ≤ getD w a 0) × (getD w a 0 ≤ 32)
 
--- two of the first k places, in rising order, and the link of the blocks there, read in the later one's row, is at least that of
--- any such two
+-- two of the first k places, in rising order, and the link of the blocks there, read in the later one's row, is at
+-- least that of any such two
 pub record GreatestAt (k : ℕ) (link : ℕ → ℕ → Quotient) (i j : ℕ) : Type 0 where
   pub rising : i < j
   pub inside : j < k

@@ -1,5 +1,5 @@
-// The links between the blocks of a linkage, in a table of 32 rows: made from the scores, kept up to date by merges, and searched
-// for the greatest.
+// The links between the blocks of a linkage, in a table of 32 rows: made from the scores, kept up to date by merges,
+// and searched for the greatest.
 ghost use mathlib.Core.Path.{_≡_};
 ghost use Prim.Native.Nat.{_+_, _*_, _^_, _<_, _≤_};
 ghost use lib.ListN.{length};
@@ -69,8 +69,8 @@ fn join(average: bool, x: i64, y: i64) -> i64
     }
 }
 
-// The links of the union of the blocks at i and j to all others, put at i. No test leaves out i and j: what comes to stand there
-// is no link.
+// The links of the union of the blocks at i and j to all others, put at i. No test leaves out i and j: what comes to
+// stand there is no link.
 pub fn join_rows(average: bool, count: usize, i: usize, j: usize, t: &mut [i64; 1024])
     requires { ⌜ (i < j) × (j < count) × (count ≤ 32) × Small count (now t) ⌝ }
     ensures { λ _. ⌜ Written i (joinedRow average i j (now (t .entry))) count (now (t .entry)) (now (t .exit)) ⌝ }
@@ -98,10 +98,11 @@ pub struct Found {
     pub den: usize,
 }
 
-// The greatest of what was found before and the links at j and an earlier place. The weight at j is common to those: `scaled` is
-// what it makes of the numerator found.
+// The greatest of what was found before and the links at j and an earlier place. The weight at j is common to those:
+// `scaled` is what it makes of the numerator found.
 fn greatest_in_row(weights: &[usize; 32], t: &[i64; 1024], j: usize, found: Found) -> Found
-    requires { ⌜ (j < 32) × Small (j + 1) (now t) × Weights (j + 1) (now weights) × FoundBefore (now weights) (now t) (j * 32) found ⌝ }
+    requires { ⌜ (j < 32) × Small (j + 1) (now t) × Weights (j + 1) (now weights)
+        × FoundBefore (now weights) (now t) (j * 32) found ⌝ }
     ensures { λ r. ⌜ FoundBefore (now (weights .entry)) (now (t .entry)) ((j + 1) * 32) r ⌝ }
 {
     let own = weights[j];

@@ -1,4 +1,5 @@
--- The code's own vocabulary, which nobody need believe: the checks that calls on a pair list make first, and what they pass.
+-- The code's own vocabulary, which nobody need believe: the checks that calls on a pair list make first, and what they
+-- pass.
 use mathlib.Core.Path.{_≡_}
 use mathlib.Core.List.{List, [], _∷_}
 use Prim.Native.Nat.{ℕ, _≤_}

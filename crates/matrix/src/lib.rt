@@ -1,4 +1,5 @@
-// The pair list as lent: scores looked up by two entries, and checks 6 and 10 to 12 (document 01, Where a call is turned away).
+// The pair list as lent: scores looked up by two entries, and checks 6 and 10 to 12 (document 01, Where a call is
+// turned away).
 ghost use mathlib.Core.Path.{_≡_};
 ghost use mathlib.Core.Bool.{_&&_};
 ghost use Prim.Native.Nat.{_+_, _<_, _≤_};

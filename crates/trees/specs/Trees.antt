@@ -1,4 +1,5 @@
--- The tree in which every group of a kind is found, as the code holds it: by its blocks.
+-- The code's own vocabulary, which nobody need believe: the tree in which every group of a kind is found, by its
+-- blocks.
 use mathlib.Core.Path.{_≡_}
 use mathlib.Core.List.{List, _++_}
 use Prim.Native.Nat.{ℕ, _-_}
