@@ -13,7 +13,7 @@ use lib.ListN.{length}
 use Rattle.lists.specs.Lists.{_∈_, below}
 use Rattle.lists.proofs.Tests.{T-true, T-false, T-same, eqb-yes}
 use Rattle.lists.proofs.Lists.{below-lt}
-use Rattle.integers.specs.Integers.{maxZ, greatest, sumOf, sum}
+use Rattle.integers.specs.Integers.{maxZ, greatest, sumOf}
 use Rattle.integers.specs.Range.{Within}
 use Rattle.integers.proofs.Linear.{up, dn, zarith}
 use Rattle.integers.proofs.Least.{max-left, max-right, max-is, greatest-ge, greatest-of}
@@ -22,7 +22,7 @@ use Rattle.integers.proofs.Sums.{sum-cong, sum-add, sum-keep, sum-one}
 use Rattle.sets.specs.Sets.{has, _∋_, _∌_, members, size, _∪_}
 use Rattle.sets.proofs.Sets.{has-yes, yes-has, no-has, in-or-out, clash, ∪-left, ∪-right, ∪-cases, one-in, one-only, of-members, size-le}
 use Rattle.clusters.specs.PairList.{Similarity}
-use Rattle.clusters.specs.Linkage.{between, single, link}
+use Rattle.clusters.specs.Linkage.{between, link}
 use Rattle.clusters.proofs.Links.{in-between, of-between, sum-between}
 use Rattle.links.specs.Table.{joined}
 use Rattle.linkage.specs.Blocks.{linkageOf}

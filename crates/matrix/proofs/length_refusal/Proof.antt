@@ -1,7 +1,6 @@
 use mathlib.Core.Path.{_≡_, sym, ap, _∙_}
 use mathlib.Core.Bool.{false, not}
 use borrow.Author.Needs.{needs}
-use Rattle.clusters.specs.PairList.{hasLength}
 use Rattle.interface.specs.Refusals.{wrongCount}
 use Rattle.interface.proofs.Refusals.{gives, first-yes, first-no, no-more, right-count}
 use Rattle.matrix.specs.Checks.{lengthChecks}
