@@ -1,8 +1,8 @@
 -- The table of checks, line by line, and the answers.
 use mathlib.Core.Path.{_≡_, refl, sym, ap, ap₂, _∙_}
-use mathlib.Core.Bool.{Bool, true, false}
+use mathlib.Core.Bool.{true, false}
 use mathlib.Core.List.{List, [], _++_}
-use Prim.Native.Nat.{ℕ, zero, suc, _+_, _≤_, _<_}
+use Prim.Native.Nat.{ℕ, zero, suc, _+_, _-_, _≤_, _<_}
 use native.Mathlib.Omega.{arith}
 use borrow.Author.Tests.{ne-eqb, eqb-false, ltb-false, lt-ltb, le-ltb}
 use lib.Dec.{eqb, ltb, lit<}
@@ -111,28 +111,28 @@ pub slots-pairs : (s : List ℕ) (l : List ℤ) → readerRefusal s ≡ 0
     → take (rowStart (entries s)) (slots (readerRefusal s) (pairs s) l) ≡ pairs s
 slots-pairs s l e = rw (e, slots-written (pairs s) l) (take-at (pairs s) _ (rowStart (entries s)) (pairs-length s))
 
--- the ways out of the name of an entry: an empty part at the sheet's own place, or the name at its place
-behind-none : (at : ℕ × ℕ) → at ≡ behind 0 at
-unfolding behind
-behind-none (block, offset) = let z : offset ≡ 0 + offset = omega arith in ap (λ (k : ℕ). (block, k)) z
-
-module _ (s : List ℕ) (i : ℕ) (at : ℕ × ℕ) where
-  nothing : hasName s i ≡ false → NameCall s at i [] at
-  unfolding nameOf nameStart
-  nothing e = record { bytes = rw e; lies = rw e (behind-none at) }
-
-  pub name-none : (k : ℕ) → answer (readerRefusal s) (entries s) ≡ Refused k → NameCall s at i [] at
+-- the name of an entry: whether there is one, and the part that lies `from` bytes behind the sheet's own place
+module _ (s : List ℕ) (i : ℕ) where
+  pub name-none : {k : ℕ} → answer (readerRefusal s) (entries s) ≡ Refused k → hasName s i ≡ false
   unfolding hasName
-  name-none k e = let (is, some) = number-is s k e in nothing (rw (sym is, ne-eqb k 0 some))
+  name-none {k} e = let (is, some) = number-is s k e in rw (sym is, ne-eqb k 0 some)
 
-  pub name-past : (n : ℕ) → answer (readerRefusal s) (entries s) ≡ Count n → n ≤ i → NameCall s at i [] at
+  pub name-past : {n : ℕ} → answer (readerRefusal s) (entries s) ≡ Count n → n ≤ i → hasName s i ≡ false
   unfolding hasName
-  name-past n e h = let (z, is) = entries-is s n e in nothing (rw (z, le-ltb i (entries s) (omega arith)))
+  name-past {n} e h = let (z, is) = entries-is s n e in rw (z, le-ltb i (entries s) (omega arith))
 
-  pub name-at : (n from : ℕ) {part : List ℕ} → answer (readerRefusal s) (entries s) ≡ Count n → i < n
-      → part ≡ getD (names s) i [] → from ≡ startOf (names s) i → NameCall s at i part (at .0, from + at .1)
-  unfolding hasName nameOf nameStart behind
-  name-at n from e h p q =
-      let (z, is) = entries-is s n e in
-      let l = lt-ltb i (entries s) (omega arith) in
-      record { bytes = p ∙ rw (z, l); lies = ap (λ (k : ℕ). behind k at) q ∙ rw (z, l) }
+  pub name-some : {n : ℕ} → answer (readerRefusal s) (entries s) ≡ Count n → i < n → hasName s i ≡ true
+  unfolding hasName
+  name-some {n} e h = let (z, is) = entries-is s n e in rw (z, lt-ltb i (entries s) (omega arith))
+
+  module _ (at : ℕ × ℕ) (from : ℕ) where
+    pub no-part : hasName s i ≡ false → from ≡ 0 → NameCall s at i (take (from - from) (drop from s)) (at .0, from + at .1)
+    unfolding nameOf nameStart behind
+    no-part e q =
+        let z : from - from ≡ 0 = omega arith in
+        record { bytes = rw (e, z); lies = ap (λ (k : ℕ). behind k at) q ∙ rw e }
+
+    pub name-part : {part : List ℕ} → hasName s i ≡ true → part ≡ getD (names s) i [] → from ≡ startOf (names s) i
+        → NameCall s at i part (at .0, from + at .1)
+    unfolding nameOf nameStart behind
+    name-part e p q = record { bytes = p ∙ rw e; lies = ap (λ (k : ℕ). behind k at) q ∙ rw e }

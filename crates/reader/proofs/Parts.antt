@@ -26,7 +26,7 @@ module _ (c : ℕ) (s : List ℕ) (at end left : ℕ) (inside : at ≤ length s)
   next-by (yes h) =
       let p = pieces-more c s at end inside is h in
       let e : left ≡ suc (left - 1) = omega arith in
-      let q : startOf (cut c (drop at s)) left ≡ length (pieceAt c s at) + 1 + startOf (cut c (drop (end + 1) s)) (left - 1) = ap₂ startOf p e in
+      let q : startOf (cut c (drop at s)) left ≡ startOf (pieceAt c s at ∷ cut c (drop (end + 1) s)) (suc (left - 1)) = ap₂ startOf p e in
       record {
         inside = h;
         count = omega (arith, ap length p);
@@ -91,18 +91,18 @@ module _ (s : List ℕ) (end from i : ℕ) (is : end ≡ 0 + length (pieceAt 10 
   pub name-from : from ≤ length (take end s)
   name-from = omega (arith, standing 32 i (take end s) has .inside)
 
-  module _ (to : ℕ) (stop : to ≡ from + length (pieceAt 32 (take end s) from)) where
-    name-end : to ≤ end
-    name-end = omega (arith, piece-inside 32 (take end s) from to name-from stop, line-length s end is)
+  -- its end, and that of any piece that starts there
+  name-end : (c to : ℕ) → to ≡ from + length (pieceAt c (take end s) from) → to ≤ end
+  name-end c to stop = omega (arith, piece-inside c (take end s) from to name-from stop, line-length s end is)
 
-    pub name-inside : to ≤ length s
-    name-inside = omega (arith, name-end, line-inside s end is)
+  pub name-inside : (c to : ℕ) → to ≡ from + length (pieceAt c (take end s) from) → to ≤ length s
+  name-inside c to stop = omega (arith, name-end c to stop, line-inside s end is)
 
-    pub name-part : take (to - from) (drop from s) ≡ getD (names s) i []
-    unfolding names
-    name-part =
-        sym (part-of-part s end from (to - from) (omega (arith, name-end)))
-        ∙ piece-part 32 (take end s) from to name-from stop
-        ∙ ap (pieceAt 32 (take end s)) start
-        ∙ standing 32 i (take end s) has .piece
-        ∙ ap (λ (l : List ℕ). getD (cut 32 l) i []) (first-line s end is)
+  pub name-bytes : (to : ℕ) → to ≡ from + length (pieceAt 32 (take end s) from) → take (to - from) (drop from s) ≡ getD (names s) i []
+  unfolding names
+  name-bytes to stop =
+      sym (part-of-part s end from (to - from) (omega (arith, name-end 32 to stop)))
+      ∙ piece-part 32 (take end s) from to name-from stop
+      ∙ ap (pieceAt 32 (take end s)) start
+      ∙ standing 32 i (take end s) has .piece
+      ∙ ap (λ (l : List ℕ). getD (cut 32 l) i []) (first-line s end is)

@@ -83,7 +83,7 @@ module _ (line : List ℕ) (at end : ℕ) (inside : at ≤ length line) (is : en
   pub store-more : (l : List ℤ) (i : ℕ) → end < length line
       → sets (set l i (valueOf (pieceAt 32 line at))) (i + 1) (map valueOf (cut 32 (drop (end + 1) line)))
       ≡ sets l i (map valueOf (cut 32 (drop at line)))
-  store-more l i h = rw (pieces-more 32 line at end inside is h, add-one)
+  store-more l i h = rw (pieces-more 32 line at end inside is h, add-one i)
 
 -- a refusal by check 8, or none
 pub refuses : (b : Bool) (r : ℕ) → r ≡ cond b 8 0 → (r ≡ 0 → ⊥) → b ≡ true

@@ -25,7 +25,9 @@ use Rattle.reader.specs.Square.{square}
 -- what check 7 leaves
 pub line-count : (s : List ℕ) → wrongLines s ≡ false → length (lines s) ≡ entries s + 2
 unfolding wrongLines
-line-count s e = eqb-true (length (lines s)) (entries s + 2) (not-false _ (or-none (not (eqb (length (lines s)) (entries s + 2))) _ e .0))
+line-count s e =
+    let n = or-none (not (eqb (length (lines s)) (entries s + 2))) _ e .0 in
+    eqb-true (length (lines s)) (entries s + 2) (not-false _ n)
 
 -- a line that is not the last piece, from its place to its end
 pub record Line (s : List ℕ) (at end i : ℕ) : Type 0 where
@@ -33,14 +35,19 @@ pub record Line (s : List ℕ) (at end i : ℕ) : Type 0 where
   pub part : take (end - at) (drop at s) ≡ getD (lines s) i []
   pub next : cut 10 (drop (end + 1) s) ≡ drop (i + 1) (lines s)
 
-module _ (s : List ℕ) (at end i : ℕ) (within : at ≤ length s) (is : end ≡ at + length (pieceAt 10 s at)) (here : cut 10 (drop at s) ≡ drop i (lines s)) (more : i + 1 < length (lines s)) where
+module _ (s : List ℕ) (at end i : ℕ) (within : at ≤ length s) (is : end ≡ at + length (pieceAt 10 s at))
+    (here : cut 10 (drop at s) ≡ drop i (lines s)) (more : i + 1 < length (lines s)) where
   line-by : Dec (end < length s) → Line s at end i
   unfolding pieceAt
   line-by (yes h) =
       let z : i + 0 ≡ i = omega arith in
       record {
         inside = h;
-        part = piece-part 10 s at end within is ∙ ap (λ (l : List (List ℕ)). getD l 0 []) here ∙ getD-drop i (lines s) 0 [] ∙ ap (λ (k : ℕ). getD (lines s) k []) z;
+        part =
+            piece-part 10 s at end within is
+            ∙ ap (λ (l : List (List ℕ)). getD l 0 []) here
+            ∙ getD-drop i (lines s) 0 []
+            ∙ ap (λ (k : ℕ). getD (lines s) k []) z;
         next = ap (drop 1) (sym (pieces-more 10 s at end within is h) ∙ here) ∙ drop-drop 1 i (lines s);
       }
   line-by (no f) =
@@ -58,7 +65,8 @@ unfolding words
 line-words s at end i l = ap (cut 32) (l .part ∙ ap (λ (k : ℕ). getD (lines s) k []) (add-one i))
 
 -- the answer
-pub values-tested : (s : List ℕ) (n : ℕ) {b : Bool} → n ≡ entries s → b ≡ all (λ k. isRow n (words s k)) (below n) → _≡_ {A = ℕ} (cond (not b) 8 0) (cond (wrongValues s) 8 0)
+pub values-tested : (s : List ℕ) (n : ℕ) {b : Bool} → n ≡ entries s → b ≡ all (λ k. isRow n (words s k)) (below n)
+    → _≡_ {A = ℕ} (cond (not b) 8 0) (cond (wrongValues s) 8 0)
 unfolding wrongValues
 values-tested s n is e = rw (← is, e)
 
@@ -79,8 +87,8 @@ inside-sets vs l i k h p =
     ∙ getD-append-add (take i l) vs k (pos 0))
 
 -- one more row in the square
-module _ (v : Similarity) (l m : List ℤ) (ws : List (List ℕ)) (n i : ℕ) (few : n ≤ 32) (row : i < 32) (size : length l ≡ 1024) (count : length ws ≡ n)
-    (stored : m ≡ sets l (i * 32) (map valueOf ws)) (is : (j : ℕ) → valueOf (getD ws j []) ≡ v i j) where
+module _ (v : Similarity) (l m : List ℤ) (ws : List (List ℕ)) (n i : ℕ) (few : n ≤ 32) (row : i < 32) (size : length l ≡ 1024)
+    (count : length ws ≡ n) (stored : m ≡ sets l (i * 32) (map valueOf ws)) (is : (j : ℕ) → valueOf (getD ws j []) ≡ v i j) where
   long : i * 32 + length (map valueOf ws) ≤ length l
   long = omega (arith, length-map ws valueOf)
 
@@ -90,7 +98,9 @@ module _ (v : Similarity) (l m : List ℤ) (ws : List (List ℕ)) (n i : ℕ) (f
 
   new : (b : ℕ) → b < n → square m i b ≡ v i b
   unfolding square valueOf
-  new b q = rw stored (inside-sets (map valueOf ws) l (i * 32) b long (omega (arith, length-map ws valueOf)) ∙ List·getD-map valueOf ws b [] ∙ is b)
+  new b q =
+      let h : b < length (map valueOf ws) = omega (arith, length-map ws valueOf) in
+      rw stored (inside-sets (map valueOf ws) l (i * 32) b long h ∙ List·getD-map valueOf ws b [] ∙ is b)
 
   pub square-next : ((a b : ℕ) → a < i → b < n → square l a b ≡ v a b) → (a b : ℕ) → a < i + 1 → b < n → square m a b ≡ v a b
   square-next f a b p q =

@@ -177,12 +177,13 @@ fn piece_start(line: &[u8], i: usize) -> usize
 pub fn name(sheet: &[u8], entry: usize) -> &[u8]
     ensures { λ r. ⌜ NameCall (now (sheet .entry)) (sheet .entry .ptr) entry (now r) (r .ptr) ⌝ }
 {
+    let none: usize = 0;
     let mut pairs = [0i32; 528];
     let Answer::Count(n) = read(sheet, &mut pairs) else {
-        return &sheet[..0];
+        return &sheet[none..none];
     };
     if entry >= n {
-        return &sheet[..0];
+        return &sheet[none..none];
     }
     let end = text::line_end(sheet, 0);
     let from = piece_start(&sheet[..end], entry);

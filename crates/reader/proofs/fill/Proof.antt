@@ -1,14 +1,13 @@
-use mathlib.Core.Path.{_≡_, refl, sym, ap, _∙_}
+use mathlib.Core.Path.{_≡_, refl, sym, _∙_}
 use Prim.Native.Nat.{_-_, _≤_}
-use native.Mathlib.Numerals.{add-one}
 use native.Mathlib.Omega.{arith}
 use borrow.Author.Needs.{needs}
 use lib.ListN.{length}
 use Rattle.clusters.specs.PairList.{rowStart}
-use Rattle.clusters.proofs.PairList.{rowStart-le, rowStart-suc}
+use Rattle.clusters.proofs.PairList.{rowStart-le}
 use Rattle.clusters.proofs.Rows.{Rows, rows-none, rows-row, rows-all}
 use Rattle.reader.specs.Square.{square}
-use Rattle.reader.proofs.Slots.{row-room}
+use Rattle.reader.proofs.Slots.{row-room, next-start}
 use Rattle.reader.proofs.fill.Statement.{statement}
 use Rattle.reader.proofs.fill.Tie as tie
 
@@ -47,7 +46,7 @@ loop-again c =
     let r = c .before .fill-row in (
       omega arith,
       r .kept .0 ∙ l .inv .1,
-      omega (arith, rowStart-suc (l .i), ap rowStart (add-one (l .i))),
+      next-start (l .i) (l .inv .2),
       rows-row (l .inv .3) (rw (l .inv .2) at (r .ensures)),
     )
 

@@ -25,7 +25,9 @@ is-mirrored-row-requires c κs = search needs
 
 returns : tie.Need-returns Inv-loop μ-loop
 unfolding mirrored
-returns c = failed-below (c .before .before .before .loop .inv .1) (omega arith) (sym (c .before .is-mirrored-row .ensures) ∙ not-true _ (c .if1 .taken))
+returns c =
+    let e = sym (c .before .is-mirrored-row .ensures) ∙ not-true _ (c .if1 .taken) in
+    failed-below (c .before .before .before .loop .inv .1) (omega arith) e
 
 add-i : tie.Need-add-i Inv-loop μ-loop
 add-i c = search needs
@@ -34,7 +36,9 @@ loop-less : tie.Need-loop-less Inv-loop μ-loop
 loop-less c = search needs
 
 loop-again : tie.Need-loop-again Inv-loop μ-loop
-loop-again c = (omega arith, next-below (c .before .before .before .loop .inv .1) (omega arith) (sym (c .before .is-mirrored-row .ensures) ∙ not-false _ (c .if1 .left)))
+loop-again c =
+    let e = sym (c .before .is-mirrored-row .ensures) ∙ not-false _ (c .if1 .left) in
+    (omega arith, next-below (c .before .before .before .loop .inv .1) (omega arith) e)
 
 returns-2 : tie.Need-returns-2 Inv-loop μ-loop
 unfolding mirrored

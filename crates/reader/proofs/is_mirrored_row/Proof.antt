@@ -1,5 +1,5 @@
 use mathlib.Core.Path.{_≡_}
-use mathlib.Core.Bool.{true, false}
+use mathlib.Core.Bool.{Bool, true, false}
 use Prim.Native.Nat.{_-_, _≤_}
 use native.Mathlib.Omega.{arith}
 use borrow.Author.Needs.{needs}
@@ -44,14 +44,20 @@ mul-if1-2 c = search needs
 shared-slice-copy-out-if1-2 : tie.Need-shared-slice-copy-out-if1-2 Inv-loop μ-loop
 shared-slice-copy-out-if1-2 c = search needs
 
--- the two tests of a turn
-same : (c : tie.Else1 Inv-loop μ-loop) → eqZ (square (c .before .before .before .before .before .args .values .now) (c .before .before .before .before .before .args .i) (c .before .before .before .before .loop .j)) (square (c .before .before .before .before .before .args .values .now) (c .before .before .before .before .loop .j) (c .before .before .before .before .before .args .i)) ≡ true
-unfolding square
-same c = bits-same _ _ (record { sfits = c .before .before .if12 .given }) (record { sfits = c .before .if13 .given }) (c .if1 .left)
+-- the test of a turn, which passes or fails
+abbrev test : tie.In-loop Inv-loop μ-loop → Bool
+test c =
+    let a = c .before .before .args in
+    let j = c .before .loop .j in
+    eqZ (square (a .values .now) (a .i) j) (square (a .values .now) j (a .i))
 
-other : (c : tie.Then1 Inv-loop μ-loop) → eqZ (square (c .before .before .before .before .before .args .values .now) (c .before .before .before .before .before .args .i) (c .before .before .before .before .loop .j)) (square (c .before .before .before .before .before .args .values .now) (c .before .before .before .before .loop .j) (c .before .before .before .before .before .args .i)) ≡ false
+other : (c : tie.Then1 Inv-loop μ-loop) → test (c .before .before .before) ≡ false
 unfolding square
 other c = bits-other _ _ (c .if1 .taken)
+
+same : (c : tie.Else1 Inv-loop μ-loop) → test (c .before .before .before) ≡ true
+unfolding square
+same c = bits-same _ _ (record { sfits = c .before .before .if12 .given }) (record { sfits = c .before .if13 .given }) (c .if1 .left)
 
 returns : tie.Need-returns Inv-loop μ-loop
 returns c = failed-below (c .before .before .before .before .loop .inv .1) (omega arith) (other c)

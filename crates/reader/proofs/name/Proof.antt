@@ -1,15 +1,16 @@
-use mathlib.Core.Path.{_≡_, sym, _∙_}
+use mathlib.Core.Path.{_≡_, refl, sym, _∙_}
 use mathlib.Core.List.{List}
-use Prim.Native.Nat.{ℕ, _<_}
+use Prim.Native.Nat.{ℕ, _≤_, _<_}
+use native.Mathlib.Omega.{arith}
 use borrow.Author.Needs.{needs}
 use lib.ListN.{length, take}
-use Rattle.answers.specs.declared.Answer.the-variants.{Count, Refused}
+use Rattle.answers.specs.declared.Answer.the-variants.{Count}
 use Rattle.answers.specs.Answers.{answer}
 use Rattle.interface.specs.Sheet.{cut, entries}
 use Rattle.interface.specs.Refusals.{readerRefusal}
 use Rattle.sheet.proofs.Lines.{line-length}
-use Rattle.reader.proofs.Parts.{entry-in, name-start, name-from, name-inside, name-part}
-use Rattle.reader.proofs.Answers.{entries-is, name-none, name-past, name-at}
+use Rattle.reader.proofs.Parts.{entry-in, name-start, name-from, name-inside, name-bytes}
+use Rattle.reader.proofs.Answers.{entries-is, name-none, name-past, name-some, no-part, name-part}
 use Rattle.reader.proofs.name.Statement.{statement}
 use Rattle.reader.proofs.name.Tie as tie
 
@@ -34,22 +35,37 @@ counted : (c : tie.After-n) →
     answer (readerRefusal s) (entries s) ≡ Count (c .n .given .0 .0)
 counted c = sym (c .before .before .read .ensures .answered) ∙ c .n .given .1
 
-slice-aggregate-result : tie.Need-slice-aggregate-result
-slice-aggregate-result c = search needs
+sub-result : tie.Need-sub-result
+sub-result c = search needs
 
+part-result-start : tie.Need-part-result-start
+part-result-start c = search needs
+
+part-result-end : tie.Need-part-result-end
+part-result-end c = search needs
+
+-- no name: the empty part starts where the sheet does
 returns : tie.Need-returns
 returns c =
     let r = c .before .before .before in
-    name-none (sheet r) (entry r) _ _ (sym (r .read .ensures .answered) ∙ c .before .enum-told .given .1)
+    let e = sym (r .read .ensures .answered) ∙ c .before .enum-told .given .1 in
+    no-part (sheet r) (entry r) _ _ (name-none _ _ e) (omega arith)
 
-slice-aggregate-result-2 : tie.Need-slice-aggregate-result-2
-slice-aggregate-result-2 c = search needs
+sub-result-2 : tie.Need-sub-result-2
+sub-result-2 c = search needs
+
+part-result-start-2 : tie.Need-part-result-start-2
+part-result-start-2 c = search needs
+
+part-result-end-2 : tie.Need-part-result-end-2
+part-result-end-2 c = search needs
 
 returns-2 : tie.Need-returns-2
 returns-2 c =
     let n = c .before .before .before in
     let r = n .before .before in
-    name-past (sheet r) (entry r) _ _ (counted n) (c .before .if1 .taken)
+    let past : n .n .given .0 .0 ≤ entry r = omega arith in
+    no-part (sheet r) (entry r) _ _ (name-past _ _ (counted n) past) (omega arith)
 
 line-end-requires : tie.Need-line-end-requires
 line-end-requires c κs = search needs
@@ -80,17 +96,17 @@ piece-end-requires c κs =
     let r = e .before .before .before .before .before in
     name-from (sheet r) _ _ (entry r) (e .line-end .ensures) (has e) (c .before .piece-start .ensures)
 
-sub-result : tie.Need-sub-result
-sub-result c = search needs
+sub-result-3 : tie.Need-sub-result-3
+sub-result-3 c = search needs
 
-part-result-start : tie.Need-part-result-start
-part-result-start c = search needs
+part-result-start-3 : tie.Need-part-result-start-3
+part-result-start-3 c = search needs
 
-part-result-end : tie.Need-part-result-end
-part-result-end c =
+part-result-end-3 : tie.Need-part-result-end-3
+part-result-end-3 c =
     let e = c .before .before .before .before in
     let r = e .before .before .before .before .before in
-    name-inside (sheet r) _ _ (entry r) (e .line-end .ensures) (has e) (c .before .before .piece-start .ensures) _ (c .piece-end .ensures)
+    name-inside (sheet r) _ _ (entry r) (e .line-end .ensures) (has e) (c .before .before .piece-start .ensures) _ _ (c .piece-end .ensures)
 
 returns-3 : tie.Need-returns-3
 returns-3 c =
@@ -99,8 +115,8 @@ returns-3 c =
     let r = n .before .before in
     let l = e .line-end .ensures in
     let f = c .before .before .before .piece-start .ensures in
-    name-at (sheet r) (entry r) _ _ _ (counted n) (e .before .if1 .left)
-    (name-part (sheet r) _ _ (entry r) l (has e) f _ (c .before .piece-end .ensures))
+    name-part (sheet r) (entry r) _ _ (name-some _ _ (counted n) (e .before .if1 .left))
+    (name-bytes (sheet r) _ _ (entry r) l (has e) f _ (c .before .piece-end .ensures))
     (name-start (sheet r) _ _ (entry r) l (has e) f)
 
 pub name-spec : {M : Type 1} → statement M
@@ -110,16 +126,20 @@ name-spec =
     read-requires
     enum-known-n
     enum-told
-    slice-aggregate-result
+    sub-result
+    part-result-start
+    part-result-end
     returns
-    slice-aggregate-result-2
+    sub-result-2
+    part-result-start-2
+    part-result-end-2
     returns-2
     line-end-requires
     slice-aggregate-piece-start
     piece-start-requires
     slice-aggregate-piece-end
     piece-end-requires
-    sub-result
-    part-result-start
-    part-result-end
+    sub-result-3
+    part-result-start-3
+    part-result-end-3
     returns-3)
