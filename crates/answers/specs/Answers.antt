@@ -21,7 +21,8 @@ unfoldable pub answer : ℕ → ℕ → Answer
 answer zero c = Count c
 answer (suc k) c = Refused (suc k)
 
--- the slots after a call whose checks give k: "Nothing lent is then written"; else the result, and "slots beyond are not touched"
+-- the slots after a call whose checks give k: "Nothing lent is then written"; else the result, and "slots beyond are
+-- not touched"
 unfoldable pub slots {ℓ} : {A : Type ℓ} → ℕ → List A → List A → List A
 slots k result lent = cond (eqb k 0) (result ++ drop (length result) lent) lent
 

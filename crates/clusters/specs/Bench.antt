@@ -6,7 +6,8 @@ use Rattle.sets.specs.Sets.{size}
 use Rattle.clusters.specs.PairList.{score}
 use Rattle.clusters.specs.Groups.{Kind, strong, clean, splits, index, groups}
 
--- a sheet by its pair list, the kind asked for, the lines (set, size, index), and what is said of sets with no line (set, index)
+-- a sheet by its pair list, the kind asked for, the lines (set, size, index), and what is said of sets with no line
+-- (set, index)
 pub record Case : Type 0 where
   pub kind : Kind
   pub entries : ℕ
@@ -16,10 +17,10 @@ pub record Case : Type 0 where
 
 -- what the definitions give for a case: its lines, and the indices of the sets with no line
 unfoldable pub linesFound : Case → List (ℕ × ℕ × ℤ)
-linesFound c = map (λ g. (g .0, size (c .entries) (g .0), g .1)) (groups (c .kind) (c .entries) (score (c .pairs)))
+linesFound c = map (λ (A, z). (A, size (c .entries) A, z)) (groups (c .kind) (c .entries) (score (c .pairs)))
 
 unfoldable pub unlistedFound : Case → List (ℕ × ℤ)
-unlistedFound c = map (λ u. (u .0, index (c .kind) (c .entries) (score (c .pairs)) (u .0))) (c .unlisted)
+unlistedFound c = map (λ (A, z). (A, index (c .kind) (c .entries) (score (c .pairs)) A)) (c .unlisted)
 
 unfoldable pub four : List ℤ
 four = pos 9
@@ -61,16 +62,26 @@ unfoldable pub equal : List ℤ
 equal = pos 0
     ∷ pos 0 ∷ pos 0 ∷ []
 
+-- the lines of more than two groups
+unfoldable pub changedLines : List (ℕ × ℕ × ℤ)
+changedLines = (1, 1, pos 1) ∷ (2, 1, pos 1) ∷ (4, 1, pos 3) ∷ (8, 1, pos 6) ∷ (3, 2, pos 2) ∷ []
+
+unfoldable pub ownLines : List (ℕ × ℕ × ℤ)
+ownLines = (1, 1, pos 1) ∷ (2, 1, pos 1) ∷ (4, 1, pos 1) ∷ []
+
+unfoldable pub copiesLines : List (ℕ × ℕ × ℤ)
+copiesLines = (2, 1, pos 2) ∷ (4, 1, pos 2) ∷ (8, 1, pos 2) ∷ (12, 2, pos 4) ∷ (14, 3, pos 2) ∷ []
+
 -- a row for each starred case; the fourth, which speaks of two kinds, has two rows
 unfoldable pub bench : List Case
 bench =
     record { kind = clean; entries = 4; pairs = four; lines = (3, 2, pos 2) ∷ (7, 3, pos 6) ∷ []; unlisted = [] }
     ∷ record { kind = clean; entries = 4; pairs = changed; lines = (3, 2, pos 2) ∷ (7, 3, pos 3) ∷ []; unlisted = [] }
-    ∷ record { kind = strong; entries = 4; pairs = changed; lines = (1, 1, pos 1) ∷ (2, 1, pos 1) ∷ (4, 1, pos 3) ∷ (8, 1, pos 6) ∷ (3, 2, pos 2) ∷ []; unlisted = (7, negsuc 0) ∷ [] }
+    ∷ record { kind = strong; entries = 4; pairs = changed; lines = changedLines; unlisted = (7, negsuc 0) ∷ [] }
     ∷ record { kind = strong; entries = 3; pairs = flat; lines = []; unlisted = [] }
     ∷ record { kind = clean; entries = 3; pairs = flat; lines = []; unlisted = [] }
-    ∷ record { kind = strong; entries = 3; pairs = own; lines = (1, 1, pos 1) ∷ (2, 1, pos 1) ∷ (4, 1, pos 1) ∷ []; unlisted = [] }
-    ∷ record { kind = splits; entries = 4; pairs = copies; lines = (2, 1, pos 2) ∷ (4, 1, pos 2) ∷ (8, 1, pos 2) ∷ (12, 2, pos 4) ∷ (14, 3, pos 2) ∷ []; unlisted = [] }
+    ∷ record { kind = strong; entries = 3; pairs = own; lines = ownLines; unlisted = [] }
+    ∷ record { kind = splits; entries = 4; pairs = copies; lines = copiesLines; unlisted = [] }
     ∷ record { kind = splits; entries = 2; pairs = apart; lines = (2, 1, pos 10) ∷ []; unlisted = [] }
     ∷ record { kind = splits; entries = 2; pairs = equal; lines = []; unlisted = [] }
     ∷ []

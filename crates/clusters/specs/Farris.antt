@@ -22,8 +22,9 @@ anchoredScores n x l = pairList n (farris (score l) x)
 unfoldable pub distancesBack : ℕ → List ℤ → List ℤ
 distancesBack n l = pairList n (unfarris (score l))
 
--- what the third condition of 15 passes: the list is "the anchored scores, at that anchor, of .. distances passing 11 and 12"
--- (theorem `anchored-iff`), found by computing: S(a,x) is 0, S(a,a) is even, and the distances back pass both checks
+-- what the third condition of 15 passes: the list is "the anchored scores, at that anchor, of .. distances passing 11
+-- and 12" (theorem `anchored-iff`), found by computing: S(a,x) is 0, S(a,a) is even, and the distances back pass both
+-- checks
 unfoldable pub isAnchored : ℕ → ℕ → List ℤ → Bool
 isAnchored n x l =
     all (λ a. eqZ (score l a x) (pos 0) && even (score l a a)) (below n)

@@ -32,8 +32,8 @@ index splits n d A = separationIndex n d A
 unfoldable pub proper : ℕ → ℕ → Bool
 proper n A = ltb (size n A) n
 
--- which sets a kind speaks of: "A is non-empty and not X"; "A has at least 2 members and is not X"; of a split "Both sides are
--- non-empty", and it "is written as the side without the first entry"
+-- which sets a kind speaks of: "A is non-empty and not X"; "A has at least 2 members and is not X"; of a split "Both
+-- sides are non-empty", and it "is written as the side without the first entry"
 unfoldable pub speaksOf : Kind → ℕ → ℕ → Bool
 speaksOf strong n A = leb 1 (size n A) && proper n A
 speaksOf clean n A = leb 2 (size n A) && proper n A
@@ -69,15 +69,15 @@ abbrev pub Rising : ℕ → List ℕ → Type 0
 Rising n [] = Unit {0}
 Rising n (A ∷ l) = ((B : ℕ) → B ∈ l → Before n A B) × Rising n l
 
--- "Strong listings have at most 2n − 2 lines, clean ones at most the larger of 0 and n − 2, splits at most the larger of 0 and
--- 2n − 3" (a difference of naturals is 0 where it would be negative)
+-- "Strong listings have at most 2n − 2 lines, clean ones at most the larger of 0 and n − 2, splits at most the larger
+-- of 0 and 2n − 3" (a difference of naturals is 0 where it would be negative)
 unfoldable pub mostGroups : Kind → ℕ → ℕ
 mostGroups strong n = 2 * n - 2
 mostGroups clean n = n - 2
 mostGroups splits n = 2 * n - 3
 
--- the linkage trees that have every group of a kind among their blocks: of these scores, by this linkage. A split is there by its
--- written side, in the trees of the scores anchored at the first entry.
+-- the linkage trees that have every group of a kind among their blocks: of these scores, by this linkage. A split is
+-- there by its written side, in the trees of the scores anchored at the first entry.
 unfoldable pub treeLinkage : Kind → Linkage
 treeLinkage strong = single
 treeLinkage clean = average

@@ -26,7 +26,7 @@ pairsOf n A = each (members n A) λ a. map (λ b. (a, b)) (members a A)
 -- Clean index (003, the clean cluster index, times |A| − 1): "All triples with a, b in A and c outside; the sum of the
 -- |A| − 1 smallest weights, equal weights counted each"
 unfoldable pub weights : ℕ → Similarity → ℕ → List ℤ
-weights n s A = each (pairsOf n A) λ ab. map (weight s (ab .0) (ab .1)) (others n A)
+weights n s A = each (pairsOf n A) λ (a, b). map (weight s a b) (others n A)
 
 unfoldable pub cleanIndex : ℕ → Similarity → ℕ → ℤ
 cleanIndex n s A = sumOfSmallest (size n A - 1) (weights n s A)
@@ -35,7 +35,8 @@ cleanIndex n s A = sumOfSmallest (size n A - 1) (weights n s A)
 -- "the least d(a,b) + d(a',b') − d(a,a') − d(b,b') .. a may equal a', b may equal b'"
 unfoldable pub separationValues : ℕ → Similarity → ℕ → List ℤ
 separationValues n d A =
-    each (members n A) λ a. each (members n A) λ a′. each (others n A) λ b. map (λ b′. d a b +ℤ d a′ b′ -ℤ d a a′ -ℤ d b b′) (others n A)
+    each (members n A) λ a. each (members n A) λ a′. each (others n A) λ b.
+    map (λ b′. d a b +ℤ d a′ b′ -ℤ d a a′ -ℤ d b b′) (others n A)
 
 unfoldable pub separationIndex : ℕ → Similarity → ℕ → ℤ
 separationIndex n d A = least (separationValues n d A)

@@ -1,4 +1,5 @@
--- Linkage trees (document 01, Definitions). A block is a set of entries; own scores play no part, as blocks left share no entry.
+-- Linkage trees (document 01, Definitions). A block is a set of entries; own scores play no part, as blocks left share
+-- no entry.
 use mathlib.Core.Path.{_≡_}
 use mathlib.Core.Logic.{_≢_}
 use mathlib.Core.List.{List, [], _∷_, _++_, map}
@@ -24,7 +25,8 @@ p ≼ q = (pos (q .den) *ℤ p .num) ≤ℤ (pos (p .den) *ℤ q .num)
 unfoldable pub between : ℕ → Similarity → ℕ → ℕ → List ℤ
 between n s U W = each (members n U) λ u. map (s u) (members n W)
 
--- "The link is the greatest score between the blocks (single) or the sum of scores divided by the product of the sizes (average)"
+-- "The link is the greatest score between the blocks (single) or the sum of scores divided by the product of the sizes
+-- (average)"
 pub data Linkage : Type 0 where
   single average : Linkage
 
@@ -46,7 +48,7 @@ merged U W bs = (U ∪ W) ∷ erase U (erase W bs)
 -- the merges lead from these blocks down to one, "each made on the blocks that the merges before it left"
 abbrev pub Merges : (ℕ → ℕ → Quotient) → List ℕ → List (ℕ × ℕ) → Type 0
 Merges link bs [] = length bs ≡ 1
-Merges link bs (m ∷ ms) = Greatest link bs (m .0) (m .1) × Merges link (merged (m .0) (m .1) bs) ms
+Merges link bs ((U, W) ∷ ms) = Greatest link bs U W × Merges link (merged U W bs) ms
 
 -- "start from the n single entries"
 unfoldable pub singles : ℕ → List ℕ
@@ -58,7 +60,7 @@ Tree linkage n s ms = Merges (link linkage n s) (singles n) ms
 
 -- "The tree's blocks are the single entries and every merged one", the merged ones in the order of merging
 unfoldable pub mergedBlocks : List (ℕ × ℕ) → List ℕ
-mergedBlocks ms = map (λ m. m .0 ∪ m .1) ms
+mergedBlocks ms = map (λ (U, W). U ∪ W) ms
 
 unfoldable pub blocks : ℕ → List (ℕ × ℕ) → List ℕ
 blocks n ms = singles n ++ mergedBlocks ms

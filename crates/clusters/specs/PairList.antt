@@ -1,4 +1,5 @@
--- The pair list (document 01, The sheet): "the lower triangle with own pairs, row by row, n(n+1)/2 signed 32-bit numbers".
+-- The pair list (document 01, The sheet): "the lower triangle with own pairs, row by row, n(n+1)/2 signed 32-bit
+-- numbers".
 use mathlib.Core.Path.{_≡_}
 use mathlib.Core.Bool.{Bool, _&&_}
 use mathlib.Core.List.{List, map}
@@ -34,8 +35,8 @@ score l a b = getD l (place a b) (pos 0)
 unfoldable pub pairList : ℕ → Similarity → List ℤ
 pairList n s = each (below n) λ a. map (s a) (below (suc a))
 
--- what checks 10, 11 and 12 pass (Where a call is turned away); the range of 11 is from −scoreLimit to scoreLimit, and no theorem knows
--- the number
+-- what checks 10, 11 and 12 pass (Where a call is turned away); the range of 11 is from −scoreLimit to scoreLimit, and
+-- no theorem knows the number
 unfoldable pub scoreLimit : ℕ
 scoreLimit = 1000000
 

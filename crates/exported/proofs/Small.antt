@@ -22,7 +22,7 @@ use Rattle.interface.specs.Refusals.{
   backChecks,
   backRefusal,
   readerChecks,
-  readerRefusal
+  readerRefusal,
 }
 use Rattle.clusters.specs.Groups.{kindOf}
 use Rattle.clusters.proofs.PairList.{rowStart-le}

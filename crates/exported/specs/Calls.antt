@@ -1,4 +1,5 @@
--- The number in C of a call whose outcome is stated, and a name copied: vocabulary of the exported functions, which nobody need believe.
+-- The number in C of a call whose outcome is stated, and a name copied: vocabulary of the exported functions, which
+-- nobody need believe.
 use mathlib.Core.Path.{_≡_}
 use mathlib.Core.Bool.{cond}
 use mathlib.Core.List.{List, _++_}

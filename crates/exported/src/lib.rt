@@ -1,9 +1,11 @@
-// Exported test entry points of the calls that have no C face: a count is answered as it is, a refusal as minus its number.
+// Exported test entry points of the calls that have no C face: a count is answered as it is, a refusal as minus its
+// number.
 ghost use mathlib.Core.Path.{_≡_};
 ghost use lib.ListN.{length};
 ghost use Rattle.clusters.specs.Linkage.{single, average};
 ghost use Rattle.interface.specs.Refusals.{readerRefusal};
-ghost use Rattle.interface.specs.Calls.{NumbersCall, LinkageCall, AnchoredCall, BackCall, ReaderCall, nameOf, scoreAmong};
+ghost use Rattle.interface.specs.Calls.{NumbersCall, LinkageCall, AnchoredCall, BackCall};
+ghost use Rattle.interface.specs.Calls.{ReaderCall, nameOf, scoreAmong};
 ghost use Rattle.exported.specs.Calls.{NumberOf, copied};
 
 #[no_mangle]
@@ -22,14 +24,16 @@ pub extern "C" fn exported_numbers(
 
 #[no_mangle]
 pub extern "C" fn exported_single_linkage(n: usize, pairs: &[i32], blocks: &mut [u32]) -> i64
-    ensures { λ r. ⌜ NumberOf (λ a. LinkageCall single n (now (pairs .entry)) (now (blocks .entry)) a (now (blocks .exit))) r ⌝ }
+    ensures { λ r. ⌜ NumberOf (λ a. LinkageCall single n (now (pairs .entry))
+        (now (blocks .entry)) a (now (blocks .exit))) r ⌝ }
 {
     farzhudyl::as_number(linkage::single_linkage(n, pairs, blocks))
 }
 
 #[no_mangle]
 pub extern "C" fn exported_average_linkage(n: usize, pairs: &[i32], blocks: &mut [u32]) -> i64
-    ensures { λ r. ⌜ NumberOf (λ a. LinkageCall average n (now (pairs .entry)) (now (blocks .entry)) a (now (blocks .exit))) r ⌝ }
+    ensures { λ r. ⌜ NumberOf (λ a. LinkageCall average n (now (pairs .entry))
+        (now (blocks .entry)) a (now (blocks .exit))) r ⌝ }
 {
     farzhudyl::as_number(linkage::average_linkage(n, pairs, blocks))
 }

@@ -6,7 +6,7 @@ use native.Mathlib.Omega.{arith}
 use lib.IntN.{ℤ, pos}
 use lib.Signed.{_≤ℤ_}
 use lib.ListN.{length, drop, length-map, length-take, take-append-drop}
-use Rattle.lists.specs.Lists.{_∈_}
+use Rattle.lists.specs.Lists.{_∈_, _lists_}
 use Rattle.lists.proofs.Lists.{map-cong}
 use Rattle.integers.proofs.Linear.{zarith, up, dn}
 use Rattle.sets.proofs.Sizes.{size-wide}
@@ -79,7 +79,7 @@ module _ (kind : Kind) (n : ℕ) (l : List ℤ) where
       indices-hold =
           let many = length-map (groupSets kind n (score l)) (index kind n (score l)) in
           omega (arith, length-take (f .count) (f .indices), ap length (g .indices), many, g .count);
-      natural = λ h m. natural h (subst (λ (s : List (ℕ × ℤ)). h ∈ s) found-groups m);
+      natural = λ A z m. natural (A, z) (subst (λ (s : List (ℕ × ℤ)). s lists (A, z)) found-groups m);
     }
 
     pub found-listing : n ≤ 32

@@ -38,7 +38,7 @@ lines-length n few [] f = omega arith
 lines-length n few (g ∷ found) f =
     let (k, e, h) = f g (List·Memᴰ·head refl) in
     let a : length (line n g) ≡ length (decimal (size n (g .0))) + length (decimal k) + 11 =
-        ap (λ (z : ℤ). length (line n (g .0, z))) e ∙ length-line n (g .0) k refl in
+    ap (λ (z : ℤ). length (line n (g .0, z))) e ∙ length-line n (g .0) k refl in
     let s = length-decimal 1 (size n (g .0)) (omega (arith, size-le n (g .0))) in
     let d = length-decimal 8 k h in
     omega (arith, length-append (line n g) (each found (line n)), lines-length n few found (λ g m. f g (List·Memᴰ·tail m)))

@@ -1,4 +1,5 @@
--- The last checks of the sheet call, and its listing, for a pair list that was read: the code's own vocabulary, which nobody need believe.
+-- The last checks of the sheet call, and its listing, for a pair list that was read: the code's own vocabulary, which
+-- nobody need believe.
 use mathlib.Core.Path.{_≡_}
 use mathlib.Core.List.{List, [], _∷_}
 use Prim.Native.Nat.{ℕ}

@@ -1,4 +1,5 @@
-// Whole numbers with a sign: definitions in specs/, laws in proofs/. The code is all signed arithmetic that the engine does.
+// Whole numbers with a sign: definitions in specs/, laws in proofs/. The code is all signed arithmetic that the engine
+// does.
 ghost use mathlib.Core.Path.{_≡_};
 ghost use Prim.Native.Nat.{_-_, _^_, _≤_};
 ghost use lib.IntN.{pos, _+ℤ_, _-ℤ_, _*ℤ_};

@@ -27,7 +27,7 @@ use Rattle.interface.specs.Refusals.{
   anchoredChecks,
   anchoredRefusal,
   backChecks,
-  backRefusal
+  backRefusal,
 }
 use Rattle.interface.specs.Demands.{Distances, BackFifteen}
 use Rattle.interface.proofs.Refusals.{no-first, right-length}
@@ -84,9 +84,10 @@ way-back n x l slots slots′ e h =
     let p = anchored-passes n x l slots e in
     let size : length S ≡ rowStart n = length-anchored n x l in
     let test : isAnchored n x S ≡ true =
-        T-true (anchored-iff n x S (p .anchor) size .1 (l, p .long, p .range, p .distances, refl)) in
-    (simp (p .count, eq-eqb (length S) (rowStart n) size, lt-leb n x (p .anchor), le-ltb slots′ (rowStart n) h, test),
-     anchored-back n x l (p .anchor) (p .long) (p .distances))
+    T-true (anchored-iff n x S (p .anchor) size .1 (l, p .long, p .range, p .distances, refl)) in (
+      simp (p .count, eq-eqb (length S) (rowStart n) size, lt-leb n x (p .anchor), le-ltb slots′ (rowStart n) h, test),
+      anchored-back n x l (p .anchor) (p .long) (p .distances),
+    )
 
 -- the third number of three is given exactly if its condition holds and the first two do not
 third : (a b c : Bool) → (firstOf ((6, a) ∷ (10, b) ∷ (15, c) ∷ []) ≡ 15) ↔ (T (none ((6, a) ∷ (10, b) ∷ [])) × T c)

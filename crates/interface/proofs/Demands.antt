@@ -39,7 +39,7 @@ use Rattle.interface.specs.Refusals.{
   sheetRefusal,
   numbersRefusal,
   anchoredRefusal,
-  backRefusal
+  backRefusal,
 }
 use Rattle.interface.specs.Calls.{SheetCall, cNumber, CCall, NumbersCall, setsFound, indicesFound, groupsOf}
 use Rattle.interface.specs.Demands.{Demand1, Listed, by-C-call, by-sheet-call, Wrote, in-lines, in-slots, Indices, Demand2, SameGroups, Complete, Demand3}

@@ -17,16 +17,71 @@ use Rattle.clusters.specs.Groups.{kindOf, index, proper, speaksOf, listed, sets
 use Rattle.answers.specs.Answers.{answer, slots}
 use Rattle.answers.proofs.Answers.{slots-written}
 use Rattle.interface.specs.Sheet.{
-  isUpper, isDigit, isName, isNumeral, isValue, digitValue, numberFrom, valueOf, longer, cut, lines, names, entries, words, value,
-  mirrored, pairs, sameBytes, isAmong, hasEqual
+  isUpper,
+  isDigit,
+  isName,
+  isNumeral,
+  isValue,
+  digitValue,
+  numberFrom,
+  valueOf,
+  longer,
+  cut,
+  lines,
+  names,
+  entries,
+  words,
+  value,
+  mirrored,
+  pairs,
+  sameBytes,
+  isAmong,
+  hasEqual,
 }
 use Rattle.interface.specs.Listing.{
-  Line, lineOf, digit, digits, hexadecimal, decimalFrom, decimal, signedDecimal, firstText, lineText, firstLine, listing, groupsFound,
-  pairsListing, sheetListing, isHexDigit, isSet, isDecimal, isLine, lineRead, isFirst, pieces, lineWords, isListing, listingRead
+  Line,
+  lineOf,
+  digit,
+  digits,
+  hexadecimal,
+  decimalFrom,
+  decimal,
+  signedDecimal,
+  firstText,
+  lineText,
+  firstLine,
+  listing,
+  groupsFound,
+  pairsListing,
+  sheetListing,
+  isHexDigit,
+  isSet,
+  isDecimal,
+  isLine,
+  lineRead,
+  isFirst,
+  pieces,
+  lineWords,
+  isListing,
+  listingRead,
 }
 use Rattle.interface.specs.Refusals.{
-  firstOf, mostBytes, mostEntries, wrongKind, wrongLength, isAllowed, wrongByte, wrongNames, equalNames, wrongCount, wrongLines, isRow,
-  wrongValues, wrongDistances, sheetCallChecks, sheetRefusal
+  firstOf,
+  mostBytes,
+  mostEntries,
+  wrongKind,
+  wrongLength,
+  isAllowed,
+  wrongByte,
+  wrongNames,
+  equalNames,
+  wrongCount,
+  wrongLines,
+  isRow,
+  wrongValues,
+  wrongDistances,
+  sheetCallChecks,
+  sheetRefusal,
 }
 use Rattle.interface.specs.Calls.{cNumber, CCall}
 
@@ -121,7 +176,7 @@ example lent after r long c =
     let all : length lent ≤ length text = omega (arith, size) in (
       c .answered ∙ ap₂ (λ (k : ℕ) (t : List ℕ). cNumber (answer k (length t))) passes example-listing ∙ ap pos size,
       c .written ∙ ap₂ (λ (k : ℕ) (t : List ℕ). slots k t lent) passes example-listing ∙ slots-written text lent
-      ∙ ap (λ (l : List ℕ). text ++ l) (drop-of-length-le lent all) ∙ append-nil text,
+          ∙ ap (λ (l : List ℕ). text ++ l) (drop-of-length-le lent all) ∙ append-nil text,
     )
 
 -- and read back, without the writer

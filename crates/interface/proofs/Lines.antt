@@ -32,7 +32,7 @@ use Rattle.interface.specs.Listing.{
   pieces,
   lineWords,
   isListing,
-  listingRead
+  listingRead,
 }
 use Rattle.interface.proofs.Digits.{natural}
 use Rattle.interface.proofs.Numerals.{set-form, read-hexadecimal, decimal-run, decimal-form, read-decimal}
@@ -161,8 +161,8 @@ module _ (ls : List Line) (f : (l : Line) → l ∈ ls → Readable l) where
   listing-form =
       let words : Line → List (List ℕ) = λ l. cut 32 (lineText l) in
       let lines : T (all isLine (map words ls)) = in-all isLine (map words ls) λ ws m.
-          let (l, ml, e) = of-map words ls m in
-          subst (λ (w : List (List ℕ)). T (isLine w)) (sym e) (line-form (f l ml)) in
+      let (l, ml, e) = of-map words ls m in
+      subst (λ (w : List (List ℕ)). T (isLine w)) (sym e) (line-form (f l ml)) in
       let e = listing-pieces ls f in
       let texts = map lineText ls in
       is-listing (listing ls)
@@ -177,6 +177,6 @@ module _ (ls : List Line) (f : (l : Line) → l ∈ ls → Readable l) where
   listing-read =
       let words : Line → List (List ℕ) = λ l. cut 32 (lineText l) in
       let same : map lineRead (lineWords (listing ls)) ≡ ls =
-          ap (map lineRead) listing-words ∙ map-map lineRead words ls
-          ∙ map-cong (λ l. lineRead (words l)) (λ l. l) ls (λ l m. line-read (f l m)) ∙ map-id ls in
+      ap (map lineRead) listing-words ∙ map-map lineRead words ls
+      ∙ map-cong (λ l. lineRead (words l)) (λ l. l) ls (λ l m. line-read (f l m)) ∙ map-id ls in
       rw (T-true {b = isListing (listing ls)} listing-form, same)

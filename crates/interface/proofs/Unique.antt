@@ -15,8 +15,21 @@ use Rattle.lists.specs.Lists.{all}
 use Rattle.lists.proofs.Tests.{and-T, T-true, T-false, T-or-not, eqb-no}
 use Rattle.interface.specs.Sheet.{isDigit, digitValue, numberFrom, cut, sameBytes}
 use Rattle.interface.specs.Listing.{
-  Line, digit, digits, hexadecimal, decimal, isHexDigit, isSet, isDecimal, isLine, lineRead, isFirst, pieces, lineWords, isListing,
-  listingRead
+  Line,
+  digit,
+  digits,
+  hexadecimal,
+  decimal,
+  isHexDigit,
+  isSet,
+  isDecimal,
+  isLine,
+  lineRead,
+  isFirst,
+  pieces,
+  lineWords,
+  isListing,
+  listingRead,
 }
 use Rattle.interface.proofs.Digits.{decimal-one, decimal-more}
 use Rattle.interface.proofs.Numerals.{low-digit, high-digit}

@@ -1,5 +1,5 @@
--- What each call answers and writes (document 01): its whole outcome, which is the function's contract. What was lent to a call held `lent`
--- before it and holds `after` now.
+-- What each call answers and writes (document 01): its whole outcome, which is the function's contract. What was lent
+-- to a call held `lent` before it and holds `after` now.
 use mathlib.Core.Path.{_≡_}
 use mathlib.Core.Bool.{Bool, cond, _&&_}
 use mathlib.Core.List.{List, [], _∷_, map}
@@ -22,7 +22,7 @@ use Rattle.interface.specs.Refusals.{
   linkageRefusal,
   anchoredRefusal,
   backRefusal,
-  readerRefusal
+  readerRefusal,
 }
 
 -- The sheet call: the listing's length, and the listing in the first bytes.
@@ -39,7 +39,8 @@ pub record CCall (kind : ℤ) (sheet lent : List ℕ) (r : ℤ) (after : List �
   pub answered : r ≡ cNumber (answer (sheetRefusal kind sheet (length lent)) (length (sheetListing kind sheet)))
   pub written : after ≡ slots (sheetRefusal kind sheet (length lent)) (sheetListing kind sheet) lent
 
--- "The numbers call puts sets and indices in two lent slices in this order, returns their count, and fills all further slots with 0."
+-- "The numbers call puts sets and indices in two lent slices in this order, returns their count, and fills all further
+-- slots with 0."
 unfoldable pub setsFound : ℤ → ℕ → List ℤ → List ℕ
 setsFound kind n l = map (λ (A, z). A) (groupsFound kind n l)
 
@@ -48,10 +49,14 @@ indicesFound kind n l = map (λ (A, z). z) (groupsFound kind n l)
 
 pub record NumbersCall (kind : ℤ) (n : ℕ) (l : List ℤ) (lentSets : List ℕ) (lentIndices : List ℤ) (r : Answer)
     (sets : List ℕ) (indices : List ℤ) : Type 0 where
-  pub answered : r ≡ answer (numbersRefusal kind n l (length lentSets) (length lentIndices)) (length (groupsFound kind n l))
-  pub setsWritten : sets ≡ filled 0 (numbersRefusal kind n l (length lentSets) (length lentIndices)) (setsFound kind n l) lentSets
+  pub answered :
+      r ≡ answer (numbersRefusal kind n l (length lentSets) (length lentIndices)) (length (groupsFound kind n l))
+  pub setsWritten :
+      sets ≡ filled 0 (numbersRefusal kind n l (length lentSets) (length lentIndices)) (setsFound kind n l) lentSets
   pub indicesWritten :
-      indices ≡ filled (pos 0) (numbersRefusal kind n l (length lentSets) (length lentIndices)) (indicesFound kind n l) lentIndices
+      indices
+      ≡ filled (pos 0) (numbersRefusal kind n l (length lentSets) (length lentIndices))
+      (indicesFound kind n l) lentIndices
 
 -- the first count sets, each with its index
 unfoldable pub groupsOf : ℕ → List ℕ → List ℤ → List (ℕ × ℤ)
@@ -60,9 +65,10 @@ groupsOf (suc count) [] indices = []
 groupsOf (suc count) (A ∷ sets) [] = []
 groupsOf (suc count) (A ∷ sets) (z ∷ indices) = (A, z) ∷ groupsOf count sets indices
 
--- "A linkage call writes the n − 1 merged blocks in the order of merging", of some tree; it "answers how many slots it wrote; slots
--- beyond are not touched".
-pub record LinkageCall (linkage : Linkage) (n : ℕ) (l : List ℤ) (lent : List ℕ) (r : Answer) (after : List ℕ) : Type 0 where
+-- "A linkage call writes the n − 1 merged blocks in the order of merging", of some tree; it "answers how many slots it
+-- wrote; slots beyond are not touched".
+pub record LinkageCall (linkage : Linkage) (n : ℕ) (l : List ℤ) (lent : List ℕ) (r : Answer) (after : List ℕ)
+    : Type 0 where
   pub answered : r ≡ answer (linkageRefusal n l (length lent)) (n - 1)
   pub merges : List (ℕ × ℕ)
   pub tree : linkageRefusal n l (length lent) ≡ 0 → Tree linkage n (score l) merges
@@ -82,8 +88,8 @@ pub record ReaderCall (sheet : List ℕ) (lent : List ℤ) (r : Answer) (after :
   pub answered : r ≡ answer (readerRefusal sheet) (entries sheet)
   pub written : after ≡ slots (readerRefusal sheet) (pairs sheet) lent
 
--- "The name of an entry is handed back as its own part of the sheet; the answer is the empty part if checks 2 to 9 refuse the sheet or
--- the entry number, counted from 0, is n or more."
+-- "The name of an entry is handed back as its own part of the sheet; the answer is the empty part if checks 2 to 9
+-- refuse the sheet or the entry number, counted from 0, is n or more."
 unfoldable pub hasName : List ℕ → ℕ → Bool
 hasName sheet i = eqb (readerRefusal sheet) 0 && ltb i (entries sheet)
 
@@ -108,8 +114,8 @@ pub record NameCall (sheet : List ℕ) (at : ℕ × ℕ) (i : ℕ) (part : List 
   pub bytes : part ≡ nameOf sheet i
   pub lies : place ≡ behind (nameStart sheet i) at
 
--- "Scores are looked up by two entries in the pair list as lent": the score of two of n entries, and 0 of any other two numbers or if the
--- list is no pair list of n entries
+-- "Scores are looked up by two entries in the pair list as lent": the score of two of n entries, and 0 of any other two
+-- numbers or if the list is no pair list of n entries
 unfoldable pub isPair : ℕ → List ℤ → ℕ → ℕ → Bool
 isPair n l a b = leb n mostEntries && hasLength n l && ltb a n && ltb b n
 

@@ -23,8 +23,8 @@ use Rattle.interface.specs.Listing.{Line, sheetListing, listingRead}
 use Rattle.interface.specs.Refusals.{none, Given, check6, check10, sheetCallChecks, backRefusal}
 use Rattle.interface.specs.Calls.{SheetCall, CCall, NumbersCall, groupsOf, AnchoredCall, BackCall}
 
--- Demand 1, of the C call: "any kind number, any sheet, any buffer gets the complete listing or the one refusal that document 01 names; a
--- refusal writes no byte, a listing only its own bytes".
+-- Demand 1, of the C call: "any kind number, any sheet, any buffer gets the complete listing or the one refusal that
+-- document 01 names; a refusal writes no byte, a listing only its own bytes".
 pub record Demand1 (kind : ℤ) (sheet lent : List ℕ) (r : ℤ) (after : List ℕ) : Type 0 where
   -- minus a number is answered exactly if its line holds and none before it does
   pub refusal : (k : ℕ) → 0 < k → (r ≡ negℤ (pos k)) ↔ Given (sheetCallChecks kind sheet (length lent)) k
@@ -43,27 +43,29 @@ pub data Listed (kind : ℤ) (sheet : List ℕ) : List ℕ → Type 0 where
   by-sheet-call : {lent after : List ℕ} {r : Answer} → SheetCall kind sheet lent r after
       → numberOf r ≡ 0 → Listed kind sheet (take (countOf r) after)
 
--- what a call wrote for a kind number, n entries and their scores: the set and the index of each line read back from the bytes listed, or
--- those in the numbers call's slots below its count
+-- what a call wrote for a kind number, n entries and their scores: the set and the index of each line read back from
+-- the bytes listed, or those in the numbers call's slots below its count
 pub data Wrote (kind : ℤ) : ℕ → Similarity → List (ℕ × ℤ) → Type 0 where
   in-lines : {sheet bytes : List ℕ} {ls : List Line} → Listed kind sheet bytes → listingRead bytes ≡ some ls
       → Wrote kind (entries sheet) (score (pairs sheet)) (map (λ l. (l .set, l .index)) ls)
-  in-slots : {n : ℕ} {l : List ℤ} {lentSets : List ℕ} {lentIndices : List ℤ} {r : Answer} {sets : List ℕ} {indices : List ℤ}
+  in-slots : {n : ℕ} {l indices lentIndices : List ℤ} {sets lentSets : List ℕ} {r : Answer}
       → NumbersCall kind n l lentSets lentIndices r sets indices → numberOf r ≡ 0
       → Wrote kind n (score l) (groupsOf (countOf r) sets indices)
 
--- Demand 2: "Every index written equals the definition of Bryant and Berry in document 01's whole-number form": 003, formula 1; the clean
--- index; 003, formula 2.
+-- Demand 2: "Every index written equals the definition of Bryant and Berry in document 01's whole-number form": 003,
+-- formula 1; the clean index; 003, formula 2.
 pub record Indices (kind : ℤ) (n : ℕ) (s : Similarity) (found : List (ℕ × ℤ)) : Type 0 where
   pub strong-index : kind ≡ pos 1 → (A : ℕ) (z : ℤ) → found lists (A, z) → z ≡ strongIndex n s A
   pub clean-index : kind ≡ pos 2 → (A : ℕ) (z : ℤ) → found lists (A, z) → z ≡ cleanIndex n s A
   pub separation-index : kind ≡ pos 3 → (A : ℕ) (z : ℤ) → found lists (A, z) → z ≡ separationIndex n s A
 
 pub record Demand2 : Type 0 where
-  pub indices : {kind : ℤ} {n : ℕ} {s : Similarity} {found : List (ℕ × ℤ)} → Wrote kind n s found → Indices kind n s found
-  -- "distances to anchored scores and back is the identity": the way back is given what the anchored call wrote, and room for as many. It
-  -- is not refused, and writes the distances.
-  pub back : {n x : ℕ} {distances lent after : List ℤ} {r : Answer} → AnchoredCall n x distances lent r after → numberOf r ≡ 0
+  pub indices : {kind : ℤ} {n : ℕ} {s : Similarity} {found : List (ℕ × ℤ)}
+      → Wrote kind n s found → Indices kind n s found
+  -- "distances to anchored scores and back is the identity": the way back is given what the anchored call wrote, and
+  -- room for as many. It is not refused, and writes the distances.
+  pub back : {n x : ℕ} {distances lent after : List ℤ} {r : Answer}
+      → AnchoredCall n x distances lent r after → numberOf r ≡ 0
       → {lent′ after′ : List ℤ} {r′ : Answer} → BackCall n x (take (countOf r) after) lent′ r′ after′
       → countOf r ≤ length lent′ → (numberOf r′ ≡ 0) × (take (countOf r′) after′ ≡ distances)
 
@@ -73,15 +75,17 @@ pub record Positive (k : Kind) (n : ℕ) (s : Similarity) (A : ℕ) : Type 0 whe
   pub spoken : T (speaksOf k n A)
   pub positive : pos 1 ≤ℤ index k n s A
 
--- the same groups and splits with the same indices, by their new numbers: "a set A has a line in the old one exactly when the set of all
--- p(a), a in A, has a line in the new one, and the index is equal. In kind 3 this is said of the splits"
+-- the same groups and splits with the same indices, by their new numbers: "a set A has a line in the old one exactly
+-- when the set of all p(a), a in A, has a line in the new one, and the index is equal. In kind 3 this is said of the
+-- splits"
 abbrev pub SameGroups : Kind → (n : ℕ) → Permutation n → (old new : List (ℕ × ℤ)) → Type 0
 SameGroups k n p old new =
     (A : ℕ) → A < 2 ^ n → (z : ℤ) → (old lists (writtenSet k n A, z)) ↔ (new lists (writtenSet k n (image n p A), z))
 
--- Demand 3, of all that a call wrote: "exactly one line for each set of positive index and no other; .. every strong group is a block of
--- every single linkage tree, every clean group of every average linkage tree; two groups of one kind are nested or disjoint". A split is
--- there by its written side, in the trees of the scores anchored at the first entry.
+-- Demand 3, of all that a call wrote: "exactly one line for each set of positive index and no other; .. every strong
+-- group is a block of every single linkage tree, every clean group of every average linkage tree; two groups of one
+-- kind are nested or disjoint". A split is there by its written side, in the trees of the scores anchored at the first
+-- entry.
 pub record Complete (kind : ℤ) (n : ℕ) (s : Similarity) (found : List (ℕ × ℤ)) : Type 0 where
   pub exactly : (A : ℕ) (z : ℤ)
       → (found lists (A, z)) ↔ (Positive (kindOf kind) n s A × (z ≡ index (kindOf kind) n s A))
@@ -100,18 +104,20 @@ pub record Complete (kind : ℤ) (n : ℕ) (s : Similarity) (found : List (ℕ �
 pub record Demand3 (kind : ℤ) : Type 0 where
   -- what is listed is of the written form, and each line has "the number of members"
   pub lines : {sheet bytes : List ℕ} → Listed kind sheet bytes
-      → (ls : List Line) × (listingRead bytes ≡ some ls) × ((l : Line) → l ∈ ls → l .size ≡ size (entries sheet) (l .set))
+      → (ls : List Line) × (listingRead bytes ≡ some ls)
+      × ((l : Line) → l ∈ ls → l .size ≡ size (entries sheet) (l .set))
   -- the numbers call's slots hold as many groups as it counts
-  pub slots : {n : ℕ} {l : List ℤ} {lentSets : List ℕ} {lentIndices : List ℤ} {r : Answer} {sets : List ℕ} {indices : List ℤ}
+  pub slots : {n : ℕ} {l indices lentIndices : List ℤ} {sets lentSets : List ℕ} {r : Answer}
       → NumbersCall kind n l lentSets lentIndices r sets indices → numberOf r ≡ 0
       → length (groupsOf (countOf r) sets indices) ≡ countOf r
   pub complete : {n : ℕ} {s : Similarity} {found : List (ℕ × ℤ)} → Wrote kind n s found → Complete kind n s found
   -- of any two calls on entries of which one order is a reordering of the other
-  pub reordered : {n : ℕ} {s s′ : Similarity} {found found′ : List (ℕ × ℤ)} → Wrote kind n s found → Wrote kind n s′ found′
+  pub reordered : {n : ℕ} {s s′ : Similarity} {found found′ : List (ℕ × ℤ)}
+      → Wrote kind n s found → Wrote kind n s′ found′
       → (p : Permutation n) → Reordered n p s s′ → SameGroups (kindOf kind) n p found found′
 
--- The way back's 15, as document 01 says it: it is given exactly if no line before it holds and the anchor is n or more, or the slice is
--- short, or there are no distances passing 11 and 12 of which the list is the anchored scores.
+-- The way back's 15, as document 01 says it: it is given exactly if no line before it holds and the anchor is n or
+-- more, or the slice is short, or there are no distances passing 11 and 12 of which the list is the anchored scores.
 pub record Distances (n : ℕ) (d : List ℤ) : Type 0 where
   pub long : T (hasLength n d)
   pub range : T (inRange d)

@@ -36,8 +36,8 @@ digits base (suc k) n = digits base k (n / base) ++ (digit (n % base) ∷ [])
 unfoldable pub hexadecimal : ℕ → List ℕ
 hexadecimal A = digits 16 8 A
 
--- "decimal": a number below 10 is one digit, any other the digits of a tenth of it and one more. The first argument is at least
--- the number of digits.
+-- "decimal": a number below 10 is one digit, any other the digits of a tenth of it and one more. The first argument is
+-- at least the number of digits.
 unfoldable pub decimalFrom : ℕ → ℕ → List ℕ
 decimalFrom zero n = []
 decimalFrom (suc k) n =
@@ -90,7 +90,8 @@ unfoldable pub isDecimal : List ℕ → Bool
 isDecimal [] = false
 isDecimal (b ∷ w) = all isDigit (b ∷ w) && (not (eqb b 48) || eqb (length w) 0)
 
--- a line by its words: is it of the form, and what does it say? An index that is listed is 1 or more, so it has no sign.
+-- a line by its words: is it of the form, and what does it say? An index that is listed is 1 or more, so it has no
+-- sign.
 unfoldable pub isLine : List (List ℕ) → Bool
 isLine ws = eqb (length ws) 3 && isSet (getD ws 0 []) && isDecimal (getD ws 1 []) && isDecimal (getD ws 2 [])
 

@@ -1,4 +1,5 @@
--- Where a call is turned away (document 01): the table, one check for each line, in its order; and which call makes which checks.
+-- Where a call is turned away (document 01): the table, one check for each line, in its order; and which call makes
+-- which checks.
 use mathlib.Core.Path.{_≡_}
 use mathlib.Core.Bool.{Bool, true, not, cond, _&&_, _||_}
 use mathlib.Core.List.{List, [], _∷_, _++_}
@@ -25,7 +26,7 @@ use Rattle.interface.specs.Sheet.{
   value,
   mirrored,
   pairs,
-  hasEqual
+  hasEqual,
 }
 use Rattle.interface.specs.Listing.{sheetListing}
 
@@ -48,7 +49,8 @@ pub record Given (checks : List Check) (k : ℕ) : Type 0 where
   pub parts : checks ≡ before ++ ((k, true) ∷ after)
   pub passed : T (none before)
 
--- The table. Two of its limits have a name, and the range of 11 has one in clusters/specs/PairList; no theorem knows their numbers.
+-- The table. Two of its limits have a name, and the range of 11 has one in clusters/specs/PairList; no theorem knows
+-- their numbers.
 unfoldable pub mostBytes : ℕ
 mostBytes = 12288
 
@@ -100,8 +102,8 @@ wrongCount n = eqb n 0 || ltb mostEntries n
 abbrev pub check6 : ℕ → Check
 check6 n = (6, wrongCount n)
 
--- after line 1 | 7 | "not n line feeds, or the last byte is none": the pieces are line 1, the n value lines and an empty piece behind
--- the last line feed
+-- after line 1 | 7 | "not n line feeds, or the last byte is none": the pieces are line 1, the n value lines and an
+-- empty piece behind the last line feed
 unfoldable pub wrongLines : List ℕ → Bool
 wrongLines s =
     not (eqb (length (lines s)) (entries s + 2))
@@ -150,8 +152,9 @@ check13 n sets indices = (13, fewSlots n sets indices)
 abbrev pub check14 : (buffer : ℕ) → (text : List ℕ) → Check
 check14 buffer text = (14, ltb buffer (length text))
 
--- linkage and anchored calls | 15 | "an anchor of n or more; a result slice shorter than the result; in the way back, a list that is not
--- the anchored scores, at that anchor, of any distances passing 11 and 12": a call has those of the three that speak of it
+-- linkage and anchored calls | 15 | "an anchor of n or more; a result slice shorter than the result; in the way back, a
+-- list that is not the anchored scores, at that anchor, of any distances passing 11 and 12": a call has those of the
+-- three that speak of it
 unfoldable pub wrongAnchor : ℕ → (anchor : ℕ) → Bool
 wrongAnchor n x = leb n x
 

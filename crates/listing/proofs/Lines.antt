@@ -66,7 +66,7 @@ in-groups (suc count) (A ∷ sets) (z ∷ indices) (suc i) h hs hi = List·Mem�
 -- the i-th group, whose index the code reads as k
 module _ {count : ℕ} {sets : List ℕ} {indices : List ℤ} (s : Slots count sets indices) (i : ℕ) (h : i < count) where
   pub index-natural : pos 0 ≤ℤ getD indices i (pos 0)
-  index-natural = s .natural _ (in-groups count sets indices i h (s .sets-hold) (s .indices-hold))
+  index-natural = s .natural _ _ (in-groups count sets indices i h (s .sets-hold) (s .indices-hold))
 
   pub lines-next : (k : ℕ) → pos k ≡ getD indices i (pos 0) → each (groupsOf (i + 1) sets indices) (line 32) ≡ each (groupsOf i sets indices) (line 32) ++ line 32 (getD sets i 0, pos k)
   lines-next k e =

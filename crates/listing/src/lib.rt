@@ -106,9 +106,11 @@ fn put_lines(out: &mut [u8], at: usize, sets: &[u32], indices: &[i64], count: us
 pub fn write(out: &mut [u8], sets: &[u32], indices: &[i64], count: usize) -> usize
     requires { ⌜ Slots count (now sets) (now indices) ⌝ }
     requires { ⌜ 15 + 33 * count ≤ length (now out) ⌝ }
-    ensures { λ r. ⌜ r ≡ length (listing (map (lineOf 32) (groupsOf count (now (sets .entry)) (now (indices .entry))))) ⌝ }
-    ensures { λ r. ⌜ now (out .exit) ≡
-        listing (map (lineOf 32) (groupsOf count (now (sets .entry)) (now (indices .entry)))) ++ drop r (now (out .entry)) ⌝ }
+    ensures { λ r. ⌜ r
+        ≡ length (listing (map (lineOf 32) (groupsOf count (now (sets .entry)) (now (indices .entry))))) ⌝ }
+    ensures { λ r. ⌜ now (out .exit)
+        ≡ listing (map (lineOf 32) (groupsOf count (now (sets .entry)) (now (indices .entry))))
+        ++ drop r (now (out .entry)) ⌝ }
 {
     let at = bytes::copy(b"set size index\n", out);
     put_lines(out, at, sets, indices, count)

@@ -1,5 +1,5 @@
--- Sets of the entries 0 .. n − 1, written as numbers: "entry i, counted from 0, weighs 2 to the power i" (What is written).
--- A set A of the n entries is a number A < 2 ^ n.
+-- Sets of the entries 0 .. n − 1, written as numbers: "entry i, counted from 0, weighs 2 to the power i" (What is
+-- written). A set A of the n entries is a number A < 2 ^ n.
 use mathlib.Core.Path.{_≡_}
 use mathlib.Core.Bool.{Bool, not, cond, _&&_}
 use mathlib.Core.List.{List}

@@ -131,7 +131,7 @@ returns-4 c =
     let h : length (text s) ≤ length (s .args .out .now) = omega (arith, wrote w .0, o .before .before .before .if3 .left) in
     let p = first-no (asked-12 (f .before .before) (f .before .if2 .left)) (first-no (le-ltb _ _ h) no-more) in
     let (a, t) = counted (length (text s)) (text s) (s .args .out .now) (gives (first-no (passed-11 (f .before .before .before)) p)) refl (wrote w .0) refl
-        (copied (s .args .out .now) (wrote w .1) (o .copy .ensures .1)) in
+    (copied (s .args .out .now) (wrote w .1) (o .copy .ensures .1)) in
     record { answered = a; written = t }
 
 pub list-pairs-spec : {M : Type 1} → statement M
