@@ -32,7 +32,8 @@ same-trans e g = record { sums = λ f. e .sums f ∙ g .sums f }
 
 pub same-length : {bs cs : List ℕ} → SameBlocks bs cs → length bs ≡ length cs
 unfolding up dn
-same-length {bs} {cs} e = omega (zarith, e .sums (λ B. pos 1), sum-const bs (pos 1), sum-const cs (pos 1), *at (pos (length bs)) (pos 1), *at (pos (length cs)) (pos 1))
+same-length {bs} {cs} e =
+    omega (zarith, e .sums (λ B. pos 1), sum-const bs (pos 1), sum-const cs (pos 1), *at (pos (length bs)) (pos 1), *at (pos (length cs)) (pos 1))
 
 -- 1 at B, else 0
 mark : ℕ → ℕ → ℤ
@@ -66,7 +67,8 @@ sum-merged U W bs f hu hw ne = end (f (U ∪ W)) (f U +ℤ f W) (sumOf (erase U 
 pub same-merged : {bs cs : List ℕ} → SameBlocks bs cs → (U W : ℕ) → U ∈ bs → W ∈ bs → U ≢ W → SameBlocks (merged U W bs) (merged U W cs)
 same-merged {bs} {cs} e U W hu hw ne = record { sums = λ f. end f (sum-merged U W bs f hu hw ne) (sum-merged U W cs f (same-in e hu) (same-in e hw) ne) }
   where
-    end : (f : ℕ → ℤ) → sumOf (merged U W bs) f +ℤ (f U +ℤ f W) ≡ f (U ∪ W) +ℤ sumOf bs f → sumOf (merged U W cs) f +ℤ (f U +ℤ f W) ≡ f (U ∪ W) +ℤ sumOf cs f → sumOf (merged U W bs) f ≡ sumOf (merged U W cs) f
+    end : (f : ℕ → ℤ) → sumOf (merged U W bs) f +ℤ (f U +ℤ f W) ≡ f (U ∪ W) +ℤ sumOf bs f
+        → sumOf (merged U W cs) f +ℤ (f U +ℤ f W) ≡ f (U ∪ W) +ℤ sumOf cs f → sumOf (merged U W bs) f ≡ sumOf (merged U W cs) f
     end f p q = omega (
       zarith,
       e .sums f,

@@ -8,15 +8,35 @@ use Rattle.sets.specs.Sets.{has, members, others, size}
 use Rattle.clusters.specs.PairList.{rowStart, place, score}
 use Rattle.clusters.specs.Indices.{strongValues, strongIndex, weight, pairsOf, weights, cleanIndex, separationValues, separationIndex}
 use Rattle.clusters.specs.Groups.{index, proper, speaksOf, listed, sets, groupSets, groups}
-use Rattle.clusters.specs.Bench.{Case, bench, changedLines, ownLines, copiesLines, four, changed, flat, own, copies, apart, equal, linesFound, unlistedFound}
+use Rattle.clusters.specs.Bench.{
+  Case,
+  bench,
+  changedLines,
+  ownLines,
+  copiesLines,
+  four,
+  changed,
+  flat,
+  own,
+  copies,
+  apart,
+  equal,
+  linesFound,
+  unlistedFound,
+}
 
 computed : map linesFound bench ≡ map (λ (c : Case). c .lines) bench
-unfolding linesFound bench changedLines ownLines copiesLines four changed flat own copies apart equal groups groupSets sets listed speaksOf proper index strongIndex strongValues cleanIndex weights pairsOf weight separationIndex separationValues score place rowStart has members others size minZ maxZ least sumOf sum insert sort sumOfSmallest below each keep
+unfolding linesFound bench changedLines ownLines copiesLines four changed flat own copies apart equal groups groupSets sets listed speaksOf proper
+    index strongIndex strongValues cleanIndex weights pairsOf weight separationIndex separationValues score place rowStart has members others size
+    minZ maxZ least sumOf sum insert sort sumOfSmallest below each keep
 computed = refl
 
 computed-unlisted : map unlistedFound bench ≡ map (λ (c : Case). c .unlisted) bench
-unfolding unlistedFound bench changedLines ownLines copiesLines four changed flat own copies apart equal index strongIndex strongValues cleanIndex weights pairsOf weight separationIndex separationValues score place rowStart has members others size minZ maxZ least sumOf sum insert sort sumOfSmallest below each keep
+unfolding unlistedFound bench changedLines ownLines copiesLines four changed flat own copies apart equal index strongIndex strongValues cleanIndex
+    weights pairsOf weight separationIndex separationValues score place rowStart has members others size minZ maxZ least sumOf sum insert sort
+    sumOfSmallest below each keep
 computed-unlisted = refl
 
 pub bench-holds : (c : Case) → c ∈ bench → (linesFound c ≡ c .lines) × (unlistedFound c ≡ c .unlisted)
-bench-holds c m = (of-map-cong linesFound (λ (c : Case). c .lines) bench computed m, of-map-cong unlistedFound (λ (c : Case). c .unlisted) bench computed-unlisted m)
+bench-holds c m =
+    (of-map-cong linesFound (λ (c : Case). c .lines) bench computed m, of-map-cong unlistedFound (λ (c : Case). c .unlisted) bench computed-unlisted m)

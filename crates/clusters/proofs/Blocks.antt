@@ -152,7 +152,8 @@ singles-hold (suc n) i = go (singles-hold n i) (ℕ-discrete n i)
 
     go : ((i < n) → sumOf (below n) f ≡ pos 1) × ((n ≤ i) → sumOf (below n) f ≡ pos 0) → Dec (n ≡ i)
         → ((i < suc n) → sumOf (below n ++ (n ∷ [])) f ≡ pos 1) × ((suc n ≤ i) → sumOf (below n ++ (n ∷ [])) f ≡ pos 0)
-    go r (yes e) = (λ h. sums (pos 1) (omega (zarith, r .1 (omega arith), subst (λ (j : ℕ). (2 ^ n) ∋ j) e (one-in n), +at (sumOf (below n) f) (f n))), λ h. absurd (omega arith))
+    go r (yes e) =
+        (λ h. sums (pos 1) (omega (zarith, r .1 (omega arith), subst (λ (j : ℕ). (2 ^ n) ∋ j) e (one-in n), +at (sumOf (below n) f) (f n))), λ h. absurd (omega arith))
     go r (no d) = (
       λ h. sums (pos 1) (omega (zarith, r .0 (omega arith), one-out n i d, +at (sumOf (below n) f) (f n))),
       λ h. sums (pos 0) (omega (zarith, r .1 (omega arith), one-out n i d, +at (sumOf (below n) f) (f n))),

@@ -29,7 +29,8 @@ length-merged U W bs hu hw ne = ap suc (length-erase U (erase W bs) (in-erase W 
 -- the number of merges
 pub merges-length : (link : ℕ → ℕ → Quotient) (bs : List ℕ) (ms : List (ℕ × ℕ)) → Merges link bs ms → suc (length ms) ≡ length bs
 merges-length link bs [] t = sym t
-merges-length link bs (m ∷ ms) t = ap suc (merges-length link (merged (m .0) (m .1) bs) ms (t .1)) ∙ length-merged (m .0) (m .1) bs (t .0 .left) (t .0 .right) (t .0 .apart)
+merges-length link bs (m ∷ ms) t =
+    ap suc (merges-length link (merged (m .0) (m .1) bs) ms (t .1)) ∙ length-merged (m .0) (m .1) bs (t .0 .left) (t .0 .right) (t .0 .apart)
 
 pub count-singles : (n : ℕ) → length (singles n) ≡ n
 unfolding singles
@@ -95,7 +96,8 @@ module _ (n : ℕ) (link : ℕ → ℕ → Quotient) (den : (P Q : ℕ) → 1 �
   at-pair p = link (p .0) (p .1)
 
   -- of some pairs of blocks one has the greatest link
-  top : (l : List (ℕ × ℕ)) → ((p : ℕ × ℕ) → p ∈ l → 0 < at-pair p .den) → {x : ℕ × ℕ} → x ∈ l → (m : ℕ × ℕ) × (m ∈ l) × ((p : ℕ × ℕ) → p ∈ l → at-pair p ≼ at-pair m)
+  top : (l : List (ℕ × ℕ)) → ((p : ℕ × ℕ) → p ∈ l → 0 < at-pair p .den) → {x : ℕ × ℕ} → x ∈ l
+      → (m : ℕ × ℕ) × (m ∈ l) × ((p : ℕ × ℕ) → p ∈ l → at-pair p ≼ at-pair m)
   top (x ∷ []) g k = (x, List·Memᴰ·head refl, λ p q. at p (List·Memᴰ·cases-cons q))
     where
       at : (p : ℕ × ℕ) → (p ≡ x) ⊎ (p ∈ []) → at-pair p ≼ at-pair x
@@ -103,10 +105,12 @@ module _ (n : ℕ) (link : ℕ → ℕ → Quotient) (den : (P Q : ℕ) → 1 �
       at p (inr q) = absurd (List·Memᴰ·not-nil q)
   top (x ∷ y ∷ l) g k = go (top (y ∷ l) (λ p q. g p (List·Memᴰ·tail q)) (List·Memᴰ·head refl))
     where
-      go : (m : ℕ × ℕ) × (m ∈ y ∷ l) × ((p : ℕ × ℕ) → p ∈ y ∷ l → at-pair p ≼ at-pair m) → (m : ℕ × ℕ) × (m ∈ x ∷ y ∷ l) × ((p : ℕ × ℕ) → p ∈ x ∷ y ∷ l → at-pair p ≼ at-pair m)
+      go : (m : ℕ × ℕ) × (m ∈ y ∷ l) × ((p : ℕ × ℕ) → p ∈ y ∷ l → at-pair p ≼ at-pair m)
+          → (m : ℕ × ℕ) × (m ∈ x ∷ y ∷ l) × ((p : ℕ × ℕ) → p ∈ x ∷ y ∷ l → at-pair p ≼ at-pair m)
       go (m, k, b) = at (quotient-total (at-pair x) (at-pair m))
         where
-          to : (c : ℕ × ℕ) → at-pair x ≼ at-pair c → ((p : ℕ × ℕ) → p ∈ y ∷ l → at-pair p ≼ at-pair c) → (p : ℕ × ℕ) → (p ≡ x) ⊎ (p ∈ y ∷ l) → at-pair p ≼ at-pair c
+          to : (c : ℕ × ℕ) → at-pair x ≼ at-pair c → ((p : ℕ × ℕ) → p ∈ y ∷ l → at-pair p ≼ at-pair c) → (p : ℕ × ℕ) → (p ≡ x) ⊎ (p ∈ y ∷ l)
+              → at-pair p ≼ at-pair c
           to c h f p (inl e) = subst (λ (z : ℕ × ℕ). at-pair z ≼ at-pair c) (sym e) h
           to c h f p (inr q) = f p q
 
@@ -116,7 +120,8 @@ module _ (n : ℕ) (link : ℕ → ℕ → Quotient) (den : (P Q : ℕ) → 1 �
             x,
             List·Memᴰ·head refl,
             λ p q.
-                to x (⊎-elim (λ h. h) (λ h. h) (quotient-total (at-pair x) (at-pair x))) (λ p q. ≼-trans (at-pair p) (at-pair m) (at-pair x) (g m (List·Memᴰ·tail k)) (b p q) c) p (List·Memᴰ·cases-cons q),
+                to x (⊎-elim (λ h. h) (λ h. h) (quotient-total (at-pair x) (at-pair x)))
+                (λ p q. ≼-trans (at-pair p) (at-pair m) (at-pair x) (g m (List·Memᴰ·tail k)) (b p q) c) p (List·Memᴰ·cases-cons q),
           )
 
   merges-exist : (k : ℕ) (bs : List ℕ) → length bs ≡ suc k → Partition n bs → (ms : List (ℕ × ℕ)) × Merges link bs ms
@@ -124,7 +129,8 @@ module _ (n : ℕ) (link : ℕ → ℕ → Quotient) (den : (P Q : ℕ) → 1 �
   merges-exist (suc k) [] e p = absurd (omega arith)
   merges-exist (suc k) (B ∷ []) e p = absurd (omega arith)
   merges-exist (suc k) (B ∷ C ∷ bs) e p =
-      go (λ bs e p. merges-exist k bs e p) (top (pairs all) some (in-pairs all B C (List·Memᴰ·head refl) (List·Memᴰ·tail (List·Memᴰ·head refl)) (first-two n B C bs p)))
+      go (λ bs e p. merges-exist k bs e p)
+      (top (pairs all) some (in-pairs all B C (List·Memᴰ·head refl) (List·Memᴰ·tail (List·Memᴰ·head refl)) (first-two n B C bs p)))
     where
       all : List ℕ
       all = B ∷ C ∷ bs
@@ -146,4 +152,5 @@ module _ (n : ℕ) (link : ℕ → ℕ → Quotient) (den : (P Q : ℕ) → 1 �
 
 pub tree-exists : (linkage : Linkage) (n : ℕ) (s : Similarity) → 1 ≤ n → (ms : List (ℕ × ℕ)) × Tree linkage n s ms
 tree-exists linkage zero s h = absurd (omega arith)
-tree-exists linkage (suc k) s h = merges-exist (suc k) (link linkage (suc k) s) (link-den linkage (suc k) s) k (singles (suc k)) (count-singles (suc k)) (partition-singles (suc k))
+tree-exists linkage (suc k) s h =
+    merges-exist (suc k) (link linkage (suc k) s) (link-den linkage (suc k) s) k (singles (suc k)) (count-singles (suc k)) (partition-singles (suc k))

@@ -67,7 +67,8 @@ separation-anchored n d A (a, ha, ka) (x, hx, kx) =
 
 -- the values of a split are those of its other side
 module _ (n : ℕ) (d : Similarity) (symm : Symmetric d) where
-  other-side : (A B : ℕ) → ((i : ℕ) → i < n → A ∋ i → B ∌ i) → ((i : ℕ) → i < n → A ∌ i → B ∋ i) → (z : ℤ) → z ∈ separationValues n d A → z ∈ separationValues n d B
+  other-side : (A B : ℕ) → ((i : ℕ) → i < n → A ∋ i → B ∌ i) → ((i : ℕ) → i < n → A ∌ i → B ∋ i) → (z : ℤ) → z ∈ separationValues n d A
+      → z ∈ separationValues n d B
   other-side A B out into z m =
       let (a, a′, b, b′, ha, ha′, hb, hb′, ka, ka′, kb, kb′, e) = of-separationValues n d A m in
       Memᴰ·cast (e ∙ swap (d a b) (d a′ b′) (d a a′) (d b b′) (d b a) (d b′ a′) (symm a b) (symm a′ b′))
@@ -128,7 +129,8 @@ farris-back d x a b ea eb = unfarris-at (farris d x) a b (d a x) (d b x) (farris
     less : (p r : ℤ) → p -ℤ (p -ℤ r) ≡ r
     less p r = omega (zarith, -at p r, -at p (p -ℤ r))
 
-pub back-farris : (S : Similarity) (x a b : ℕ) → T (even (S a a)) → T (even (S b b)) → S a x ≡ pos 0 → S b x ≡ pos 0 → S x x ≡ pos 0 → farris (unfarris S) x a b ≡ S a b
+pub back-farris : (S : Similarity) (x a b : ℕ) → T (even (S a a)) → T (even (S b b)) → S a x ≡ pos 0 → S b x ≡ pos 0 → S x x ≡ pos 0
+    → farris (unfarris S) x a b ≡ S a b
 unfolding farris
 back-farris S x a b ta tb ea eb ex =
     let p = half (S a a) in
@@ -189,7 +191,8 @@ anchored-back n x l hx e t = pairList-cong n (unfarris (score (anchoredScores n 
   where
     back : (a b : ℕ) → a < n → b < n → unfarris (score (anchoredScores n x l)) a b ≡ score l a b
     back a b h k =
-        unfarris-cong (score (anchoredScores n x l)) (farris (score l) x) a b (score-anchored n x l a a h h) (score-anchored n x l b b k k) (score-anchored n x l a b h k)
+        unfarris-cong (score (anchoredScores n x l)) (farris (score l) x) a b (score-anchored n x l a a h h) (score-anchored n x l b b k k)
+        (score-anchored n x l a b h k)
         ∙ farris-back (score l) x a b (distances-own n l t a h) (distances-own n l t b k)
 
 back-anchored : (n x : ℕ) (l : List ℤ) → x < n → length l ≡ rowStart n → ((a : ℕ) → a < n → (score l a x ≡ pos 0) × T (even (score l a a)))
@@ -202,7 +205,8 @@ back-anchored n x l hx e f = pairList-cong n (farris (score (distancesBack n l))
         farris-cong (score (distancesBack n l)) (unfarris (score l)) x a b (score-back n l a x h hx) (score-back n l b x k hx) (score-back n l a b h k)
         ∙ back-farris (score l) x a b (f a h .1) (f b k .1) (f a h .0) (f b k .0) (f x hx .0)
 
-anchored-own : (n x : ℕ) (d : List ℤ) → x < n → T (areDistances n d) → (a : ℕ) → a < n → (score (anchoredScores n x d) a x ≡ pos 0) × T (even (score (anchoredScores n x d) a a))
+anchored-own : (n x : ℕ) (d : List ℤ) → x < n → T (areDistances n d) → (a : ℕ) → a < n
+    → (score (anchoredScores n x d) a x ≡ pos 0) × T (even (score (anchoredScores n x d) a a))
 anchored-own n x d hx t a h = (
   score-anchored n x d a x h hx ∙ farris-anchor (score d) x a (distances-own n d t x hx),
   subst (λ z. T (even z)) (sym (score-anchored n x d a a h h ∙ farris-own (score d) x a (distances-own n d t a h))) (even-twice (score d a x)),

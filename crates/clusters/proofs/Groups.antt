@@ -2,7 +2,22 @@
 use mathlib.Core.Path.{_≡_, refl, sym, ap, ap₂, _∙_, subst}
 use mathlib.Core.Bool.{Bool, not, _&&_}
 use mathlib.Core.Logic.{_⊎_, inl, inr, _≢_, _↔_}
-use mathlib.Core.List.{List, [], _∷_, _++_, map, map-map, map-id, List·Memᴰ·head, List·Memᴰ·tail, List·Memᴰ·not-nil, List·Memᴰ·cases-cons, List·Memᴰ·append-cases, List·Memᴰ·eq-of-singleton, Memᴰ·cast}
+use mathlib.Core.List.{
+  List,
+  [],
+  _∷_,
+  _++_,
+  map,
+  map-map,
+  map-id,
+  List·Memᴰ·head,
+  List·Memᴰ·tail,
+  List·Memᴰ·not-nil,
+  List·Memᴰ·cases-cons,
+  List·Memᴰ·append-cases,
+  List·Memᴰ·eq-of-singleton,
+  Memᴰ·cast,
+}
 use Prim.Native.Nat.{ℕ, zero, suc, _^_, _≤_, _<_}
 use native.Mathlib.Omega.{arith}
 use lib.IntN.{ℤ, pos}
@@ -78,7 +93,8 @@ in-sets : (n A : ℕ) → (A ∈ sets n) ↔ (A < 2 ^ n)
 unfolding sets row
 in-sets n A = (
   λ m. let (k, _, a) = of-each (below (suc n)) (row n (2 ^ n)) m in of-row n (2 ^ n) k a .0,
-  λ h. in-each (row n (2 ^ n)) (lt-below (suc n) (size n A) (omega (arith, size-le n A))) (in-keep (λ B. eqb (size n B) (size n A)) (lt-below (2 ^ n) A h) (eqb-refl (size n A))),
+  λ h. in-each (row n (2 ^ n)) (lt-below (suc n) (size n A) (omega (arith, size-le n A)))
+      (in-keep (λ B. eqb (size n B) (size n A)) (lt-below (2 ^ n) A h) (eqb-refl (size n A))),
 )
 
 module _ (k : Kind) (n : ℕ) (s : Similarity) (A : ℕ) where
@@ -140,7 +156,8 @@ row-rise n (suc m) k = subst (Rising n) (sym (keep-append p (below m) (m ∷ [])
 rows-rise : (n m j : ℕ) → Rising n (each (below j) (row n m))
 unfolding below each
 rows-rise n m zero = tt
-rows-rise n m (suc j) = subst (Rising n) (sym (each-below j (row n m))) (append-rise n (each (below j) (row n m)) (row n m j) (rows-rise n m j) (row-rise n m j) last)
+rows-rise n m (suc j) =
+    subst (Rising n) (sym (each-below j (row n m))) (append-rise n (each (below j) (row n m)) (row n m j) (rows-rise n m j) (row-rise n m j) last)
   where
     last : (A B : ℕ) → A ∈ each (below j) (row n m) → B ∈ row n m j → Before n A B
     last A B a b = let (k, h, c) = of-each (below j) (row n m) a in inl (omega (arith, below-lt j h, of-row n m k c .1, of-row n m j b .1))

@@ -55,7 +55,8 @@ unfolding rowStart
 row-of zero i h = absurd (omega arith)
 row-of (suc n) i h = go (decLt i (rowStart n)) (row-of n i)
   where
-    go : Dec (i < rowStart n) → (i < rowStart n → (a b : ℕ) × (a < n) × (b ≤ a) × (i ≡ rowStart a + b)) → (a b : ℕ) × (a < suc n) × (b ≤ a) × (i ≡ rowStart a + b)
+    go : Dec (i < rowStart n) → (i < rowStart n → (a b : ℕ) × (a < n) × (b ≤ a) × (i ≡ rowStart a + b))
+        → (a b : ℕ) × (a < suc n) × (b ≤ a) × (i ≡ rowStart a + b)
     go (yes l) ih = let (a, b, ha, hb, e) = ih l in (a, b, omega arith, hb, e)
     go (no f) ih = (n, i - rowStart n, omega arith, omega (arith, rowStart-suc n), omega arith)
 
@@ -94,12 +95,16 @@ pairList-at : (n : ℕ) (s : Similarity) (a b : ℕ) → a < n → b ≤ a → g
 pairList-at zero s a b h k = absurd (omega arith)
 pairList-at (suc n) s a b h k = ap (λ l. getD l (rowStart a + b) (pos 0)) (pairList-suc n s) ∙ go (ℕ-discrete a n) (pairList-at n s a b)
   where
-    go : Dec (a ≡ n) → (a < n → b ≤ a → getD (pairList n s) (rowStart a + b) (pos 0) ≡ s a b) → getD (pairList n s ++ map (s n) (below (suc n))) (rowStart a + b) (pos 0) ≡ s a b
+    go : Dec (a ≡ n) → (a < n → b ≤ a → getD (pairList n s) (rowStart a + b) (pos 0) ≡ s a b)
+        → getD (pairList n s ++ map (s n) (below (suc n))) (rowStart a + b) (pos 0) ≡ s a b
     go (yes e) ih =
         let at : rowStart a + b ≡ length (pairList n s) + b = omega (arith, ap rowStart e, length-pairList n s) in
         ap (λ (j : ℕ). getD (pairList n s ++ map (s n) (below (suc n))) j (pos 0)) at
-        ∙ getD-append-add (pairList n s) (map (s n) (below (suc n))) b (pos 0) ∙ getD-below (s n) (suc n) b (pos 0) (omega arith) ∙ ap (λ (c : ℕ). s c b) (sym e)
-    go (no f) ih = List·getD-append (pairList n s) (map (s n) (below (suc n))) (pos 0) (rowStart a + b) (omega (arith, length-pairList n s, row-lt n a b (omega arith) k)) ∙ ih (omega arith) k
+        ∙ getD-append-add (pairList n s) (map (s n) (below (suc n))) b (pos 0) ∙ getD-below (s n) (suc n) b (pos 0) (omega arith)
+        ∙ ap (λ (c : ℕ). s c b) (sym e)
+    go (no f) ih =
+        List·getD-append (pairList n s) (map (s n) (below (suc n))) (pos 0) (rowStart a + b)
+        (omega (arith, length-pairList n s, row-lt n a b (omega arith) k)) ∙ ih (omega arith) k
 
 pub score-pairList : (n : ℕ) (s : Similarity) → Symmetric s → (a b : ℕ) → a < n → b < n → score (pairList n s) a b ≡ s a b
 unfolding score

@@ -34,7 +34,8 @@ module _ (n : ℕ) (p : Permutation n) where
           (λ t. eqb-yes i (p .from j) (sym (p .from-to i hi) ∙ ap (p .from) (sym (eqb→eq j (p .to i) t))))
           (λ t. eqb-yes j (p .to i) (sym (p .to-from j hj) ∙ ap (p .to) (sym (eqb→eq i (p .from j) t))))
 
-  reindex-keep : (q r : ℕ → Bool) → ((i : ℕ) → i < n → r (p .to i) ≡ q i) → (f : ℕ → ℤ) → sumOf (keep r (below n)) f ≡ sumOf (keep q (below n)) (λ i. f (p .to i))
+  reindex-keep : (q r : ℕ → Bool) → ((i : ℕ) → i < n → r (p .to i) ≡ q i) → (f : ℕ → ℤ)
+      → sumOf (keep r (below n)) f ≡ sumOf (keep q (below n)) (λ i. f (p .to i))
   reindex-keep q r e f =
       sum-keep r (below n) f ∙ sym (reindex (λ j. cond (r j) (f j) (pos 0)))
       ∙ sum-cong (below n) _ _ (λ i m. ap (λ b. cond b (f (p .to i)) (pos 0)) (e i (below-lt n m)))
@@ -80,7 +81,8 @@ module _ (A : ℕ) (f : ℕ → ℕ → ℤ) (symm : (a b : ℕ) → f a b ≡ f
           ∙ ap (λ z. z +ℤ (sumOf l (f n) +ℤ f n n)) (sum-add l (λ a. sumOf l (f a)) (λ a. f a n) ∙ ap (λ z. square l f +ℤ z) (sum-cong l _ _ (λ a _. symm a n)))
 
       end : (U D S R d : ℤ) → (U +ℤ U) +ℤ D ≡ S → ((U +ℤ R) +ℤ (U +ℤ R)) +ℤ (D +ℤ d) ≡ (S +ℤ R) +ℤ (R +ℤ d)
-      end U D S R d e = omega (zarith, +at U U, +at (U +ℤ U) D, +at U R, +at (U +ℤ R) (U +ℤ R), +at D d, +at ((U +ℤ R) +ℤ (U +ℤ R)) (D +ℤ d), +at S R, +at R d, +at (S +ℤ R) (R +ℤ d))
+      end U D S R d e =
+          omega (zarith, +at U U, +at (U +ℤ U) D, +at U R, +at (U +ℤ R) (U +ℤ R), +at D d, +at ((U +ℤ R) +ℤ (U +ℤ R)) (D +ℤ d), +at S R, +at R d, +at (S +ℤ R) (R +ℤ d))
 
   twice : (n : ℕ) → Twice (members n A)
   unfolding sumOf members below keep

@@ -37,7 +37,8 @@ image-has n p A i h = mask-has n (λ j. has A (p .from j)) (p .to i) (p .to-lt i
 
 pub size-image : (n : ℕ) (p : Permutation n) (A : ℕ) → size n (image n p A) ≡ size n A
 unfolding size up dn
-size-image n p A = omega (zarith, reindex-members n p A (image n p A) (image-has n p A) (λ i. pos 1), sum-const (members n A) (pos 1), sum-const (members n (image n p A)) (pos 1))
+size-image n p A =
+    omega (zarith, reindex-members n p A (image n p A) (image-has n p A) (λ i. pos 1), sum-const (members n A) (pos 1), sum-const (members n (image n p A)) (pos 1))
 
 -- what a reordering does, its inverse undoes
 inverse : {n : ℕ} → Permutation n → Permutation n
@@ -49,7 +50,8 @@ inverse-image n p A B im j h = sym (im (p .from j) (p .from-lt j h)) ∙ ap (has
 
 inverse-reordered : (n : ℕ) (p : Permutation n) (old new : Similarity) → Reordered n p old new → Reordered n (inverse p) new old
 unfolding inverse
-inverse-reordered n p old new r = record { same = λ i j hi hj. sym (r .same (p .from i) (p .from j) (p .from-lt i hi) (p .from-lt j hj)) ∙ ap₂ new (p .to-from i hi) (p .to-from j hj) }
+inverse-reordered n p old new r =
+    record { same = λ i j hi hj. sym (r .same (p .from i) (p .from j) (p .from-lt i hi) (p .from-lt j hj)) ∙ ap₂ new (p .to-from i hi) (p .to-from j hj) }
 
 module _ (n : ℕ) (p : Permutation n) (old new : Similarity) (r : Reordered n p old new) (A B : ℕ) (im : Image n p A B) where
   to-in : {i : ℕ} → i < n → A ∋ i → B ∋ p .to i
@@ -151,7 +153,8 @@ index-written : (k : Kind) (n : ℕ) (s : Similarity) → Symmetric s → (A : �
 unfolding index writtenSet
 index-written strong n s symm A = refl
 index-written clean n s symm A = refl
-index-written splits n d symm A = cond-elim (has A 0) (complement n A) A (λ B. separationIndex n d B ≡ separationIndex n d A) (λ _. separation-either-side n d symm A) (λ _. refl)
+index-written splits n d symm A =
+    cond-elim (has A 0) (complement n A) A (λ B. separationIndex n d B ≡ separationIndex n d A) (λ _. separation-either-side n d symm A) (λ _. refl)
 
 -- a set of size m and index i is listed, and with the number z
 abbrev Line : Kind → ℕ → ℤ → ℕ → ℤ → Type 0
@@ -164,7 +167,8 @@ in-written k n s symm A h z = (
       let (_, t, q) = in-groups k n s B z .0 m in
       let (l, u) = speaks-written k n A .0 (of-listed k n s B t .0) in
       (l, u, subst (λ i. pos 1 ≤ℤ i) e (listed-index k n s B t), q ∙ e),
-  λ (l, u, v, q). in-groups k n s B z .1 (written-lt k n A h, is-listed k n s B (speaks-written k n A .1 (l, u)) (subst (λ i. pos 1 ≤ℤ i) (sym e) v), q ∙ sym e),
+  λ (l, u, v, q). in-groups k n s B z .1
+      (written-lt k n A h, is-listed k n s B (speaks-written k n A .1 (l, u)) (subst (λ i. pos 1 ≤ℤ i) (sym e) v), q ∙ sym e),
 )
   where
     B : ℕ
@@ -173,7 +177,8 @@ in-written k n s symm A h z = (
     e : index k n s B ≡ index k n s A
     e = index-written k n s symm A
 
-pub groups-image : (k : Kind) (n : ℕ) (p : Permutation n) (old new : Similarity) → Reordered n p old new → Symmetric old → Symmetric new → (A : ℕ) → A < 2 ^ n → (z : ℤ)
+pub groups-image : (k : Kind) (n : ℕ) (p : Permutation n) (old new : Similarity) → Reordered n p old new → Symmetric old → Symmetric new → (A : ℕ)
+    → A < 2 ^ n → (z : ℤ)
     → (_∈_ {A = ℕ × ℤ} (writtenSet k n A, z) (groups k n old)) ↔ (_∈_ {A = ℕ × ℤ} (writtenSet k n (image n p A), z) (groups k n new))
 groups-image k n p old new r old-symm new-symm A h z =
     let before = in-written k n old old-symm A h z in

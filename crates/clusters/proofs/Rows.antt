@@ -48,7 +48,9 @@ rows-row {s} {lent} {o} {o′} {a} r q =
     let long : rowStart a ≡ 0 + length (pairList a s) = omega (arith, length-pairList a s) in
     record { is = q ∙ ap₂ (λ (l : List ℤ) (j : ℕ). sets l j row) (r .is) long ∙ sets-sets (pairList a s) lent 0 row ∙ ap (sets lent 0) (sym (pairList-suc a s)) ∙ rw (add-one a) }
 
-pub rows-all : {s : Similarity} {lent o : List ℤ} {a : ℕ} (n : ℕ) → Rows s lent o a → a ≡ n → rowStart n ≤ length lent → o ≡ pairList n s ++ drop (rowStart n) lent
+pub rows-all : {s : Similarity} {lent o : List ℤ} {a : ℕ} (n : ℕ) → Rows s lent o a → a ≡ n → rowStart n ≤ length lent
+    → o ≡ pairList n s ++ drop (rowStart n) lent
 rows-all {s} {lent} n r e h =
     let long : 0 + length (pairList n s) ≡ rowStart n = omega (arith, length-pairList n s) in
-    r .is ∙ ap (λ (a : ℕ). sets lent 0 (pairList a s)) e ∙ sets-eq (pairList n s) lent 0 (omega (arith, long)) ∙ ap (λ (j : ℕ). pairList n s ++ drop j lent) long
+    r .is ∙ ap (λ (a : ℕ). sets lent 0 (pairList a s)) e ∙ sets-eq (pairList n s) lent 0 (omega (arith, long))
+    ∙ ap (λ (j : ℕ). pairList n s ++ drop j lent) long

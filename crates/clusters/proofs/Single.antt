@@ -24,7 +24,8 @@ unfolding link
 strong-repels n s A low some out h = record { low = low; inside = some; outside = out; away = λ bs p _ U Z hu hz ne iu oz. away bs p U Z hu hz ne iu oz }
   where
     -- the member of A that U leaves out is in another block; the greatest score to it is more than the greatest one to Z
-    away : (bs : List ℕ) → Partition n bs → (U Z : ℕ) → U ∈ bs → Z ∈ bs → U ≢ A → Subset n U A → Disjoint n Z A → (B : ℕ) × (B ∈ bs) × (U ≢ B) × (link single n s U Z ≺ link single n s U B)
+    away : (bs : List ℕ) → Partition n bs → (U Z : ℕ) → U ∈ bs → Z ∈ bs → U ≢ A → Subset n U A → Disjoint n Z A
+        → (B : ℕ) × (B ∈ bs) × (U ≢ B) × (link single n s U Z ≺ link single n s U B)
     away bs p U Z hu hz ne iu oz =
         let (w, hw, kw, ow) = left-out n A U low (p .small U hu) ne iu in
         let (B, mb, kb) = cover p w hw in

@@ -12,7 +12,24 @@ use Rattle.integers.proofs.Least.{max-left, max-is}
 use Rattle.integers.proofs.Sums.{sum-cong, sum-mono, sum-add, sum-zero, sum-swap, sum-pos}
 use Rattle.integers.proofs.Smallest.{among-positive}
 use Rattle.sets.specs.Sets.{_∋_, _∌_, members, size, _∪_, difference, Subset, Disjoint, Nested}
-use Rattle.sets.proofs.Sets.{in-or-out, ∪-left, ∪-right, ∪-lt, size-∪, in-members, of-members, member-size, size-member, difference-lt, in-difference, of-difference, not-difference, out-difference, find, subset-antisymm}
+use Rattle.sets.proofs.Sets.{
+  in-or-out,
+  ∪-left,
+  ∪-right,
+  ∪-lt,
+  size-∪,
+  in-members,
+  of-members,
+  member-size,
+  size-member,
+  difference-lt,
+  in-difference,
+  of-difference,
+  not-difference,
+  out-difference,
+  find,
+  subset-antisymm,
+}
 use Rattle.clusters.specs.PairList.{Similarity, Symmetric}
 use Rattle.clusters.specs.Indices.{strongIndex, weight, weights, cleanIndex}
 use Rattle.clusters.specs.Stability.{tripleSum, Division, Stable}
@@ -101,7 +118,9 @@ shared-le n A B = record {
 
 shared-comm : (n A B : ℕ) → shared n A B ≡ shared n B A
 unfolding shared
-shared-comm n A B = subset-antisymm n (shared n A B) (shared n B A) (difference-lt n A (difference n A B)) (difference-lt n B (difference n B A)) (shared-le n A B) (shared-le n B A)
+shared-comm n A B =
+    subset-antisymm n (shared n A B) (shared n B A) (difference-lt n A (difference n A B)) (difference-lt n B (difference n B A)) (shared-le n A B)
+    (shared-le n B A)
 
 -- the weights of ab|c and ac|b have a sum of at most 0, so not both of their triple sums are above 0
 opposed : (s : Similarity) (a b c : ℕ) → (weight s a b c +ℤ weight s a c b) ≤ℤ pos 0
@@ -121,7 +140,8 @@ tripleSums-opposed n s W U Z =
     (sums-opposed (members n W) _ _ λ w. sums-opposed (members n U) _ _ λ u. sums-opposed (members n Z) _ _ λ z. opposed s w u z)
 
 -- where A and B cross, they divide A
-crossing : (n A B : ℕ) → A < 2 ^ n → Only n A B → (w : ℕ) × (w < n) × (A ∋ w) × (B ∋ w) → Only n B A → Division n A (shared n A B) (difference n A B) (difference n B A)
+crossing : (n A B : ℕ) → A < 2 ^ n → Only n A B → (w : ℕ) × (w < n) × (A ∋ w) × (B ∋ w) → Only n B A
+    → Division n A (shared n A B) (difference n A B) (difference n B A)
 unfolding shared
 crossing n A B low (u, lu, au, bu) (w, lw, aw, bw) (z, lz, bz, az) =
     division n A (difference n A B) (difference n B A) low (difference-lt n A B)

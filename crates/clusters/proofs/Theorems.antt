@@ -1,7 +1,18 @@
 -- What holds of the groups of every kind, for any number of entries.
 use mathlib.Core.Path.{_≡_, sym, ap, _∙_, subst}
 use mathlib.Core.Logic.{_⊎_, inl, inr}
-use mathlib.Core.List.{List, [], _∷_, _++_, List·Memᴰ·cases-cons, List·Memᴰ·append-cases, List·Memᴰ·eq-of-singleton, Memᴰ·append-left, Memᴰ·append-right, Memᴰ·cast}
+use mathlib.Core.List.{
+  List,
+  [],
+  _∷_,
+  _++_,
+  List·Memᴰ·cases-cons,
+  List·Memᴰ·append-cases,
+  List·Memᴰ·eq-of-singleton,
+  Memᴰ·append-left,
+  Memᴰ·append-right,
+  Memᴰ·cast,
+}
 use Prim.Native.Nat.{ℕ, suc, _+_, _^_, _≤_, _<_}
 use native.Mathlib.Omega.{arith}
 use native.Mathlib.Decide.{decLt}
@@ -17,7 +28,16 @@ use Rattle.clusters.specs.PairList.{Similarity, Symmetric}
 use Rattle.clusters.specs.Linkage.{average, link, Tree, singles, mergedBlocks, blocks}
 use Rattle.clusters.specs.Groups.{Kind, strong, clean, splits, index, listed, groupSets, groups, mostGroups, treeLinkage, treeScores}
 use Rattle.clusters.specs.Stability.{Stable}
-use Rattle.clusters.proofs.Groups.{in-groupSets, groups-rise, rising-distinct, listed-index, listed-some, listed-proper, listed-clean-two, listed-split-first}
+use Rattle.clusters.proofs.Groups.{
+  in-groupSets,
+  groups-rise,
+  rising-distinct,
+  listed-index,
+  listed-some,
+  listed-proper,
+  listed-clean-two,
+  listed-split-first,
+}
 use Rattle.clusters.proofs.Farris.{farris-symm, split-strong}
 use Rattle.clusters.proofs.Trees.{Repels, repels-in-tree}
 use Rattle.clusters.proofs.Blocks.{partition-singles}
@@ -45,7 +65,8 @@ module _ (n : ℕ) (s : Similarity) (symm : Symmetric s) (A : ℕ) where
   group-stable clean t = clean-stable n s symm A (listed-index clean n s A t)
   group-stable splits t =
       let (x, h, _) = listed-proper splits n s A t in
-      strong-stable n (treeScores splits s) (tree-symm splits s symm) A (split-strong n s A 0 (omega arith) (listed-split-first n s A t) (listed-index splits n s A t))
+      strong-stable n (treeScores splits s) (tree-symm splits s symm) A
+      (split-strong n s A 0 (omega arith) (listed-split-first n s A t) (listed-index splits n s A t))
 
   group-repels : (k : Kind) → A < 2 ^ n → T (listed k n s A) → Repels (link (treeLinkage k) n (treeScores k s)) n A
   unfolding treeScores treeLinkage index
@@ -53,7 +74,8 @@ module _ (n : ℕ) (s : Similarity) (symm : Symmetric s) (A : ℕ) where
   group-repels clean low t = stable-repels n s symm A low (listed-some clean n s A t) (listed-proper clean n s A t) (group-stable clean t)
   group-repels splits low t =
       let (x, h, _) = listed-proper splits n s A t in
-      strong-repels n (treeScores splits s) A low (listed-some splits n s A t) (listed-proper splits n s A t) (split-strong n s A 0 (omega arith) (listed-split-first n s A t) (listed-index splits n s A t))
+      strong-repels n (treeScores splits s) A low (listed-some splits n s A t) (listed-proper splits n s A t)
+      (split-strong n s A 0 (omega arith) (listed-split-first n s A t) (listed-index splits n s A t))
 
 -- every group is a block of every tree: a strong one of every single linkage tree, a clean one of every average linkage tree, a split by
 -- its written side of every single linkage tree of the scores anchored at the first entry
@@ -61,7 +83,8 @@ pub group-in-tree : (k : Kind) (n : ℕ) (s : Similarity) → Symmetric s → (A
     → (ms : List (ℕ × ℕ)) → Tree (treeLinkage k) n (treeScores k s) ms → A ∈ blocks n ms
 group-in-tree k n s symm A m =
     let (low, t) = in-groupSets k n s A .0 m in
-    repels-in-tree (link (treeLinkage k) n (treeScores k s)) (link-symm n (treeScores k s) (tree-symm k s symm) (treeLinkage k)) n A (group-repels n s symm A k low t)
+    repels-in-tree (link (treeLinkage k) n (treeScores k s)) (link-symm n (treeScores k s) (tree-symm k s symm) (treeLinkage k)) n A
+    (group-repels n s symm A k low t)
 
 -- two groups of one kind are nested or disjoint
 pub groups-nested : (k : Kind) (n : ℕ) (s : Similarity) → Symmetric s → (A B : ℕ) → A ∈ groupSets k n s → B ∈ groupSets k n s → Nested n A B ⊎ Disjoint n A B
@@ -96,7 +119,8 @@ module _ (n : ℕ) (s : Similarity) (symm : Symmetric s) where
   -- the groups and what else is among these blocks are no more than there are
   room : (k : Kind) (extra all : List ℕ) → Distinct (extra ++ groupSets k n s) → ((A : ℕ) → A ∈ extra → A ∈ all) → ((A : ℕ) → A ∈ groupSets k n s → A ∈ all)
       → length extra + length (groupSets k n s) ≤ length all
-  room k extra all d f g = omega (arith, length-append extra (groupSets k n s), pigeonhole (extra ++ groupSets k n s) all d (λ A m. at A (List·Memᴰ·append-cases extra m)))
+  room k extra all d f g =
+      omega (arith, length-append extra (groupSets k n s), pigeonhole (extra ++ groupSets k n s) all d (λ A m. at A (List·Memᴰ·append-cases extra m)))
     where
       at : (A : ℕ) → (A ∈ extra) ⊎ (A ∈ groupSets k n s) → A ∈ all
       at A (inl m) = f A m

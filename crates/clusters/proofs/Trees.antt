@@ -12,7 +12,18 @@ use Rattle.integers.proofs.Linear.{zarith}
 use Rattle.sets.specs.Sets.{_∋_, _∌_, _∪_, Subset, Disjoint}
 use Rattle.sets.proofs.Sets.{clash}
 use Rattle.clusters.specs.Linkage.{Quotient, _≼_, Greatest, merged, Merges, singles, mergedBlocks, blocks}
-use Rattle.clusters.proofs.Blocks.{Partition, Uncrossed, cover, of-merged, partition-merged, uncrossed-merged, partition-singles, uncrossed-singles, both-in, both-out}
+use Rattle.clusters.proofs.Blocks.{
+  Partition,
+  Uncrossed,
+  cover,
+  of-merged,
+  partition-merged,
+  uncrossed-merged,
+  partition-singles,
+  uncrossed-singles,
+  both-in,
+  both-out,
+}
 
 -- the quotient p is less than q
 infix 50 _≺_
@@ -34,13 +45,15 @@ pub record Repels (link : ℕ → ℕ → Quotient) (n A : ℕ) : Type 0 where
 
 module _ (link : ℕ → ℕ → Quotient) (symm : (P Q : ℕ) → link P Q ≡ link Q P) (n A : ℕ) (r : Repels link n A) where
   -- no greatest link goes from inside A to outside
-  no-crossing : (bs : List ℕ) → Partition n bs → Uncrossed n A bs → ((B : ℕ) → B ∈ bs → B ≢ A) → (U Z : ℕ) → Greatest link bs U Z → Subset n U A → Disjoint n Z A → ⊥
+  no-crossing : (bs : List ℕ) → Partition n bs → Uncrossed n A bs → ((B : ℕ) → B ∈ bs → B ≢ A) → (U Z : ℕ) → Greatest link bs U Z → Subset n U A
+      → Disjoint n Z A → ⊥
   no-crossing bs p u absent U Z g iu oz =
       let (B, m, d, h) = r .away bs p u U Z (g .left) (g .right) (absent U (g .left)) iu oz in
       less-not-most (link U Z) (link U B) h (g .most U B (g .left) m d)
 
   flipped : {bs : List ℕ} {U W : ℕ} → Greatest link bs U W → Greatest link bs W U
-  flipped {bs} {U} {W} g = record { left = g .right; right = g .left; apart = λ e. g .apart (sym e); most = λ P Q hp hq ne. subst (λ z. link P Q ≼ z) (symm U W) (g .most P Q hp hq ne) }
+  flipped {bs} {U} {W} g =
+      record { left = g .right; right = g .left; apart = λ e. g .apart (sym e); most = λ P Q hp hq ne. subst (λ z. link P Q ≼ z) (symm U W) (g .most P Q hp hq ne) }
 
   walk : (bs : List ℕ) (ms : List (ℕ × ℕ)) → Partition n bs → Uncrossed n A bs → Merges link bs ms → (A ∈ bs) ⊎ (A ∈ mergedBlocks ms)
   unfolding mergedBlocks
@@ -60,7 +73,8 @@ module _ (link : ℕ → ℕ → Quotient) (symm : (P Q : ℕ) → link P Q ≡ 
   walk (B ∷ C ∷ bs) [] p u t = absurd (omega arith)
   walk bs (m ∷ ms) p u t = step (m .0) (m .1) (t .0) (λ q v. walk (merged (m .0) (m .1) bs) ms q v (t .1))
     where
-      step : (U W : ℕ) → Greatest link bs U W → (Partition n (merged U W bs) → Uncrossed n A (merged U W bs) → (A ∈ merged U W bs) ⊎ (A ∈ mergedBlocks ms)) → (A ∈ bs) ⊎ (A ∈ (U ∪ W) ∷ mergedBlocks ms)
+      step : (U W : ℕ) → Greatest link bs U W
+          → (Partition n (merged U W bs) → Uncrossed n A (merged U W bs) → (A ∈ merged U W bs) ⊎ (A ∈ mergedBlocks ms)) → (A ∈ bs) ⊎ (A ∈ (U ∪ W) ∷ mergedBlocks ms)
       step U W g ih = go (in-or-none A bs) (u .side U (g .left)) (u .side W (g .right))
         where
           home : (A ∈ merged U W bs) ⊎ (A ∈ mergedBlocks ms) → (A ∈ bs) ⊎ (A ∈ (U ∪ W) ∷ mergedBlocks ms)
@@ -74,7 +88,8 @@ module _ (link : ℕ → ℕ → Quotient) (symm : (P Q : ℕ) → link P Q ≡ 
           next : Subset n (U ∪ W) A ⊎ Disjoint n (U ∪ W) A → (A ∈ bs) ⊎ (A ∈ (U ∪ W) ∷ mergedBlocks ms)
           next sd = home (ih (partition-merged U W bs n p (g .left) (g .right) (g .apart)) (uncrossed-merged U W bs n A u sd))
 
-          go : (A ∈ bs) ⊎ ((B : ℕ) → B ∈ bs → B ≢ A) → Subset n U A ⊎ Disjoint n U A → Subset n W A ⊎ Disjoint n W A → (A ∈ bs) ⊎ (A ∈ (U ∪ W) ∷ mergedBlocks ms)
+          go : (A ∈ bs) ⊎ ((B : ℕ) → B ∈ bs → B ≢ A) → Subset n U A ⊎ Disjoint n U A → Subset n W A ⊎ Disjoint n W A
+              → (A ∈ bs) ⊎ (A ∈ (U ∪ W) ∷ mergedBlocks ms)
           go (inl k) _ _ = inl k
           go (inr f) (inl iu) (inl iw) = next (inl (both-in n A U W iu iw))
           go (inr f) (inr ou) (inr ow) = next (inr (both-out n A U W ou ow))

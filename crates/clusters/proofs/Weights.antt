@@ -52,7 +52,8 @@ length-triples n s U W Z =
     length-each (members n U) (λ u. each (members n W) λ w. map (weight s u w) (members n Z)) (size n W * size n Z) λ u.
     length-each (members n W) (λ w. map (weight s u w) (members n Z)) (size n Z) λ w. length-map (members n Z) (weight s u w)
 
-pub tripleSum-sums : (n : ℕ) (s : Similarity) (U W Z : ℕ) → tripleSum n s U W Z ≡ sumOf (members n U) (λ u. sumOf (members n W) (λ w. sumOf (members n Z) (weight s u w)))
+pub tripleSum-sums : (n : ℕ) (s : Similarity) (U W Z : ℕ)
+    → tripleSum n s U W Z ≡ sumOf (members n U) (λ u. sumOf (members n W) (λ w. sumOf (members n Z) (weight s u w)))
 unfolding tripleSum sum triples
 tripleSum-sums n s U W Z = triples-sum n s U W Z (λ x. x)
 

@@ -12,6 +12,7 @@ module _ {part name : List ℕ} (lent : List ℕ) (e : part ≡ name) where
   unfolding copied
   no-room h = (ap length e, rw (sym e, lt-leb _ _ h))
 
-  pub with-room : {r : ℕ} {out : List ℕ} → length part ≤ length lent → r ≡ length part → out ≡ take (length part) part ++ drop (length part) lent → (r ≡ length name) × (out ≡ copied name lent)
+  pub with-room : {r : ℕ} {out : List ℕ} → length part ≤ length lent → r ≡ length part → out ≡ take (length part) part ++ drop (length part) lent
+      → (r ≡ length name) × (out ≡ copied name lent)
   unfolding copied
   with-room h p q = (p ∙ ap length e, q ∙ rw (sym e, le-leb _ _ h, take-length part))

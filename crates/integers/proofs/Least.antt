@@ -65,7 +65,8 @@ module _ (m : ℤ → ℤ → ℤ) (R : ℤ → ℤ → Type 0) (c : Choice m R)
   chosen-first (x ∷ []) {z} (List·Memᴰ·head e) = subst (R x) (sym e) (c .itself x)
   chosen-first (x ∷ []) (List·Memᴰ·tail h) = absurd (List·Memᴰ·not-nil h)
   chosen-first (x ∷ y ∷ l) {z} (List·Memᴰ·head e) = subst (R (m x (chosen m (y ∷ l)))) (sym e) (c .left x (chosen m (y ∷ l)))
-  chosen-first (x ∷ y ∷ l) {z} (List·Memᴰ·tail h) = c .trans (m x (chosen m (y ∷ l))) (chosen m (y ∷ l)) z (c .right x (chosen m (y ∷ l))) (chosen-first (y ∷ l) h)
+  chosen-first (x ∷ y ∷ l) {z} (List·Memᴰ·tail h) =
+      c .trans (m x (chosen m (y ∷ l))) (chosen m (y ∷ l)) z (c .right x (chosen m (y ∷ l))) (chosen-first (y ∷ l) h)
 
   -- of a list with an element, it is an element
   chosen-in : (x : ℤ) (l : List ℤ) → chosen m (x ∷ l) ∈ (x ∷ l)

@@ -35,7 +35,8 @@ module _ {ℓ} {S : Type ℓ} (op : S → ℕ → S) (z : S) (p : ℕ → Bool) 
   turn-no e = turn (keep-no p x [] (false-T e))
 
 -- a fold over lists one after the other
-pub foldl-each {ℓ κ μ} : {S : Type ℓ} {A : Type κ} {B : Type μ} (op : S → B → S) (f : A → List B) (z : S) (l : List A) → foldl op z (each l f) ≡ foldl (λ z x. foldl op z (f x)) z l
+pub foldl-each {ℓ κ μ} : {S : Type ℓ} {A : Type κ} {B : Type μ} (op : S → B → S) (f : A → List B) (z : S) (l : List A)
+    → foldl op z (each l f) ≡ foldl (λ z x. foldl op z (f x)) z l
 unfolding each
 foldl-each op f z [] = refl
 foldl-each op f z (x ∷ l) = foldl-append op z (f x) (each l f) ∙ foldl-each op f (foldl op z (f x)) l

@@ -24,7 +24,8 @@ module _ {ℓ} {A : Type ℓ} where
   pub sum-mono : (l : List A) (f g : A → ℤ) → ((x : A) → x ∈ l → f x ≤ℤ g x) → sumOf l f ≤ℤ sumOf l g
   unfolding sumOf
   sum-mono [] f g h = ≤ℤ-refl (pos 0)
-  sum-mono (x ∷ l) f g h = omega (zarith, h x (List·Memᴰ·head refl), sum-mono l f g (λ y m. h y (List·Memᴰ·tail m)), +at (f x) (sumOf l f), +at (g x) (sumOf l g))
+  sum-mono (x ∷ l) f g h =
+      omega (zarith, h x (List·Memᴰ·head refl), sum-mono l f g (λ y m. h y (List·Memᴰ·tail m)), +at (f x) (sumOf l f), +at (g x) (sumOf l g))
 
   pub sum-add : (l : List A) (f g : A → ℤ) → sumOf l (λ x. f x +ℤ g x) ≡ sumOf l f +ℤ sumOf l g
   unfolding sumOf
@@ -61,7 +62,8 @@ module _ {ℓ} {A : Type ℓ} where
   sum-keep p [] f = refl
   sum-keep p (x ∷ l) f = go (p x) (sum-keep p l f)
     where
-      go : (b : Bool) → sumOf (keep p l) f ≡ sumOf l (λ x. cond (p x) (f x) (pos 0)) → sumOf (cond b (x ∷ keep p l) (keep p l)) f ≡ cond b (f x) (pos 0) +ℤ sumOf l (λ x. cond (p x) (f x) (pos 0))
+      go : (b : Bool) → sumOf (keep p l) f ≡ sumOf l (λ x. cond (p x) (f x) (pos 0))
+          → sumOf (cond b (x ∷ keep p l) (keep p l)) f ≡ cond b (f x) (pos 0) +ℤ sumOf l (λ x. cond (p x) (f x) (pos 0))
       go true e = ap (λ z. f x +ℤ z) e
       go false e = e ∙ sym (+ℤ-idl (sumOf l (λ x. cond (p x) (f x) (pos 0))))
 
@@ -100,10 +102,12 @@ pub sum-erase : (U : ℕ) (bs : List ℕ) (f : ℕ → ℤ) → U ∈ bs → sum
 unfolding erase sumOf
 sum-erase U (C ∷ bs) f m = go (eqb C U) refl (sum-erase U bs f) (List·Memᴰ·cases-cons m)
   where
-    go : (b : Bool) → eqb C U ≡ b → (U ∈ bs → sumOf bs f ≡ f U +ℤ sumOf (erase U bs) f) → (U ≡ C) ⊎ (U ∈ bs) → f C +ℤ sumOf bs f ≡ f U +ℤ sumOf (cond b bs (C ∷ erase U bs)) f
+    go : (b : Bool) → eqb C U ≡ b → (U ∈ bs → sumOf bs f ≡ f U +ℤ sumOf (erase U bs) f) → (U ≡ C) ⊎ (U ∈ bs)
+        → f C +ℤ sumOf bs f ≡ f U +ℤ sumOf (cond b bs (C ∷ erase U bs)) f
     go true e ih _ = ap (λ (x : ℕ). f x +ℤ sumOf bs f) (eqb→eq C U (true-T e))
     go false e ih (inl q) = absurd (eqb-no C U (false-T e) (sym q))
-    go false e ih (inr m) = omega (zarith, ih m, +at (f C) (sumOf bs f), +at (f U) (sumOf (erase U bs) f), +at (f C) (sumOf (erase U bs) f), +at (f U) (f C +ℤ sumOf (erase U bs) f))
+    go false e ih (inr m) =
+        omega (zarith, ih m, +at (f C) (sumOf bs f), +at (f U) (sumOf (erase U bs) f), +at (f C) (sumOf (erase U bs) f), +at (f U) (f C +ℤ sumOf (erase U bs) f))
 
 -- summands above 0, one or more of them, have a sum above 0
 pub sum-pos {ℓ} : {X : Type ℓ} (l : List X) (f : X → ℤ) → ((x : X) → x ∈ l → pos 0 <ℤ f x) → {x : X} → x ∈ l → pos 0 <ℤ sumOf l f
@@ -114,7 +118,8 @@ sum-pos (y ∷ l) f h m =
     omega (zarith, +at (f y) (sumOf l f))
 
 -- fewer summands, each at most as great, and none left out below 0
-pub sum-keep-le {ℓ} : {X : Type ℓ} (p q : X → Bool) (l : List X) (f g : X → ℤ) → ((x : X) → x ∈ l → T (p x) → T (q x)) → ((x : X) → f x ≤ℤ g x) → ((x : X) → pos 0 ≤ℤ g x)
+pub sum-keep-le {ℓ} : {X : Type ℓ} (p q : X → Bool) (l : List X) (f g : X → ℤ) → ((x : X) → x ∈ l → T (p x) → T (q x)) → ((x : X) → f x ≤ℤ g x)
+    → ((x : X) → pos 0 ≤ℤ g x)
     → sumOf (keep p l) f ≤ℤ sumOf (keep q l) g
 sum-keep-le {X} p q l f g sub le nn =
     subst₂ _≤ℤ_ (sym (sum-keep p l f)) (sym (sum-keep q l g))
@@ -138,7 +143,9 @@ sum-one n c h f = sym (sum-keep (λ j. eqb j c) (below n) f) ∙ ap (λ l. sumOf
 
 -- two different elements taken out
 pub sum-two : (U W : ℕ) (bs : List ℕ) (f : ℕ → ℤ) → U ∈ bs → W ∈ bs → U ≢ W → sumOf bs f ≡ (f U +ℤ f W) +ℤ sumOf (erase U (erase W bs)) f
-sum-two U W bs f hu hw ne = end (f U) (f W) (sumOf (erase U (erase W bs)) f) (sumOf (erase W bs) f) (sumOf bs f) (sum-erase W bs f hw) (sum-erase U (erase W bs) f (in-erase W bs ne hu))
+sum-two U W bs f hu hw ne =
+    end (f U) (f W) (sumOf (erase U (erase W bs)) f) (sumOf (erase W bs) f) (sumOf bs f) (sum-erase W bs f hw)
+    (sum-erase U (erase W bs) f (in-erase W bs ne hu))
   where
     end : (u w r e b : ℤ) → b ≡ w +ℤ e → e ≡ u +ℤ r → b ≡ (u +ℤ w) +ℤ r
     end u w r e b p q = omega (zarith, +at w e, +at u r, +at u w, +at (u +ℤ w) r)

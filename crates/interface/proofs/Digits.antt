@@ -67,9 +67,11 @@ from-digits zero n = refl
 from-digits (suc k) n = go (ten n) (from-digits k (n / 10))
   where
     more : (l : List ℕ) → l ≡ digits 10 (length l) (n / 10) → l ++ (digit (n % 10) ∷ []) ≡ digits 10 (length (l ++ (digit (n % 10) ∷ []))) n
-    more l e = ap (λ (x : List ℕ). x ++ (digit (n % 10) ∷ [])) e ∙ ap (λ (j : ℕ). digits 10 j n) (sym (length-append l (digit (n % 10) ∷ []) ∙ add-one (length l)))
+    more l e =
+        ap (λ (x : List ℕ). x ++ (digit (n % 10) ∷ [])) e ∙ ap (λ (j : ℕ). digits 10 j n) (sym (length-append l (digit (n % 10) ∷ []) ∙ add-one (length l)))
 
-    go : (n < 10) ⊎ (10 ≤ n) → decimalFrom k (n / 10) ≡ digits 10 (length (decimalFrom k (n / 10))) (n / 10) → decimalFrom (suc k) n ≡ digits 10 (length (decimalFrom (suc k) n)) n
+    go : (n < 10) ⊎ (10 ≤ n) → decimalFrom k (n / 10) ≡ digits 10 (length (decimalFrom k (n / 10))) (n / 10)
+        → decimalFrom (suc k) n ≡ digits 10 (length (decimalFrom (suc k) n)) n
     go (inl s) ih = rw (from-one k n s) (ap (λ (d : ℕ). digit d ∷ []) (sym (mod-eq-of-lt s)))
     go (inr s) ih = rw (from-more k n s) (more (decimalFrom k (n / 10)) ih)
 

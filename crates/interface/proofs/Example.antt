@@ -157,11 +157,18 @@ refused =
     ∷ []
 
 example-listing : sheetListing (pos 1) sheet ≡ text
-unfolding sheet text isUpper isDigit isName isNumeral isValue digitValue numberFrom valueOf longer cut lines names entries words value mirrored pairs sameBytes isAmong hasEqual kindOf index proper speaksOf listed sets groupSets groups strongValues strongIndex score place rowStart pairList has members others Sets.size minZ maxZ eqZ least below each keep lineOf digit digits hexadecimal decimalFrom decimal signedDecimal firstText lineText firstLine listing groupsFound pairsListing sheetListing
+unfolding sheet text isUpper isDigit isName isNumeral isValue digitValue numberFrom valueOf longer cut lines names entries words value mirrored pairs
+    sameBytes isAmong hasEqual kindOf index proper speaksOf listed sets groupSets groups strongValues strongIndex score place rowStart pairList has
+    members others Sets.size minZ maxZ eqZ least below each keep lineOf digit digits hexadecimal decimalFrom decimal signedDecimal firstText lineText
+    firstLine listing groupsFound pairsListing sheetListing
 example-listing = refl
 
 example-passes : sheetRefusal (pos 1) sheet 93 ≡ 0
-unfolding sheet text isUpper isDigit isName isNumeral isValue digitValue numberFrom valueOf longer cut lines names entries words value mirrored pairs sameBytes isAmong hasEqual kindOf index proper speaksOf listed sets groupSets groups strongValues strongIndex score place rowStart pairList has members others Sets.size minZ maxZ eqZ least below each keep lineOf digit digits hexadecimal decimalFrom decimal signedDecimal firstText lineText firstLine listing groupsFound pairsListing sheetListing all inRange scoreLimit areDistances firstOf mostBytes mostEntries wrongKind wrongLength isAllowed wrongByte wrongNames equalNames wrongCount wrongLines isRow wrongValues wrongDistances sheetCallChecks sheetRefusal refused many
+unfolding sheet text isUpper isDigit isName isNumeral isValue digitValue numberFrom valueOf longer cut lines names entries words value mirrored pairs
+    sameBytes isAmong hasEqual kindOf index proper speaksOf listed sets groupSets groups strongValues strongIndex score place rowStart pairList has
+    members others Sets.size minZ maxZ eqZ least below each keep lineOf digit digits hexadecimal decimalFrom decimal signedDecimal firstText lineText
+    firstLine listing groupsFound pairsListing sheetListing all inRange scoreLimit areDistances firstOf mostBytes mostEntries wrongKind wrongLength
+    isAllowed wrongByte wrongNames equalNames wrongCount wrongLines isRow wrongValues wrongDistances sheetCallChecks sheetRefusal refused many
 example-passes = refl
 
 size : length text ≡ 93
@@ -181,11 +188,16 @@ example lent after r long c =
 
 -- and read back, without the writer
 pub example-read : listingRead text ≡ some six
-unfolding text six all isDigit longer cut sameBytes digitValue numberFrom isHexDigit isSet isDecimal isLine lineRead isFirst pieces lineWords isListing listingRead
+unfolding text six all isDigit longer cut sameBytes digitValue numberFrom isHexDigit isSet isDecimal isLine lineRead isFirst pieces lineWords
+    isListing listingRead
 example-read = refl
 
 numbers : map (λ c. sheetRefusal (c .kind) (c .sheet) (c .buffer)) refused ≡ map (λ c. c .number) refused
-unfolding sheet text isUpper isDigit isName isNumeral isValue digitValue numberFrom valueOf longer cut lines names entries words value mirrored pairs sameBytes isAmong hasEqual kindOf index proper speaksOf listed sets groupSets groups strongValues strongIndex score place rowStart pairList has members others Sets.size minZ maxZ eqZ least below each keep lineOf digit digits hexadecimal decimalFrom decimal signedDecimal firstText lineText firstLine listing groupsFound pairsListing sheetListing all inRange scoreLimit areDistances firstOf mostBytes mostEntries wrongKind wrongLength isAllowed wrongByte wrongNames equalNames wrongCount wrongLines isRow wrongValues wrongDistances sheetCallChecks sheetRefusal refused many
+unfolding sheet text isUpper isDigit isName isNumeral isValue digitValue numberFrom valueOf longer cut lines names entries words value mirrored pairs
+    sameBytes isAmong hasEqual kindOf index proper speaksOf listed sets groupSets groups strongValues strongIndex score place rowStart pairList has
+    members others Sets.size minZ maxZ eqZ least below each keep lineOf digit digits hexadecimal decimalFrom decimal signedDecimal firstText lineText
+    firstLine listing groupsFound pairsListing sheetListing all inRange scoreLimit areDistances firstOf mostBytes mostEntries wrongKind wrongLength
+    isAllowed wrongByte wrongNames equalNames wrongCount wrongLines isRow wrongValues wrongDistances sheetCallChecks sheetRefusal refused many
 numbers = refl
 
 -- each is refused with its number, and every number of the C call is there

@@ -41,7 +41,9 @@ hex-digit d h = go (ten d)
   where
     go : (d < 10) ⊎ (10 ≤ d) → T (isDigit (digit d) || leb 97 (digit d) && leb (digit d) 102)
     go (inl l) = true-T {b = isDigit (digit d) || leb 97 (digit d) && leb (digit d) 102} (rw (low-digit d l, is-digit d l))
-    go (inr l) = true-T {b = isDigit (digit d) || leb 97 (digit d) && leb (digit d) 102} (rw (high-digit d l, no-digit d l, le-leb 97 (87 + d) (omega arith), le-leb (87 + d) 102 (omega arith)))
+    go (inr l) =
+        true-T {b = isDigit (digit d) || leb 97 (digit d) && leb (digit d) 102}
+        (rw (high-digit d l, no-digit d l, le-leb 97 (87 + d) (omega arith), le-leb (87 + d) 102 (omega arith)))
 
 pub digit-value : (d : ℕ) → d < 16 → digitValue (digit d) ≡ d
 unfolding digitValue

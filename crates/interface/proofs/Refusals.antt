@@ -71,7 +71,8 @@ unfolding firstOf all
 given-first [] after k t = refl
 given-first (c ∷ before) after k t = go (c .1) t (given-first before after k)
   where
-    go : (b : Bool) → T (not b && none before) → (T (none before) → firstOf (before ++ ((k, true) ∷ after)) ≡ k) → cond b (c .0) (firstOf (before ++ ((k, true) ∷ after))) ≡ k
+    go : (b : Bool) → T (not b && none before) → (T (none before) → firstOf (before ++ ((k, true) ∷ after)) ≡ k)
+        → cond b (c .0) (firstOf (before ++ ((k, true) ∷ after))) ≡ k
     go true t ih = absurd t
     go false t ih = ih t
 

@@ -48,14 +48,18 @@ pub no-lines : (sets : List ℕ) (indices : List ℤ) (f : ℕ × ℤ → List �
 unfolding each groupsOf
 no-lines sets indices f = refl
 
-one-more : (i : ℕ) (sets : List ℕ) (indices : List ℤ) (f : ℕ × ℤ → List ℕ) → i < length sets → i < length indices → each (groupsOf (suc i) sets indices) f ≡ each (groupsOf i sets indices) f ++ f (getD sets i 0, getD indices i (pos 0))
+one-more : (i : ℕ) (sets : List ℕ) (indices : List ℤ) (f : ℕ × ℤ → List ℕ) → i < length sets → i < length indices
+    → each (groupsOf (suc i) sets indices) f ≡ each (groupsOf i sets indices) f ++ f (getD sets i 0, getD indices i (pos 0))
 unfolding each groupsOf
 one-more i [] indices f h k = absurd (omega arith)
 one-more i (A ∷ sets) [] f h k = absurd (omega arith)
 one-more zero (A ∷ sets) (z ∷ indices) f h k = append-nil (f (A, z))
-one-more (suc i) (A ∷ sets) (z ∷ indices) f h k = rw (one-more i sets indices f (omega arith) (omega arith)) (sym (append-assoc (f (A, z)) (each (groupsOf i sets indices) f) (f (getD sets i 0, getD indices i (pos 0)))))
+one-more (suc i) (A ∷ sets) (z ∷ indices) f h k =
+    rw (one-more i sets indices f (omega arith) (omega arith))
+    (sym (append-assoc (f (A, z)) (each (groupsOf i sets indices) f) (f (getD sets i 0, getD indices i (pos 0)))))
 
-in-groups : (count : ℕ) (sets : List ℕ) (indices : List ℤ) (i : ℕ) → i < count → count ≤ length sets → count ≤ length indices → (getD sets i 0, getD indices i (pos 0)) ∈ groupsOf count sets indices
+in-groups : (count : ℕ) (sets : List ℕ) (indices : List ℤ) (i : ℕ) → i < count → count ≤ length sets → count ≤ length indices
+    → (getD sets i 0, getD indices i (pos 0)) ∈ groupsOf count sets indices
 unfolding groupsOf
 in-groups zero sets indices i h hs hi = absurd (omega arith)
 in-groups (suc count) [] indices i h hs hi = absurd (omega arith)
@@ -68,7 +72,8 @@ module _ {count : ℕ} {sets : List ℕ} {indices : List ℤ} (s : Slots count s
   pub index-natural : pos 0 ≤ℤ getD indices i (pos 0)
   index-natural = s .natural _ _ (in-groups count sets indices i h (s .sets-hold) (s .indices-hold))
 
-  pub lines-next : (k : ℕ) → pos k ≡ getD indices i (pos 0) → each (groupsOf (i + 1) sets indices) (line 32) ≡ each (groupsOf i sets indices) (line 32) ++ line 32 (getD sets i 0, pos k)
+  pub lines-next : (k : ℕ) → pos k ≡ getD indices i (pos 0)
+      → each (groupsOf (i + 1) sets indices) (line 32) ≡ each (groupsOf i sets indices) (line 32) ++ line 32 (getD sets i 0, pos k)
   lines-next k e =
       let hs : i < length sets = omega (arith, s .sets-hold) in
       let hi : i < length indices = omega (arith, s .indices-hold) in

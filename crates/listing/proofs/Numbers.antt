@@ -11,7 +11,8 @@ use Rattle.listing.specs.Put.{Put}
 use Rattle.listing.proofs.Puts.{sets-last}
 
 -- of i digits the last is stored, and i − 1 are left
-pub digits-turn : (base i n : ℕ) (l : List ℕ) (at : ℕ) → 0 < i → sets l at (digits base i n) ≡ sets (set l (at + (i - 1)) (digit (n % base))) at (digits base (i - 1) (n / base))
+pub digits-turn : (base i n : ℕ) (l : List ℕ) (at : ℕ) → 0 < i
+    → sets l at (digits base i n) ≡ sets (set l (at + (i - 1)) (digit (n % base))) at (digits base (i - 1) (n / base))
 unfolding digits
 digits-turn base i n l at more =
     let e : i ≡ suc (i - 1) = omega arith in

@@ -55,7 +55,9 @@ module _ {A : Type 0} (d : A) where
   getD-padded (x ∷ l) k (suc i) = getD-padded l k i
 
   pub by-places : (l : List A) (n : ℕ) → length l ≤ n → map (λ i. getD l i d) (below n) ≡ l ++ replicate (n - length l) d
-  by-places l n h = ext-getD d (map at (below n)) (l ++ replicate (n - length l) d) (omega (arith, long, length-append l (replicate (n - length l) d), length-replicate (n - length l) d))
+  by-places l n h =
+      ext-getD d (map at (below n)) (l ++ replicate (n - length l) d)
+      (omega (arith, long, length-append l (replicate (n - length l) d), length-replicate (n - length l) d))
       (λ i k. getD-below at n i d (omega (arith, long)) ∙ sym (getD-padded l (n - length l) i))
     where
       at : ℕ → A

@@ -127,7 +127,9 @@ unfolding _∪_
 -- one entry more
 pub size-suc : (n A : ℕ) → size (suc n) A ≡ size n A + A / 2 ^ n % 2
 unfolding size members below keep
-size-suc n A = ap length (keep-append (has A) (below n) (n ∷ [])) ∙ length-append (members n A) (keep (has A) (n ∷ [])) ∙ ap (λ (x : ℕ). length (members n A) + x) (last (in-or-out A n))
+size-suc n A =
+    ap length (keep-append (has A) (below n) (n ∷ [])) ∙ length-append (members n A) (keep (has A) (n ∷ []))
+    ∙ ap (λ (x : ℕ). length (members n A) + x) (last (in-or-out A n))
   where
     last : (A ∋ n) ⊎ (A ∌ n) → length (keep (has A) (n ∷ [])) ≡ A / 2 ^ n % 2
     last (inl k) = ap length (keep-yes (has A) n [] (yes-has A n k)) ∙ sym (k .bit)
@@ -240,7 +242,8 @@ find (suc n) A U = go (find n A U) (in-or-out A n) (in-or-out U n)
         at i h k (yes e) = subst (λ (j : ℕ). U ∋ j) (sym e) (f (subst (λ (j : ℕ). A ∋ j) e k))
         at i h k (no g) = r .all i (omega arith) k
 
-    go : ((i : ℕ) × (i < n) × (A ∋ i) × (U ∌ i)) ⊎ Subset n A U → (A ∋ n) ⊎ (A ∌ n) → (U ∋ n) ⊎ (U ∌ n) → ((i : ℕ) × (i < suc n) × (A ∋ i) × (U ∌ i)) ⊎ Subset (suc n) A U
+    go : ((i : ℕ) × (i < n) × (A ∋ i) × (U ∌ i)) ⊎ Subset n A U → (A ∋ n) ⊎ (A ∌ n) → (U ∋ n) ⊎ (U ∌ n)
+        → ((i : ℕ) × (i < suc n) × (A ∋ i) × (U ∌ i)) ⊎ Subset (suc n) A U
     go (inl r) _ _ = inl (r .0, omega arith, r .2, r .3)
     go (inr r) (inl h) (inl k) = inr (last r (λ _. k))
     go (inr r) (inl h) (inr k) = inl (n, omega arith, h, k)

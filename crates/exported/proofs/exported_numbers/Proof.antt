@@ -13,7 +13,8 @@ numbers-requires c κs = search needs
 
 as-number-requires : tie.Need-as-number-requires
 as-number-requires c κs = let a = c .before .before .before .before .before .before .before .args in
-    numbers-small (a .n) (a .pairs .now) (toZ w32 (ofZ w32 (a .kind))) (length (a .sets .now)) (length (a .indices .now)) (c .before .before .before .numbers .ensures .answered)
+    numbers-small (a .n) (a .pairs .now) (toZ w32 (ofZ w32 (a .kind))) (length (a .sets .now)) (length (a .indices .now))
+    (c .before .before .before .numbers .ensures .answered)
 
 same-length : tie.Need-same-length
 same-length c = search needs

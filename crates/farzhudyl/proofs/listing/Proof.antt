@@ -51,16 +51,24 @@ slice-aggregate-list-pairs : tie.Need-slice-aggregate-list-pairs
 slice-aggregate-list-pairs c = c .before .pair-count .ensures ∙ sym (pairs-long _ (was-read (c .before .before .before)) (pairs-are (c .before)))
 
 list-pairs-requires : tie.Need-list-pairs-requires
-list-pairs-requires c κs = let f = was-read (c .before .before .before .before) in (some-entries _ f, few-entries _ f, pairs-long _ f (pairs-are (c .before .before)))
+list-pairs-requires c κs =
+    let f = was-read (c .before .before .before .before) in
+    (some-entries _ f, few-entries _ f, pairs-long _ f (pairs-are (c .before .before)))
 
 returns-2 : tie.Need-returns-2
-returns-2 c = refused-sheet _ _ _ (right-kind (c .before .before .before .before .before)) (sym (c .before .before .before .read .ensures .answered) ∙ c .before .reading .given .1)
+returns-2 c =
+    refused-sheet _ _ _ (right-kind (c .before .before .before .before .before))
+    (sym (c .before .before .before .read .ensures .answered) ∙ c .before .reading .given .1)
 
 same-length : tie.Need-same-length
 same-length c = search needs
 
 returns-3 : tie.Need-returns-3
-returns-3 c = let f = c .before .before .before .before .before in let d = f .before .before in let k = d .before .before .before .before in let a = k .before .before .before .before in
+returns-3 c =
+    let f = c .before .before .before .before .before in
+    let d = f .before .before in
+    let k = d .before .before .before .before in
+    let a = k .before .before .before .before in
     read-sheet _ _ (a .args .out .now) (right-kind k) (was-read d) (pairs-are f) (rw (toZ-ofZ (a .fits .kind)) at (c .before .before .list-pairs .ensures))
 
 pub listing-spec : {M : Type 1} → statement M

@@ -13,7 +13,8 @@ use Rattle.farzhudyl.proofs.minus.Tie as tie
 
 difference-fits : (m k : ℕ) → m < 2 ^ 63 → k < 2 ^ 63 → SFits w64 (pos m -ℤ pos k)
 unfolding up dn
-difference-fits m k h l = within-fits w64 {k = 2 ^ 63 - 1} (omega arith) (record { top = omega (zarith, -at (pos m) (pos k)); low = omega (zarith, -at (pos m) (pos k)) })
+difference-fits m k h l =
+    within-fits w64 {k = 2 ^ 63 - 1} (omega arith) (record { top = omega (zarith, -at (pos m) (pos k)); low = omega (zarith, -at (pos m) (pos k)) })
 
 cast-result : tie.Need-cast-result
 cast-result c = search needs

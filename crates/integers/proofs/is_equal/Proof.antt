@@ -14,7 +14,8 @@ at-most-requires-2 c κs = search needs
 returns : tie.Need-returns
 unfolding eqZ
 returns c = let f = c .before .before .before .fits in
-    and-second (sym (leZ-read (f .x) (f .y) (sym (c .before .before .at-most .ensures)))) (c .before .if1 .taken) (sym (leZ-read (f .y) (f .x) (sym (c .at-most2 .ensures))))
+    and-second (sym (leZ-read (f .x) (f .y) (sym (c .before .before .at-most .ensures)))) (c .before .if1 .taken)
+    (sym (leZ-read (f .y) (f .x) (sym (c .at-most2 .ensures))))
 
 returns-2 : tie.Need-returns-2
 unfolding eqZ

@@ -13,7 +13,8 @@ use Rattle.listing.proofs.put_lines.Statement.{statement}
 use Rattle.listing.proofs.put_lines.Tie as tie
 
 abbrev Inv-loop : tie.InvT-loop
-Inv-loop out₀ at sets indices count end₀ i₀ out end i = (i ≤ count) × (length out ≡ length out₀) × (end ≤ at + 33 * i) × Put out₀ at (each (groupsOf i sets indices) (line 32)) out end
+Inv-loop out₀ at sets indices count end₀ i₀ out end i =
+    (i ≤ count) × (length out ≡ length out₀) × (end ≤ at + 33 * i) × Put out₀ at (each (groupsOf i sets indices) (line 32)) out end
 
 abbrev μ-loop : tie.MeasureT-loop
 μ-loop out₀ at sets indices count end₀ i₀ out end i = count - i
@@ -47,7 +48,9 @@ loop-again c =
     let s = c .before .before .before .before .before .before .before .before .before .before in
     let r = c .before .before .put-line in
     let x = c .before .before .before .index-at in
-    (omega arith, r .kept .0 ∙ l .inv .1, omega (arith, r .ensures .place, line-bound (getD (s .args .sets .now) (l .i) 0) (x .result) (search needs)), rw (lines-next (s .pre .0) (l .i) (omega arith) (x .result) (x .ensures)) (then (l .inv .3) (r .ensures)))
+    let few = line-bound (getD (s .args .sets .now) (l .i) 0) (x .result) (search needs) in
+    let next = lines-next (s .pre .0) (l .i) (omega arith) (x .result) (x .ensures) in
+    (omega arith, r .kept .0 ∙ l .inv .1, omega (arith, r .ensures .place, few), rw next (then (l .inv .3) (r .ensures)))
 
 same-length : tie.Need-same-length Inv-loop μ-loop
 same-length c = c .before .loop .inv .1

@@ -46,7 +46,8 @@ array-share-prefix-output : tie.Need-array-share-prefix-output
 array-share-prefix-output c = room c
 
 slice-aggregate-write-all : tie.Need-slice-aggregate-write-all
-slice-aggregate-write-all c = sym (length-take-le (c .before .before .answer .given .0 .0) (c .before .before .before .before .before .listing .last .1 .1 .0) (room (c .before)))
+slice-aggregate-write-all c =
+    sym (length-take-le (c .before .before .answer .given .0 .0) (c .before .before .before .before .before .listing .last .1 .1 .0) (room (c .before)))
 
 write-all-requires : tie.Need-write-all-requires
 write-all-requires c κs = search needs
