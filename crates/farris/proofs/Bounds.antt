@@ -39,7 +39,8 @@ farris-within l x a b t = within-difference (within-sum (score-within (million l
 pub converted-small : (w : Way) (n : ℕ) (l : List ℤ) (a b : ℕ) → Convertible w n l → a < n → b < n → Within (2 ^ 31 - 1) (converted w (score l) a b)
 unfolding converted Convertible
 converted-small (Anchored x) n l a b (_, t) h k = within-grow (omega arith) (farris-within l x a b t)
-converted-small Back n l a b t h k = within-grow (omega arith) (subst (Within 1000000) (score-back n l a b h k) (score-within (million (distancesBack n l) t) a b))
+converted-small Back n l a b t h k = within-grow (omega arith)
+    (subst (Within 1000000) (score-back n l a b h k) (score-within (million (distancesBack n l) t) a b))
 
 pub anchored-bounded : (n x : ℕ) (l : List ℤ) → T (inRange l) → Bounded (2 ^ 22) (anchoredScores n x l)
 unfolding anchoredScores

@@ -61,13 +61,15 @@ module _ (n : ℕ) (l : List ℤ) where
   fore : T (all row (below n)) → T (inRange D && areDistances n D)
   unfolding distancesBack inRange areDistances
   fore t = T-and (inRange D) (areDistances n D) (in-all ranged D (λ z m. distance-ranged z (each z m)))
-      (T-and (all (leZ (pos 0)) D) (all own (below n)) (in-all (leZ (pos 0)) D (λ z m. each z m .0)) (in-all own (below n) (λ a m. own-passes a (below-lt n m))))
+      (T-and (all (leZ (pos 0)) D) (all own (below n))
+      (in-all (leZ (pos 0)) D (λ z m. each z m .0)) (in-all own (below n) (λ a m. own-passes a (below-lt n m))))
     where
       each : (z : ℤ) → z ∈ D → T (leZ (pos 0) z) × T (leZ z (pos scoreLimit))
       each z m =
           let (a, b, h, k, e) = of-pairList n (unfarris (score l)) m in
           let r = all-in row (below n) t (lt-below n a h) in
-          distance-parts z (subst (λ z. T (isDistance z)) (sym e) (all-in (λ b. isDistance (unfarris (score l) a b)) (below (suc a)) r (lt-below (suc a) b (omega arith))))
+          distance-parts z
+          (subst (λ z. T (isDistance z)) (sym e) (all-in (λ b. isDistance (unfarris (score l) a b)) (below (suc a)) r (lt-below (suc a) b (omega arith))))
 
       own-passes : (a : ℕ) → a < n → T (own a)
       own-passes a h = yes-eqZ (score D a a) (pos 0) (score-back n l a a h h ∙ own-zero (score l) a)
@@ -81,14 +83,16 @@ module _ (n : ℕ) (l : List ℤ) where
       let e = in-pairList n (unfarris (score l)) (below-lt n m) (omega (arith, below-lt (suc a) k)) in
       ranged-distance (unfarris (score l) a b) (all-in ranged D r e) (all-in (leZ (pos 0)) D p e)))
 
-  pub back-test : all (λ a. all (λ b. isDistance (unfarris (score l) a b)) (below (suc a))) (below n) ≡ inRange (distancesBack n l) && areDistances n (distancesBack n l)
+  pub back-test : all (λ a. all (λ b. isDistance (unfarris (score l) a b)) (below (suc a))) (below n)
+      ≡ inRange (distancesBack n l) && areDistances n (distancesBack n l)
   back-test = T-same (all row (below n)) (inRange D && areDistances n D) fore rear
 
 -- the test of a list: what its entries have, and what is found back
 abbrev entry : ℕ → List ℤ → ℕ → Bool
 entry x l a = eqZ (score l a x) (pos 0) && even (score l a a)
 
-pub anchored-parts : (n x : ℕ) (l : List ℤ) → all (entry x l) (below n) && (inRange (distancesBack n l) && areDistances n (distancesBack n l)) ≡ isAnchored n x l
+pub anchored-parts : (n x : ℕ) (l : List ℤ)
+    → all (entry x l) (below n) && (inRange (distancesBack n l) && areDistances n (distancesBack n l)) ≡ isAnchored n x l
 unfolding isAnchored
 anchored-parts n x l = sym (and-assoc (all (entry x l) (below n)) (inRange (distancesBack n l)) (areDistances n (distancesBack n l)))
 

@@ -85,7 +85,8 @@ module _ {kind : ℤ} {n : ℕ} {l : List ℤ} {sets : List ℕ} {indices : List
   }
 
   pub numbers-counted : {found : Found} {sets′ : List ℕ} {indices′ : List ℤ} → r ≡ 0 → Groups (kindOf kind) n l found
-      → sets′ ≡ setsOf found ++ replicate (length sets - length (setsOf found)) 0 → indices′ ≡ indicesOf found ++ replicate (length indices - length (indicesOf found)) (pos 0)
+      → sets′ ≡ setsOf found ++ replicate (length sets - length (setsOf found)) 0
+      → indices′ ≡ indicesOf found ++ replicate (length indices - length (indicesOf found)) (pos 0)
       → NumbersCall kind n l sets indices (Count (found .count)) sets′ indices′
   unfolding filled answer
   numbers-counted z g s x = record {

@@ -50,11 +50,13 @@ module _ {l : List ℤ} {k : ℕ} (b : Bounded k l) where
   unfolding separationIndex
   separation-within n A = least-within (separationValues n (score l) A) (λ z m.
       let (x, y, v, w, _, _, _, _, _, _, _, _, e) = of-separationValues n (score l) A m in
-      within-grow (omega arith) (within-equal e (within-difference (within-difference (within-sum (score-within b x v) (score-within b y w)) (score-within b x y)) (score-within b v w))))
+      within-grow (omega arith)
+      (within-equal e (within-difference (within-difference (within-sum (score-within b x v) (score-within b y w)) (score-within b x y)) (score-within b v w))))
 
   pub clean-within : (n A : ℕ) → n ≤ 32 → Within (62 * k) (cleanIndex n (score l) A)
   unfolding cleanIndex sumOfSmallest
   clean-within n A few =
       let w = weights n (score l) A in
       let smallest = take (size n A - 1) (sort w) in
-      within-grow (omega arith) (sum-within 31 smallest (omega (arith, length-take (size n A - 1) (sort w), size-le n A)) (λ z m. weights-within n A z (of-sort w (of-take (size n A - 1) (sort w) m))))
+      within-grow (omega arith) (sum-within 31 smallest (omega (arith, length-take (size n A - 1) (sort w), size-le n A))
+      (λ z m. weights-within n A z (of-sort w (of-take (size n A - 1) (sort w) m))))

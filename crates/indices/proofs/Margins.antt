@@ -33,7 +33,18 @@ least-difference l m f g {a} {x} ma mx =
     let fore = least-le values (in-each (λ a. map (λ x. f a -ℤ g x) m) mb (in-map (λ x. f b -ℤ g x) my)) in
     let (c, mc, rc) = of-each l (λ a. map (λ x. f a -ℤ g x) m) (least-of values (in-each (λ a. map (λ x. f a -ℤ g x) m) ma (in-map (λ x. f a -ℤ g x) mx))) in
     let (z, mz, r) = of-map (λ x. f c -ℤ g x) m rc in
-    omega (zarith, fore, r, e, q, -at (f b) (g y), -at (f c) (g z), -at (least (map f l)) (greatest (map g m)), least-le (map f l) (in-map f mc), greatest-ge (map g m) (in-map g mz))
+    omega (
+      zarith,
+      fore,
+      r,
+      e,
+      q,
+      -at (f b) (g y),
+      -at (f c) (g z),
+      -at (least (map f l)) (greatest (map g m)),
+      least-le (map f l) (in-map f mc),
+      greatest-ge (map g m) (in-map g mz),
+    )
 
 -- d(b,x) − d(a,b) less d(y,x) − d(a,y)
 same-value : (d : Similarity) (a b x y : ℕ) → nearness d a x b -ℤ nearness d a x y ≡ d a y +ℤ d b x -ℤ d a b -ℤ d y x
@@ -55,7 +66,8 @@ module _ (n : ℕ) (s : Similarity) (A : ℕ) (p : Proper n A) where
       let (a, ma) = a-member p in
       let (x, mx) = an-other p in
       let values : ℕ → List ℤ = λ a. each (members n A) λ b. map (λ x. s a b -ℤ s a x) (others n A) in
-      ap least (map-cong (λ a. margin n (s a) A) (λ a. least (values a)) (members n A) (λ a _. sym (least-difference (members n A) (others n A) (s a) (s a) ma mx)))
+      ap least (map-cong (λ a. margin n (s a) A) (λ a. least (values a))
+      (members n A) (λ a _. sym (least-difference (members n A) (others n A) (s a) (s a) ma mx)))
       ∙ least-each (members n A) values (λ b _. (s b a -ℤ s b x, in-each (λ c. map (λ x. s b c -ℤ s b x) (others n A)) ma (in-map (λ x. s b a -ℤ s b x) mx))) ma
 
   -- the values of the separation index in the order of the margins
@@ -100,7 +112,8 @@ module _ (n : ℕ) (s : Similarity) (A : ℕ) (p : Proper n A) where
         in-each (λ c. map (λ w. nearness s b y c -ℤ nearness s b y w) (others n A)) ma (in-map (λ w. nearness s b y a -ℤ nearness s b y w) mx),
       ) in
       ap least (map-cong (separationFrom n s A) (λ b. least (of-entry b)) (members n A) (λ b _.
-      ap least (map-cong (λ y. margin n (nearness s b y) A) (λ y. least (of-pair b y)) (others n A) (λ y _. sym (least-difference (members n A) (others n A) (nearness s b y) (nearness s b y) ma mx)))
+      ap least (map-cong (λ y. margin n (nearness s b y) A) (λ y. least (of-pair b y)) (others n A)
+      (λ y _. sym (least-difference (members n A) (others n A) (nearness s b y) (nearness s b y) ma mx)))
       ∙ least-each (others n A) (of-pair b) (λ y _. some b y) mx))
       ∙ least-each (members n A) of-entry (λ b _. (some b x .0, in-each (of-pair b) mx (some b x .1))) ma
       ∙ reordered

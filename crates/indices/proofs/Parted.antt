@@ -37,18 +37,22 @@ unfolding up dn
 far-within = within (omega arith) (omega arith)
 
 -- both tables filled from the front
-pub part-more : {numbers inside outside inside′ outside′ : List ℤ} {A k : ℕ} {x z : ℤ} {b : Bool} → Parted k numbers A inside outside → has A k ≡ b → k < length inside → k < length outside
+pub part-more : {numbers inside outside inside′ outside′ : List ℤ} {A k : ℕ} {x z : ℤ} {b : Bool}
+    → Parted k numbers A inside outside → has A k ≡ b → k < length inside → k < length outside
     → inside′ ≡ set inside k x → outside′ ≡ set outside k z → x ≡ cond b (number numbers k) (negℤ (pos (2 ^ 30))) → z ≡ cond b (pos (2 ^ 30)) (number numbers k)
     → Parted (k + 1) numbers A inside′ outside′
 part-more {numbers} {inside} {outside} {A} {k} {x} {z} p t h m r s e q = subst₂ (λ (i o : List ℤ). Parted (k + 1) numbers A i o) (sym r) (sym s) (record {
   long = (omega (arith, length-set inside k x), omega (arith, length-set outside k z));
-  members = place-more (pos 0) (λ y. cond (has A y) (number numbers y) (negℤ (pos (2 ^ 30)))) inside (p .members) h (e ∙ ap (λ (b : Bool). cond b (number numbers k) (negℤ (pos (2 ^ 30)))) (sym t));
-  others = place-more (pos 0) (λ y. cond (has A y) (pos (2 ^ 30)) (number numbers y)) outside (p .others) m (q ∙ ap (λ (b : Bool). cond b (pos (2 ^ 30)) (number numbers k)) (sym t));
+  members = place-more (pos 0) (λ y. cond (has A y) (number numbers y) (negℤ (pos (2 ^ 30)))) inside
+      (p .members) h (e ∙ ap (λ (b : Bool). cond b (number numbers k) (negℤ (pos (2 ^ 30)))) (sym t));
+  others = place-more (pos 0) (λ y. cond (has A y) (pos (2 ^ 30)) (number numbers y)) outside (p .others) m
+      (q ∙ ap (λ (b : Bool). cond b (pos (2 ^ 30)) (number numbers k)) (sym t));
 })
 
 -- f on one side of A, and on the other side no less than any f, or no greater
 module _ {n A : ℕ} (p : Proper n A) (f h : ℕ → ℤ) where
-  least-inside : ((y : ℕ) → y < n → A ∋ y → h y ≡ f y) → ((a y : ℕ) → a < n → y < n → A ∌ y → f a ≤ℤ h y) → least (map h (below n)) ≡ least (map f (members n A))
+  least-inside : ((y : ℕ) → y < n → A ∋ y → h y ≡ f y) → ((a y : ℕ) → a < n → y < n → A ∌ y → f a ≤ℤ h y)
+      → least (map h (below n)) ≡ least (map f (members n A))
   least-inside same beyond =
       let (a, ma) = a-member p in
       let (b, mb, e) = of-map f (members n A) (least-of (map f (members n A)) (in-map f ma)) in
@@ -60,7 +64,8 @@ module _ {n A : ℕ} (p : Proper n A) (f h : ℕ → ℤ) where
       (λ k. omega (zarith, fore, same b hb kb, e, q, beyond b c hb (below-lt n mc) k))
       (in-or-out A c)
 
-  greatest-outside : ((y : ℕ) → y < n → A ∌ y → h y ≡ f y) → ((a y : ℕ) → a < n → y < n → A ∋ y → h y ≤ℤ f a) → greatest (map h (below n)) ≡ greatest (map f (others n A))
+  greatest-outside : ((y : ℕ) → y < n → A ∌ y → h y ≡ f y) → ((a y : ℕ) → a < n → y < n → A ∋ y → h y ≤ℤ f a)
+      → greatest (map h (below n)) ≡ greatest (map f (others n A))
   greatest-outside same beyond =
       let (a, ma) = an-other p in
       let (b, mb, e) = of-map f (others n A) (greatest-of (map f (others n A)) (in-map f ma)) in
@@ -75,12 +80,16 @@ module _ {n A : ℕ} (p : Proper n A) (f h : ℕ → ℤ) where
 module _ {n A : ℕ} (p : Proper n A) {numbers inside outside : List ℤ} (t : Parted n numbers A inside outside) {f : ℕ → ℤ}
     (b : (y : ℕ) → Within (2 ^ 22) (f y)) (c : Numbers n numbers) where
   at-member : (y : ℕ) → y < n → A ∋ y → (number inside y ≡ number numbers y) × (number outside y ≡ pos (2 ^ 30))
-  at-member y h k = let e = T-true {b = has A y} (yes-has A y k) in
-      (t .members y h ∙ ap (λ (b : Bool). cond b (number numbers y) (negℤ (pos (2 ^ 30)))) e, t .others y h ∙ ap (λ (b : Bool). cond b (pos (2 ^ 30)) (number numbers y)) e)
+  at-member y h k = let e = T-true {b = has A y} (yes-has A y k) in (
+    t .members y h ∙ ap (λ (b : Bool). cond b (number numbers y) (negℤ (pos (2 ^ 30)))) e,
+    t .others y h ∙ ap (λ (b : Bool). cond b (pos (2 ^ 30)) (number numbers y)) e,
+  )
 
   at-other : (y : ℕ) → y < n → A ∌ y → (number inside y ≡ negℤ (pos (2 ^ 30))) × (number outside y ≡ number numbers y)
-  at-other y h k = let e = T-false {b = has A y} (no-has A y k) in
-      (t .members y h ∙ ap (λ (b : Bool). cond b (number numbers y) (negℤ (pos (2 ^ 30)))) e, t .others y h ∙ ap (λ (b : Bool). cond b (pos (2 ^ 30)) (number numbers y)) e)
+  at-other y h k = let e = T-false {b = has A y} (no-has A y k) in (
+    t .members y h ∙ ap (λ (b : Bool). cond b (number numbers y) (negℤ (pos (2 ^ 30)))) e,
+    t .others y h ∙ ap (λ (b : Bool). cond b (pos (2 ^ 30)) (number numbers y)) e,
+  )
 
   far-inside : (a y : ℕ) → a < n → y < n → A ∌ y → (f a -ℤ number numbers a) ≤ℤ (f y -ℤ number inside y)
   unfolding up dn
@@ -101,10 +110,12 @@ module _ {n A : ℕ} (p : Proper n A) {numbers inside outside : List ℤ} (t : P
   parted-tables = (record { long = t .long .0; small = in-small }, record { long = t .long .1; small = out-small })
     where
       in-small : (y : ℕ) → y < n → Within (2 ^ 30) (number inside y)
-      in-small y h = within-equal (t .members y h) (cond-elim (has A y) (number numbers y) (negℤ (pos (2 ^ 30))) (Within (2 ^ 30)) (λ _. within-grow (lit≤ tt) (c y h)) (λ _. within-neg far-within))
+      in-small y h = within-equal (t .members y h)
+          (cond-elim (has A y) (number numbers y) (negℤ (pos (2 ^ 30))) (Within (2 ^ 30)) (λ _. within-grow (lit≤ tt) (c y h)) (λ _. within-neg far-within))
 
       out-small : (y : ℕ) → y < n → Within (2 ^ 30) (number outside y)
-      out-small y h = within-equal (t .others y h) (cond-elim (has A y) (pos (2 ^ 30)) (number numbers y) (Within (2 ^ 30)) (λ _. far-within) (λ _. within-grow (lit≤ tt) (c y h)))
+      out-small y h = within-equal (t .others y h)
+          (cond-elim (has A y) (pos (2 ^ 30)) (number numbers y) (Within (2 ^ 30)) (λ _. far-within) (λ _. within-grow (lit≤ tt) (c y h)))
 
 margin-cong : (n A : ℕ) {f g : ℕ → ℤ} → ((y : ℕ) → y < n → f y ≡ g y) → margin n f A ≡ margin n g A
 unfolding margin
@@ -118,7 +129,8 @@ module _ {n A : ℕ} {l inside outside : List ℤ} (s : Scores n l) (p : Proper 
   pub tables : (numbers : List ℤ) → Numbers n numbers → Parted n numbers A inside outside → Table n inside × Table n outside
   tables _ u t = parted-tables p t (score-within (s .small) 0) u
 
-  spread-margin : (numbers : List ℤ) → Numbers n numbers → Parted n numbers A inside outside → (x : ℕ) → spread n (score l x) inside outside ≡ margin n (λ y. score l x y -ℤ number numbers y) A
+  spread-margin : (numbers : List ℤ) → Numbers n numbers → Parted n numbers A inside outside
+      → (x : ℕ) → spread n (score l x) inside outside ≡ margin n (λ y. score l x y -ℤ number numbers y) A
   spread-margin _ u t x = parted-spread p t (score-within (s .small) x) u
 
   -- a loop over one side has found the least margin
@@ -127,10 +139,12 @@ module _ {n A : ℕ} {l inside outside : List ℤ} (s : Scores n l) (p : Proper 
   unfolding leastMargin
   least-spread t u v e inner r =
       least-side p (λ x. within-equal (spread-margin t u v x) (margin-beyond s p t u x)) e inner r
-      ∙ ap least (map-cong (λ y. spread n (score l y) inside outside) (λ x. margin n (λ y. score l x y -ℤ number t y) A) (keep (λ y. Bool·beq (has A y) inner) (below n)) (λ x _. spread-margin t u v x))
+      ∙ ap least (map-cong (λ y. spread n (score l y) inside outside) (λ x. margin n (λ y. score l x y -ℤ number t y) A)
+      (keep (λ y. Bool·beq (has A y) inner) (below n)) (λ x _. spread-margin t u v x))
 
   -- the scores of a member with the entries outside
-  pub near-most : Parted n (replicate 32 (pos 0)) A inside outside → (a : ℕ) {z : ℤ} → AtMost n (score l a) outside z → (c : ℕ) → c < n → A ∌ c → score l a c ≤ℤ z
+  pub near-most : Parted n (replicate 32 (pos 0)) A inside outside → (a : ℕ) {z : ℤ}
+      → AtMost n (score l a) outside z → (c : ℕ) → c < n → A ∌ c → score l a c ≤ℤ z
   unfolding up dn
   near-most t a v c h k =
       omega (zarith, v c h, -at (score l a c) (number outside c), at-other p t (score-within (s .small) a) (zeros n) c h k .1, getD-default (pos 0) 32 c)
@@ -152,4 +166,5 @@ module _ {n A : ℕ} (l : List ℤ) (p : Proper n A) where
   unfolding leastMargin of-entry separationFrom nearness
   separation-least t a r =
       ap (λ (m : List ℕ). least (map (of-entry t) m)) (side-others n A)
-      ∙ ap least (map-cong (of-entry t) (λ x. margin n (nearness (score l) a x) A) (others n A) λ x _. margin-cong n A (λ y h. ap₂ _-ℤ_ (score-symm l x y) (r y h)))
+      ∙ ap least (map-cong (of-entry t) (λ x. margin n (nearness (score l) a x) A)
+      (others n A) λ x _. margin-cong n A (λ y h. ap₂ _-ℤ_ (score-symm l x y) (r y h)))

@@ -42,10 +42,12 @@ module _ {n : ℕ} {f : ℕ → ℤ} (b : (y : ℕ) → Within (2 ^ 22) (f y)) (
     less-within y h = within-grow (lit≤ tt) (within-difference (b y) (u .small y h))
 
     least-within : Within (2 ^ 31 - 1) (least (map less (below n)))
-    least-within = let (y, m, e) = of-map less (below n) (least-of (map less (below n)) (in-map less (lt-below n 0 some))) in within-equal e (less-within y (below-lt n m))
+    least-within = let (y, m, e) = of-map less (below n) (least-of (map less (below n)) (in-map less (lt-below n 0 some))) in
+        within-equal e (less-within y (below-lt n m))
 
     greatest-within : Within (2 ^ 31 - 1) (greatest (map less (below n)))
-    greatest-within = let (y, m, e) = of-map less (below n) (greatest-of (map less (below n)) (in-map less (lt-below n 0 some))) in within-equal e (less-within y (below-lt n m))
+    greatest-within = let (y, m, e) = of-map less (below n) (greatest-of (map less (below n)) (in-map less (lt-below n 0 some))) in
+        within-equal e (less-within y (below-lt n m))
 
   module _ {inside outside : List ℤ} (ti : Table n inside) (to : Table n outside) {e : Extremes} (s : Seen f inside outside n e) where
     low-is : e .least ≡ least (map (less ti) (below n))

@@ -80,7 +80,8 @@ module _ {n A : ℕ} (p : Proper n A) {f : ℕ → ℤ} (b : (y : ℕ) → Withi
   unfolding members
   least-member r = let (a, m) = a-member p in run-least m (subst (λ (y : ℕ). Run minZ top (has A) f y i) e r) (b a .top)
 
-  pub least-side : (inner : Bool) → Run minZ top (λ y. Bool·beq (has A y) inner) f x i → toZ w64 i ≡ least (map f (keep (λ y. Bool·beq (has A y) inner) (below n)))
+  pub least-side : (inner : Bool) → Run minZ top (λ y. Bool·beq (has A y) inner) f x i
+      → toZ w64 i ≡ least (map f (keep (λ y. Bool·beq (has A y) inner) (below n)))
   least-side inner r = let (y, m) = on-side p inner in run-least m (subst (λ (y : ℕ). Run minZ top (λ y. Bool·beq (has A y) inner) f y i) e r) (b y .top)
 
 -- the values that the loops over a pair list see

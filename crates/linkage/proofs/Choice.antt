@@ -46,9 +46,11 @@ module _ (avg : Bool) (n : ℕ) (s : Similarity) (few : n ≤ 32) {bs : List ℕ
     quotient-link : (a b : ℕ) → a < length bs → b < length bs → a ≢ b → quotientAt w t a b ≡ link (linkageOf avg) n s (getD bs a 0) (getD bs b 0)
     unfolding quotientAt numerators
     quotient-link a b ha hb ne = ap₂ (λ (x : ℤ) (y : ℕ). record { num = x; den = y }) (d .is a b ha hb ne)
-        (ap₂ _*_ (v .is a ha) (v .is b hb) ∙ denominator avg n s (getD bs a 0) (getD bs b 0) few (p .small (getD bs a 0) (getD-in bs a 0 ha)) (p .small (getD bs b 0) (getD-in bs b 0 hb)))
+        (ap₂ _*_ (v .is a ha) (v .is b hb)
+        ∙ denominator avg n s (getD bs a 0) (getD bs b 0) few (p .small (getD bs a 0) (getD-in bs a 0 ha)) (p .small (getD bs b 0) (getD-in bs b 0 hb)))
 
-    pub greatest-link : Symmetric s → {i j : ℕ} → GreatestAt (length bs) (quotientAt w t) i j → Greatest (link (linkageOf avg) n s) bs (getD bs i 0) (getD bs j 0)
+    pub greatest-link : Symmetric s → {i j : ℕ} → GreatestAt (length bs) (quotientAt w t) i j
+        → Greatest (link (linkageOf avg) n s) bs (getD bs i 0) (getD bs j 0)
     greatest-link symm {i} {j} g = record {
       left = getD-in bs i 0 hi;
       right = getD-in bs j 0 (g .inside);
@@ -70,7 +72,8 @@ module _ (avg : Bool) (n : ℕ) (s : Similarity) (few : n ≤ 32) {bs : List ℕ
         flip a b = link-symm n s symm (linkageOf avg) (getD bs a 0) (getD bs b 0)
 
         falling : (a b : ℕ) → b < a → a < length bs → L (getD bs a 0) (getD bs b 0) ≼ L (getD bs i 0) (getD bs j 0)
-        falling a b h k = subst₂ _≼_ (quotient-link a b k (omega arith) (λ r. omega arith)) (quotient-link j i (g .inside) hi (λ r. ne (sym r)) ∙ flip j i) (g .most b a h k)
+        falling a b h k = subst₂ _≼_ (quotient-link a b k (omega arith) (λ r. omega arith))
+            (quotient-link j i (g .inside) hi (λ r. ne (sym r)) ∙ flip j i) (g .most b a h k)
 
         all : (a b : ℕ) → a < length bs → b < length bs → a ≢ b → L (getD bs a 0) (getD bs b 0) ≼ L (getD bs i 0) (getD bs j 0)
         all a b ha hb f = go (decLt b a)
@@ -82,7 +85,11 @@ module _ (avg : Bool) (n : ℕ) (s : Similarity) (few : n ≤ 32) {bs : List ℕ
 -- the single entries have the weight 1
 pub weighed-singles : (avg : Bool) (n : ℕ) → n ≤ 32 → {k : ℕ} → k ≡ n → {bs : List ℕ} → bs ≡ singles n → Weighed avg k bs (replicate 32 1)
 unfolding singles weight
-weighed-singles avg n h e f = record { size = refl; is = λ a l. getD-replicate 32 a 1 0 (omega arith) ∙ sym (ap (weight avg) (ap (λ (l : List ℕ). getD l a 0) f ∙ getD-below (λ i. 2 ^ i) n a 0 (omega arith)) ∙ one a (omega arith) avg) }
+weighed-singles avg n h e f = record {
+  size = refl;
+  is = λ a l. getD-replicate 32 a 1 0 (omega arith)
+      ∙ sym (ap (weight avg) (ap (λ (l : List ℕ). getD l a 0) f ∙ getD-below (λ i. 2 ^ i) n a 0 (omega arith)) ∙ one a (omega arith) avg);
+}
   where
     one : (a : ℕ) → a < 32 → (avg : Bool) → weight avg (2 ^ a) ≡ 1
     one a l true = omega (arith, size-single 32 a, member-size 32 (2 ^ a) l (one-in a))
@@ -92,19 +99,24 @@ weighed-singles avg n h e f = record { size = refl; is = λ a l. getD-replicate 
 pub weighed-merged : {avg : Bool} {k : ℕ} {bs w : List ℕ} → Weighed avg k bs w → length bs ≡ k → k ≤ 32 → (i j : ℕ) → i < j → j < k
     → {m : ℕ} → m ≡ k - 1 → {cs : List ℕ} → cs ≡ mergedAt i j bs → {x : ℕ} → x ≡ weight avg (getD cs i 0)
     → {w′ : List ℕ} → w′ ≡ set (set w i x) j (getD (set w i x) (k - 1) 0) → Weighed avg m cs w′
-weighed-merged {avg} {k} {bs} {w} v counted room i j hi hj m-is {cs} e {x} f g = record { size = ap length g ∙ simp length-set (v .size); is = λ a l. ap (λ (l : List ℕ). getD l a 0) g ∙ at a (omega arith) (ℕ-discrete a j) (ℕ-discrete a i) }
+weighed-merged {avg} {k} {bs} {w} v counted room i j hi hj m-is {cs} e {x} f g = record {
+  size = ap length g ∙ simp length-set (v .size);
+  is = λ a l. ap (λ (l : List ℕ). getD l a 0) g ∙ at a (omega arith) (ℕ-discrete a j) (ℕ-discrete a i);
+}
   where
     y : ℕ
     y = getD (set w i x) (k - 1) 0
 
     -- at a stands the block that stood at p
     moved : (a p : ℕ) → p < k → p ≢ i → getD (mergedAt i j bs) a 0 ≡ getD (joinedAt i j bs) p 0 → getD (set w i x) p 0 ≡ weight avg (getD cs a 0)
-    moved a p h d m = getD-set-other w i p x 0 d ∙ v .is p h ∙ ap (weight avg) (sym (ap (λ (l : List ℕ). getD l a 0) e ∙ m ∙ joined-other i j bs hi (omega arith) p d))
+    moved a p h d m = getD-set-other w i p x 0 d ∙ v .is p h
+        ∙ ap (weight avg) (sym (ap (λ (l : List ℕ). getD l a 0) e ∙ m ∙ joined-other i j bs hi (omega arith) p d))
 
     last : j < k - 1 → getD (mergedAt i j bs) j 0 ≡ getD (joinedAt i j bs) (k - 1) 0
     last l = let q : length bs - 1 ≡ k - 1 = omega arith in merged-moved i j bs hi (omega arith) (omega arith) ∙ ap (λ (p : ℕ). getD (joinedAt i j bs) p 0) q
 
     at : (a : ℕ) → a < k - 1 → Dec (a ≡ j) → Dec (a ≡ i) → getD (set (set w i x) j y) a 0 ≡ weight avg (getD cs a 0)
-    at a l (yes r) _ = rw r (getD-set-same (set w i x) j y 0 (omega (arith, length-set w i x, v .size)) ∙ moved j (k - 1) (omega arith) (λ q. omega arith) (last (omega arith)))
+    at a l (yes r) _ = rw r
+        (getD-set-same (set w i x) j y 0 (omega (arith, length-set w i x, v .size)) ∙ moved j (k - 1) (omega arith) (λ q. omega arith) (last (omega arith)))
     at a l (no d) (yes r) = getD-set-other (set w i x) j a y 0 d ∙ rw r (getD-set-same w i x 0 (omega (arith, v .size)) ∙ f)
     at a l (no d) (no o) = getD-set-other (set w i x) j a y 0 d ∙ moved a a (omega arith) o (merged-kept i j bs hi (omega arith) a (omega arith) d)

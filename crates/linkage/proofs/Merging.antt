@@ -32,7 +32,15 @@ stores l k i j hi hj hk =
     let ki : i < k = omega arith in
     let kl : k - 1 < k = omega arith in
     let km : k - 1 ≤ k = omega arith in
-    rw (length-take-le k l hk, getD-take k l i 0 ki, getD-take k l j 0 hj, getD-take k l (k - 1) 0 kl, ← take-set-lt k l i _ ki, ← take-set-lt k _ j _ hj, take-take (k - 1) k _ km)
+    rw (
+      length-take-le k l hk,
+      getD-take k l i 0 ki,
+      getD-take k l j 0 hj,
+      getD-take k l (k - 1) 0 kl,
+      ← take-set-lt k l i _ ki,
+      ← take-set-lt k _ j _ hj,
+      take-take (k - 1) k _ km,
+    )
     (rw (getD-set-other l i (k - 1) (getD l i 0 ∪ getD l j 0) 0 (λ e. omega arith)))
 
 -- a sum over a list with one element set anew, and without its last
@@ -43,7 +51,16 @@ sum-set (x ∷ l) zero v f h = omega (zarith, +at (f v) (sumOf l f), +at (f x) (
 sum-set (x ∷ l) (suc i) v f h =
     let s = sumOf (set l i v) f in
     let y = f (getD l i 0) in
-    omega (zarith, sum-set l i v f (omega arith), +at s y, +at (sumOf l f) (f v), +at (f x) s, +at (f x) (sumOf l f), +at (f x +ℤ s) y, +at (f x +ℤ sumOf l f) (f v))
+    omega (
+      zarith,
+      sum-set l i v f (omega arith),
+      +at s y,
+      +at (sumOf l f) (f v),
+      +at (f x) s,
+      +at (f x) (sumOf l f),
+      +at (f x +ℤ s) y,
+      +at (f x +ℤ sumOf l f) (f v),
+    )
 
 sum-front : (l : List ℕ) (k : ℕ) (f : ℕ → ℤ) → length l ≡ suc k → sumOf l f ≡ sumOf (take k l) f +ℤ f (getD l k 0)
 sum-front l k f e =
@@ -64,8 +81,10 @@ module _ (i j : ℕ) (bs : List ℕ) (hi : i < j) (hj : j < length bs) where
   sum-mergedAt f =
       end (f U) (f W) (f X) (f L) (sumOf bs f) (sumOf (set bs i X) f) (sumOf (set (set bs i X) j L) f) (sumOf (take k (set (set bs i X) j L)) f)
       (sum-set bs i X f (omega arith))
-      (ap (λ y. sumOf (set (set bs i X) j L) f +ℤ f y) (sym (getD-set-other bs i j X 0 (λ q. omega arith))) ∙ sum-set (set bs i X) j L f (omega (arith, length-set bs i X)))
-      (sum-front (set (set bs i X) j L) k f (omega (arith, length-set bs i X, length-set (set bs i X) j L)) ∙ ap (λ y. sumOf (take k (set (set bs i X) j L)) f +ℤ f y) (last-stays k X (omega arith)))
+      (ap (λ y. sumOf (set (set bs i X) j L) f +ℤ f y) (sym (getD-set-other bs i j X 0 (λ q. omega arith)))
+      ∙ sum-set (set bs i X) j L f (omega (arith, length-set bs i X)))
+      (sum-front (set (set bs i X) j L) k f (omega (arith, length-set bs i X, length-set (set bs i X) j L))
+      ∙ ap (λ y. sumOf (take k (set (set bs i X) j L)) f +ℤ f y) (last-stays k X (omega arith)))
     where
       k : ℕ
       k = length bs - 1
@@ -94,5 +113,6 @@ module _ (i j : ℕ) (bs : List ℕ) (hi : i < j) (hj : j < length bs) where
       W : ℕ
       W = getD bs j 0
 
-      end : (f : ℕ → ℤ) → sumOf (mergedAt i j bs) f +ℤ (f U +ℤ f W) ≡ f (U ∪ W) +ℤ sumOf bs f → sumOf (merged U W bs) f +ℤ (f U +ℤ f W) ≡ f (U ∪ W) +ℤ sumOf bs f → sumOf (mergedAt i j bs) f ≡ sumOf (merged U W bs) f
+      end : (f : ℕ → ℤ) → sumOf (mergedAt i j bs) f +ℤ (f U +ℤ f W) ≡ f (U ∪ W) +ℤ sumOf bs f
+          → sumOf (merged U W bs) f +ℤ (f U +ℤ f W) ≡ f (U ∪ W) +ℤ sumOf bs f → sumOf (mergedAt i j bs) f ≡ sumOf (merged U W bs) f
       end f p q = omega (zarith, p, q, +at (sumOf (mergedAt i j bs) f) (f U +ℤ f W), +at (sumOf (merged U W bs) f) (f U +ℤ f W))

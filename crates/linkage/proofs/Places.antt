@@ -35,7 +35,8 @@ unfolding sumOf up dn
 two-places [] f n a b h k = absurd (omega arith)
 two-places (x ∷ l) f n a zero h k = absurd (omega arith)
 two-places (x ∷ l) f n zero (suc b) h k = omega (zarith, one-place l f n b (omega arith), +at (f x) (sumOf l f), +at (f x) (f (getD l b 0)))
-two-places (x ∷ l) f n (suc a) (suc b) h k = omega (zarith, two-places l f n a b (omega arith) (omega arith), n x, +at (f x) (sumOf l f), +at (f (getD l a 0)) (f (getD l b 0)))
+two-places (x ∷ l) f n (suc a) (suc b) h k =
+    omega (zarith, two-places l f n a b (omega arith) (omega arith), n x, +at (f x) (sumOf l f), +at (f (getD l a 0)) (f (getD l b 0)))
 
 module _ {n : ℕ} {bs : List ℕ} (p : Partition n bs) where
   -- blocks at two places differ, and share no entry
@@ -76,7 +77,8 @@ module _ (i j : ℕ) (bs : List ℕ) (hi : i < j) (hj : j < length bs) where
   -- and after the merge the last block stands at j
   pub length-mergedAt : length (mergedAt i j bs) ≡ length bs - 1
   unfolding mergedAt
-  length-mergedAt = length-take (length bs - 1) (set (joinedAt i j bs) j (last bs)) ∙ omega (arith, length-set (joinedAt i j bs) j (last bs), length-set bs i (getD bs i 0 ∪ getD bs j 0))
+  length-mergedAt = length-take (length bs - 1) (set (joinedAt i j bs) j (last bs))
+      ∙ omega (arith, length-set (joinedAt i j bs) j (last bs), length-set bs i (getD bs i 0 ∪ getD bs j 0))
 
   pub merged-moved : j < length bs - 1 → getD (mergedAt i j bs) j 0 ≡ getD (joinedAt i j bs) (length bs - 1) 0
   unfolding mergedAt

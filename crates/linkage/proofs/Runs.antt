@@ -51,21 +51,26 @@ unfolding mergedBlocks
 slot-next ms k U W lent out e h w =
     ap (λ (l : List ℕ). set l k (U ∪ W)) (w ∙ ap (λ (l : List ℕ). mergedBlocks ms ++ l) (drop-cons lent k 0 h))
     ∙ set-at (mergedBlocks ms) (getD lent k 0) (drop (suc k) lent) (U ∪ W) k (length-map ms (λ m. m .0 ∪ m .1) ∙ e)
-    ∙ sym (ap (λ (l : List ℕ). l ++ drop (k + 1) lent) (map-append (λ m. m .0 ∪ m .1) ms ((U, W) ∷ [])) ∙ append-assoc (mergedBlocks ms) ((U ∪ W) ∷ []) (drop (k + 1) lent)
+    ∙ sym (ap (λ (l : List ℕ). l ++ drop (k + 1) lent) (map-append (λ m. m .0 ∪ m .1) ms ((U, W) ∷ []))
+    ∙ append-assoc (mergedBlocks ms) ((U ∪ W) ∷ []) (drop (k + 1) lent)
     ∙ ap (λ (m : ℕ). mergedBlocks ms ++ (U ∪ W) ∷ drop m lent) (add-one k))
 
-module _ (avg : Bool) (n : ℕ) (s : Similarity) (symm : Symmetric s) {lent : List ℕ} {k : ℕ} {bs : List ℕ} {t : List ℤ} {out : List ℕ} (r : Run avg n s lent k bs t out) where
+module _ (avg : Bool) (n : ℕ) (s : Similarity)
+    (symm : Symmetric s) {lent : List ℕ} {k : ℕ} {bs : List ℕ} {t : List ℤ} {out : List ℕ} (r : Run avg n s lent k bs t out) where
   -- the merge of the blocks at i and j
-  merge-next : length bs ≤ 32 → Small (length bs) t → (i j : ℕ) → i < j → j < length bs → k < length lent → Greatest (link (linkageOf avg) n s) bs (getD bs i 0) (getD bs j 0)
+  merge-next : length bs ≤ 32 → Small (length bs) t → (i j : ℕ)
+      → i < j → j < length bs → k < length lent → Greatest (link (linkageOf avg) n s) bs (getD bs i 0) (getD bs j 0)
       → {t₁ t₂ : List ℤ} → Written i (joinedRow avg i j t) (length bs) t t₁ → Written j (entry t₁ (length bs - 1)) (length bs - 1) t₁ t₂
       → Run avg n s lent (k + 1) (mergedAt i j bs) t₂ (set out k (getD bs i 0 ∪ getD bs j 0))
   merge-next short small i j hi hj room g {t₂} w v = record {
     partition = same-partition (same-symm same) (partition-merged U W bs n (r .partition) (g .left) (g .right) (g .apart));
-    table = subst (λ (m : ℕ). Holds m (numerators avg n s (mergedAt i j bs)) t₂) (sym (length-mergedAt i j bs hi hj)) (holds-merged avg n s symm (r .partition) short i j hi hj (r .table) w v);
+    table = subst (λ (m : ℕ). Holds m (numerators avg n s (mergedAt i j bs)) t₂)
+        (sym (length-mergedAt i j bs hi hj)) (holds-merged avg n s symm (r .partition) short i j hi hj (r .table) w v);
     own = subst (λ (m : ℕ). Own (k + 1) m t₂) (sym (length-mergedAt i j bs hi hj)) (own-merged avg i j hi hj short small (r .own) w v);
     merges = r .merges ++ ((U, W) ∷ []);
     count = length-append (r .merges) ((U, W) ∷ []) ∙ omega (arith, r .count);
-    further = λ ms m. subst (Merges L (singles n)) (sym (append-assoc (r .merges) ((U, W) ∷ []) ms)) (r .further ((U, W) ∷ ms) (g, same-merges L (mergedAt i j bs) (merged U W bs) ms same m));
+    further = λ ms m. subst (Merges L (singles n)) (sym (append-assoc (r .merges) ((U, W) ∷ []) ms))
+        (r .further ((U, W) ∷ ms) (g, same-merges L (mergedAt i j bs) (merged U W bs) ms same m));
     written = slot-next (r .merges) k U W lent out (r .count) room (r .written);
   }
     where
@@ -92,17 +97,21 @@ module _ (avg : Bool) (n : ℕ) (s : Similarity) (symm : Symmetric s) {lent : Li
     pub run-next : (w : List ℕ) → Weighed avg c bs w → {i j : ℕ} → GreatestAt c (quotientAt w t) i j → c ≤ 32 → Small c t → k < length lent
         → {t₁ t₂ : List ℤ} → Written i (joinedRow avg i j t) c t t₁ → Written j (entry t₁ (c - 1)) (c - 1) t₁ t₂
         → {cs : List ℕ} → cs ≡ mergedAt i j bs → {x : ℕ} → x ≡ getD cs i 0 → Run avg n s lent (k + 1) cs t₂ (set out k x)
-    run-next w v {i} {j} g short small room {t₁} {t₂} joins moves {cs} e {x} f = go (back (λ m. Weighed avg m bs w) v) (back (λ m. GreatestAt m (quotientAt w t) i j) g)
+    run-next w v {i} {j} g short small room {t₁} {t₂} joins moves {cs} e {x} f =
+        go (back (λ m. Weighed avg m bs w) v) (back (λ m. GreatestAt m (quotientAt w t) i j) g)
       where
         back : (P : ℕ → Type 0) → P c → P (length bs)
         back P = subst P (sym counted)
 
         go : Weighed avg (length bs) bs w → GreatestAt (length bs) (quotientAt w t) i j → Run avg n s lent (k + 1) cs t₂ (set out k x)
-        go v g = subst₂ (λ (l : List ℕ) (y : ℕ). Run avg n s lent (k + 1) l t₂ (set out k y)) (sym e) (sym (f ∙ ap (λ (l : List ℕ). getD l i 0) e ∙ merged-joined i j bs (g .rising) (g .inside)))
-            (merge-next (omega arith) (back (λ m. Small m t) small) i j (g .rising) (g .inside) room (greatest-link avg n s few (r .partition) w v (r .table) symm g)
+        go v g = subst₂ (λ (l : List ℕ) (y : ℕ). Run avg n s lent (k + 1) l t₂ (set out k y))
+            (sym e) (sym (f ∙ ap (λ (l : List ℕ). getD l i 0) e ∙ merged-joined i j bs (g .rising) (g .inside)))
+            (merge-next (omega arith) (back (λ m. Small m t) small) i j (g .rising)
+            (g .inside) room (greatest-link avg n s few (r .partition) w v (r .table) symm g)
             (back (λ m. Written i (joinedRow avg i j t) m t t₁) joins) (back (λ m. Written j (entry t₁ (m - 1)) (m - 1) t₁ t₂) moves))
 
-pub run-end : (avg : Bool) (n : ℕ) (l : List ℤ) {lent : List ℕ} {k : ℕ} {bs : List ℕ} {t : List ℤ} {out : List ℕ} → Run avg n (score l) lent k bs t out → length bs ≡ 1 → k ≡ n - 1 → Merged (linkageOf avg) n l lent out
+pub run-end : (avg : Bool) (n : ℕ) (l : List ℤ) {lent : List ℕ} {k : ℕ} {bs : List ℕ} {t : List ℤ} {out : List ℕ}
+    → Run avg n (score l) lent k bs t out → length bs ≡ 1 → k ≡ n - 1 → Merged (linkageOf avg) n l lent out
 run-end avg n l {lent} r one e = record {
   merges = r .merges;
   tree = subst (Merges (link (linkageOf avg) n (score l)) (singles n)) (append-nil (r .merges)) (r .further [] one);

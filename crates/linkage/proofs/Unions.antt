@@ -37,7 +37,8 @@ unfolding members
 sum-members n A f = sum-keep (has A) (below n) f
 
 has-single : (a i : ℕ) → has (2 ^ a) i ≡ eqb i a
-has-single a i = T-same (has (2 ^ a) i) (eqb i a) (λ t. eqb-yes i a (one-only a (has-yes (2 ^ a) i t))) (λ t. yes-has (2 ^ a) i (subst (λ (j : ℕ). (2 ^ a) ∋ j) (sym (eqb→eq i a t)) (one-in a)))
+has-single a i = T-same (has (2 ^ a) i) (eqb i a) (λ t. eqb-yes i a (one-only a (has-yes (2 ^ a) i t)))
+    (λ t. yes-has (2 ^ a) i (subst (λ (j : ℕ). (2 ^ a) ∋ j) (sym (eqb→eq i a t)) (one-in a)))
 
 sum-single : (n a : ℕ) → a < n → (f : ℕ → ℤ) → sumOf (members n (2 ^ a)) f ≡ f a
 sum-single n a h f =
@@ -50,7 +51,8 @@ pub link-single : (avg : Bool) (n : ℕ) (s : Similarity) (a b : ℕ) → a < n 
 unfolding link linkageOf
 link-single true n s a b ha hb = sum-between n s (2 ^ a) (2 ^ b) ∙ sum-single n a ha (λ u. sumOf (members n (2 ^ b)) (s u)) ∙ sum-single n b hb (s a)
 link-single false n s a b ha hb =
-    let (u, w, _, _, ku, kw, e) = of-between n s (2 ^ a) (2 ^ b) (greatest-of (between n s (2 ^ a) (2 ^ b)) (in-between n s (2 ^ a) (2 ^ b) ha hb (one-in a) (one-in b))) in
+    let (u, w, _, _, ku, kw, e) = of-between n s (2 ^ a) (2 ^ b)
+    (greatest-of (between n s (2 ^ a) (2 ^ b)) (in-between n s (2 ^ a) (2 ^ b) ha hb (one-in a) (one-in b))) in
     e ∙ ap₂ s (one-only a ku) (one-only b kw)
 
 module _ (n A B : ℕ) (apart : (i : ℕ) → i < n → A ∋ i → B ∌ i) where
@@ -83,7 +85,8 @@ module _ (n A B : ℕ) (apart : (i : ℕ) → i < n → A ∋ i → B ∌ i) whe
   sum-union : (f : ℕ → ℤ) → sumOf (members n (A ∪ B)) f ≡ sumOf (members n A) f +ℤ sumOf (members n B) f
   sum-union f =
       sum-members n (A ∪ B) f
-      ∙ sum-cong (below n) (λ i. cond (has (A ∪ B) i) (f i) (pos 0)) (λ i. cond (has A i) (f i) (pos 0) +ℤ cond (has B i) (f i) (pos 0)) (λ i m. part i (f i) (below-lt n m))
+      ∙ sum-cong (below n) (λ i. cond (has (A ∪ B) i) (f i) (pos 0))
+      (λ i. cond (has A i) (f i) (pos 0) +ℤ cond (has B i) (f i) (pos 0)) (λ i m. part i (f i) (below-lt n m))
       ∙ sum-add (below n) (λ i. cond (has A i) (f i) (pos 0)) (λ i. cond (has B i) (f i) (pos 0))
       ∙ sym (ap₂ _+ℤ_ (sum-members n A f) (sum-members n B f))
 
@@ -95,7 +98,8 @@ greatest-union n s A B W (a, ha, ka) (b, hb, kb) (w, hw, kw) =
     let (p, q, hp, hq, kp, kq, g) = of-between n s B W (greatest-of (between n s B W) (in-between n s B W hb hw kb kw)) in
     let l = greatest-ge (between n s (A ∪ B) W) (in-between n s (A ∪ B) W hx hy (∪-left A B kx) ky) in
     let m = greatest-ge (between n s (A ∪ B) W) (in-between n s (A ∪ B) W hp hq (∪-right A B kp) kq) in
-    let most : maxZ (greatest (between n s A W)) (greatest (between n s B W)) ≤ℤ greatest (between n s (A ∪ B) W) = either (max-is (greatest (between n s A W)) (greatest (between n s B W))) (omega zarith) (omega zarith) in
+    let most : maxZ (greatest (between n s A W)) (greatest (between n s B W)) ≤ℤ greatest (between n s (A ∪ B) W) = either
+    (max-is (greatest (between n s A W)) (greatest (between n s B W))) (omega zarith) (omega zarith) in
     let least : greatest (between n s (A ∪ B) W) ≤ℤ maxZ (greatest (between n s A W)) (greatest (between n s B W)) = low u v hu hv kv e (∪-cases A B ku) in
     omega zarith
   where
@@ -105,7 +109,8 @@ greatest-union n s A B W (a, ha, ka) (b, hb, kb) (w, hw, kw) =
     H : ℤ
     H = greatest (between n s B W)
 
-    either : (maxZ G H ≡ G) ⊎ (maxZ G H ≡ H) → G ≤ℤ greatest (between n s (A ∪ B) W) → H ≤ℤ greatest (between n s (A ∪ B) W) → maxZ G H ≤ℤ greatest (between n s (A ∪ B) W)
+    either : (maxZ G H ≡ G) ⊎ (maxZ G H ≡ H) → G ≤ℤ greatest (between n s (A ∪ B) W)
+        → H ≤ℤ greatest (between n s (A ∪ B) W) → maxZ G H ≤ℤ greatest (between n s (A ∪ B) W)
     either (inl e) h k = omega zarith
     either (inr e) h k = omega zarith
 
@@ -136,7 +141,8 @@ link-within true n s U W h k _ _ =
     let hw : size n W ≤ 32 = omega (arith, size-le n W) in
     let one : 2 ^ 22 ≤ 2 ^ 22 = lit≤ tt in
     rw sum-between (within-grow (omega (arith, mul-le-mul hu (mul-le-mul hw one)))
-    (within-sumOf (members n U) (λ u. sumOf (members n W) (s u)) (λ u m. within-sumOf (members n W) (s u) (λ w l. k u w (of-members n U m .0) (of-members n W l .0)))))
+    (within-sumOf (members n U) (λ u. sumOf (members n W) (s u))
+    (λ u m. within-sumOf (members n W) (s u) (λ w l. k u w (of-members n U m .0) (of-members n W l .0)))))
 link-within false n s U W h k (u, hu, ku) (w, hw, kw) =
     let (a, b, ha, hb, _, _, e) = of-between n s U W (greatest-of (between n s U W) (in-between n s U W hu hw ku kw)) in
     rw e (within-grow (lit≤ tt) (k a b ha hb))

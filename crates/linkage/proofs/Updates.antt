@@ -27,21 +27,29 @@ pub record Own (k c : ℕ) (t : List ℤ) : Type 0 where
 
 pub own-start : (n : ℕ) {t : List ℤ} → n ≤ 32 → OwnKept (replicate 1024 (pos 0)) t → Own 0 n t
 unfolding up dn
-own-start n h o = record { own = λ a l. rw (o .own a (omega arith), getD-replicate 1024 (a * 32 + a) (pos 0) (pos 0) (omega arith)) (within (omega arith) (omega arith)) }
+own-start n h o = record {
+  own = λ a l. rw (o .own a (omega arith), getD-replicate 1024 (a * 32 + a) (pos 0) (pos 0) (omega arith)) (within (omega arith) (omega arith));
+}
 
 joined-within : (avg : Bool) {m : ℕ} {x y : ℤ} → Within m x → Within (2 ^ 35) y → Within (m + 2 ^ 35) (joined avg x y)
 unfolding joined
 joined-within true h l = within-sum h l
 joined-within false h l = within-max (within-grow (omega arith) h) (within-grow (omega arith) l)
 
-pub own-merged : (avg : Bool) (i j : ℕ) {k c : ℕ} → i < j → j < c → c ≤ 32 → {t t₁ t₂ : List ℤ} → Small c t → Own k c t → Written i (joinedRow avg i j t) c t t₁ → Written j (entry t₁ (c - 1)) (c - 1) t₁ t₂ → Own (k + 1) (c - 1) t₂
+pub own-merged : (avg : Bool) (i j : ℕ) {k c : ℕ} → i < j → j < c → c ≤ 32 → {t t₁ t₂ : List ℤ} → Small c t → Own k c t
+    → Written i (joinedRow avg i j t) c t t₁ → Written j (entry t₁ (c - 1)) (c - 1) t₁ t₂ → Own (k + 1) (c - 1) t₂
 unfolding joinedRow
 own-merged avg i j {k} {c} hi hj hc {t} {t₁} {t₂} s o w v = record { own = λ a h. at a h (ℕ-discrete a j) (ℕ-discrete a i) }
   where
     at : (a : ℕ) → a < c - 1 → Dec (a ≡ j) → Dec (a ≡ i) → Within ((k + 1) * 2 ^ 35) (entry t₂ a a)
-    at a h (yes e) _ = rw (e, v .row j (omega arith), w .rest (c - 1) j (omega arith) (omega arith) (λ r. omega arith) (λ r. omega arith)) (within-grow (omega arith) (s .within (c - 1) j (omega arith) hj (λ r. omega arith)))
-    at a h (no d) (yes e) = rw (e, v .rest i i (omega arith) (omega arith) (λ r. omega arith) (λ r. omega arith), w .row i (omega arith)) (within-grow (omega arith) (joined-within avg (o .own i (omega arith)) (s .within j i hj (omega arith) (λ r. omega arith))))
-    at a h (no d) (no f) = rw (v .rest a a (omega arith) (omega arith) (λ r. absurd (d r)) (λ r. absurd (d r)), w .rest a a (omega arith) (omega arith) (λ r. absurd (f r)) (λ r. absurd (f r))) (within-grow (omega arith) (o .own a (omega arith)))
+    at a h (yes e) _ = rw (e, v .row j (omega arith), w .rest (c - 1) j (omega arith) (omega arith) (λ r. omega arith) (λ r. omega arith))
+        (within-grow (omega arith) (s .within (c - 1) j (omega arith) hj (λ r. omega arith)))
+    at a h (no d) (yes e) = rw (e, v .rest i i (omega arith) (omega arith) (λ r. omega arith) (λ r. omega arith), w .row i (omega arith))
+        (within-grow (omega arith) (joined-within avg (o .own i (omega arith)) (s .within j i hj (omega arith) (λ r. omega arith))))
+    at a h (no d) (no f) = rw (
+      v .rest a a (omega arith) (omega arith) (λ r. absurd (d r)) (λ r. absurd (d r)),
+      w .rest a a (omega arith) (omega arith) (λ r. absurd (f r)) (λ r. absurd (f r)),
+    ) (within-grow (omega arith) (o .own a (omega arith)))
 
 -- the numerators of the links of the blocks at two places
 unfoldable pub numerators : Bool → ℕ → Similarity → List ℕ → ℕ → ℕ → ℤ
@@ -52,7 +60,8 @@ pub holds-singles : (avg : Bool) (n : ℕ) (s : Similarity) {t : List ℤ} → H
 unfolding numerators singles
 holds-singles avg n s h = record {
   size = h .size;
-  is = λ a b ha hb d. h .is a b ha hb d ∙ sym (ap₂ (λ U W. link (linkageOf avg) n s U W .num) (getD-below (λ i. 2 ^ i) n a 0 ha) (getD-below (λ i. 2 ^ i) n b 0 hb) ∙ link-single avg n s a b ha hb);
+  is = λ a b ha hb d. h .is a b ha hb d ∙ sym
+      (ap₂ (λ U W. link (linkageOf avg) n s U W .num) (getD-below (λ i. 2 ^ i) n a 0 ha) (getD-below (λ i. 2 ^ i) n b 0 hb) ∙ link-single avg n s a b ha hb);
 }
 
 module _ (avg : Bool) (n : ℕ) (s : Similarity) {bs : List ℕ} (p : Partition n bs) {t : List ℤ} (h : Holds (length bs) (numerators avg n s bs) t) where
@@ -71,11 +80,13 @@ module _ (avg : Bool) (n : ℕ) (s : Similarity) (symm : Symmetric s) where
 
   module _ {bs : List ℕ} (p : Partition n bs) (short : length bs ≤ 32) (i j : ℕ) (hi : i < j) (hj : j < length bs) where
     -- the links of the union
-    union-row : {t : List ℤ} → Holds (length bs) (numerators avg n s bs) t → (q : ℕ) → q < length bs → q ≢ i → q ≢ j → joinedRow avg i j t q ≡ numerators avg n s (joinedAt i j bs) i q
+    union-row : {t : List ℤ} → Holds (length bs) (numerators avg n s bs) t
+        → (q : ℕ) → q < length bs → q ≢ i → q ≢ j → joinedRow avg i j t q ≡ numerators avg n s (joinedAt i j bs) i q
     unfolding numerators joinedRow
     union-row h q hq d f =
         ap₂ (joined avg) (h .is i q (omega arith) hq (λ r. d (sym r))) (h .is j q hj hq (λ r. f (sym r)))
-        ∙ sym (link-union avg n s (getD bs i 0) (getD bs j 0) (getD bs q 0) (places-apart p i j (omega arith) hj (λ r. omega arith)) (some-at p i (omega arith)) (some-at p j hj) (some-at p q hq))
+        ∙ sym (link-union avg n s (getD bs i 0) (getD bs j 0) (getD bs q 0)
+        (places-apart p i j (omega arith) hj (λ r. omega arith)) (some-at p i (omega arith)) (some-at p j hj) (some-at p q hq))
         ∙ sym (ap₂ (λ U W. link (linkageOf avg) n s U W .num) (joined-here i j bs hi hj) (joined-other i j bs hi hj q d))
 
     other-pair : (a b : ℕ) → a ≢ i → b ≢ i → numerators avg n s bs a b ≡ numerators avg n s (joinedAt i j bs) a b
@@ -92,11 +103,13 @@ module _ (avg : Bool) (n : ℕ) (s : Similarity) (symm : Symmetric s) where
               let f : b ≢ i = λ r. d (e ∙ sym r) in
               ap (λ (x : ℕ). entry t₁ x b) e ∙ w .row b hb ∙ union-row h b hb f db ∙ ap (λ (x : ℕ). numerators avg n s (joinedAt i j bs) x b) (sym e)
           go (no f) (yes e) =
-              ap (λ (x : ℕ). entry t₁ a x) e ∙ w .column a ha ∙ union-row h a ha f da ∙ numerators-symm (joinedAt i j bs) i a ∙ ap (numerators avg n s (joinedAt i j bs) a) (sym e)
+              ap (λ (x : ℕ). entry t₁ a x) e ∙ w .column a ha ∙ union-row h a ha f da
+              ∙ numerators-symm (joinedAt i j bs) i a ∙ ap (numerators avg n s (joinedAt i j bs) a) (sym e)
           go (no f) (no g) = w .rest a b (omega arith) (omega arith) (λ r. absurd (f r)) (λ r. absurd (g r)) ∙ h .is a b ha hb d ∙ other-pair a b f g
 
       -- once those of the last block are written at j, all are
-      pub holds-merged : {t₂ : List ℤ} → Written j (entry t₁ (length bs - 1)) (length bs - 1) t₁ t₂ → Holds (length bs - 1) (numerators avg n s (mergedAt i j bs)) t₂
+      pub holds-merged : {t₂ : List ℤ} → Written j (entry t₁ (length bs - 1)) (length bs - 1) t₁ t₂
+          → Holds (length bs - 1) (numerators avg n s (mergedAt i j bs)) t₂
       unfolding numerators
       holds-merged {t₂} v = record { size = v .size; is = λ a b ha hb d. go a b ha hb d (ℕ-discrete a j) (ℕ-discrete b j) }
         where
@@ -110,10 +123,12 @@ module _ (avg : Bool) (n : ℕ) (s : Similarity) (symm : Symmetric s) where
           go a b ha hb d (yes e) _ =
               let f : b ≢ j = λ r. d (e ∙ sym r) in
               ap (λ (x : ℕ). entry t₂ x b) e ∙ v .row b hb ∙ joined-links k b (omega arith) (omega arith) (λ r. omega arith) (λ r. omega arith) f
-              ∙ sym (ap₂ num (merged-moved i j bs hi hj (omega arith)) (merged-kept i j bs hi hj b hb f)) ∙ ap (λ (x : ℕ). numerators avg n s (mergedAt i j bs) x b) (sym e)
+              ∙ sym (ap₂ num (merged-moved i j bs hi hj (omega arith)) (merged-kept i j bs hi hj b hb f))
+              ∙ ap (λ (x : ℕ). numerators avg n s (mergedAt i j bs) x b) (sym e)
           go a b ha hb d (no f) (yes e) =
               ap (λ (x : ℕ). entry t₂ a x) e ∙ v .column a ha ∙ joined-links k a (omega arith) (omega arith) (λ r. omega arith) (λ r. omega arith) f
-              ∙ sym (ap₂ num (merged-moved i j bs hi hj (omega arith)) (merged-kept i j bs hi hj a ha f)) ∙ numerators-symm (mergedAt i j bs) j a ∙ ap (numerators avg n s (mergedAt i j bs) a) (sym e)
+              ∙ sym (ap₂ num (merged-moved i j bs hi hj (omega arith)) (merged-kept i j bs hi hj a ha f))
+              ∙ numerators-symm (mergedAt i j bs) j a ∙ ap (numerators avg n s (mergedAt i j bs) a) (sym e)
           go a b ha hb d (no f) (no g) =
               v .rest a b (omega arith) (omega arith) (λ r. absurd (f r)) (λ r. absurd (g r)) ∙ joined-links a b (omega arith) (omega arith) d f g
               ∙ sym (ap₂ num (merged-kept i j bs hi hj a ha f) (merged-kept i j bs hi hj b hb g))

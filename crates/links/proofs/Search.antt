@@ -30,14 +30,16 @@ pub small-first : {k n : ℕ} {t : List ℤ} → k ≤ n → Small n t → Small
 small-first h s = record { size = s .size; within = λ a b ha hb d. s .within a b (omega arith) (omega arith) d; own = λ a ha. s .own a (omega arith) }
 
 -- the first two places
-pub found-first : (w : List ℕ) (t : List ℤ) {z : ℤ} {d : ℕ} → z ≡ entry t 1 0 → d ≡ getD w 1 0 * getD w 0 0 → FoundBefore w t (2 * 32) record { i = 0; j = 1; num = z; den = d }
+pub found-first : (w : List ℕ) (t : List ℤ) {z : ℤ} {d : ℕ} → z ≡ entry t 1 0
+    → d ≡ getD w 1 0 * getD w 0 0 → FoundBefore w t (2 * 32) record { i = 0; j = 1; num = z; den = d }
 found-first w t e h = record { rising = omega arith; inside = omega arith; num-is = e; den-is = h; most = only }
   where
     only : (p q : ℕ) → p < q → q * 32 + p < 2 * 32 → quotientAt w t q p ≼ quotientAt w t 1 0
     only p q l m =
         let p-is : 0 ≡ p = omega arith in
         let q-is : 1 ≡ q = omega arith in
-        subst (λ (x : ℕ). quotientAt w t q x ≼ quotientAt w t 1 0) p-is (subst (λ (x : ℕ). quotientAt w t x 0 ≼ quotientAt w t 1 0) q-is (≼-refl (quotientAt w t 1 0)))
+        subst (λ (x : ℕ). quotientAt w t q x ≼ quotientAt w t 1 0) p-is
+        (subst (λ (x : ℕ). quotientAt w t x 0 ≼ quotientAt w t 1 0) q-is (≼-refl (quotientAt w t 1 0)))
 
 module _ {w : List ℕ} {t : List ℤ} {m : ℕ} {f : Found} (g : FoundBefore w t m f) where
   -- what is computed of it stays far below what 64 bits hold
@@ -55,7 +57,13 @@ module _ {w : List ℕ} {t : List ℤ} {m : ℕ} {f : Found} (g : FoundBefore w 
 
   -- no two places stand between the two places of the table
   pub found-same : {n : ℕ} → m ≤ n → ((p q : ℕ) → p < q → q * 32 + p < n → q * 32 + p < m) → FoundBefore w t n f
-  found-same l h = record { rising = g .rising; inside = omega (arith, g .inside); num-is = g .num-is; den-is = g .den-is; most = λ p q r o. g .most p q r (h p q r o) }
+  found-same l h = record {
+    rising = g .rising;
+    inside = omega (arith, g .inside);
+    num-is = g .num-is;
+    den-is = g .den-is;
+    most = λ p q r o. g .most p q r (h p q r o);
+  }
 
   pub found-all : {k : ℕ} → k ≤ 32 → m ≡ k * 32 → GreatestAt k (quotientAt w t) (f .i) (f .j)
   found-all h e = record { rising = g .rising; inside = omega (arith, g .inside); most = λ p q r l. g .most p q r (omega arith) }
@@ -93,14 +101,16 @@ module _ {w : List ℕ} {t : List ℤ} {f : Found} (i j : ℕ) (hi : i < j) (hj 
       most = next (f .i) (f .j) (g .most) (subst₂ _≤ℤ_ left-is right-is (leZ-true e));
     }
 
-    pub found-new : 0 < f .den → leZ x y ≡ false → {z : ℤ} → z ≡ entry t j i → {d : ℕ} → d ≡ getD w j 0 * getD w i 0 → FoundBefore w t (j * 32 + (i + 1)) record { i = i; j = j; num = z; den = d }
+    pub found-new : 0 < f .den → leZ x y ≡ false → {z : ℤ} → z ≡ entry t j i → {d : ℕ}
+        → d ≡ getD w j 0 * getD w i 0 → FoundBefore w t (j * 32 + (i + 1)) record { i = i; j = j; num = z; den = d }
     unfolding quotientAt _≼_
     found-new h e n o = record {
       rising = hi;
       inside = omega arith;
       num-is = n;
       den-is = o;
-      most = next i j (λ p q l m. ≼-trans (quotientAt w t q p) (quotientAt w t (f .j) (f .i)) (quotientAt w t j i) (rw (← g .den-is) h) (g .most p q l m) (subst₂ _≤ℤ_ right-is left-is below)) (≼-refl (quotientAt w t j i));
+      most = next i j (λ p q l m. ≼-trans (quotientAt w t q p) (quotientAt w t (f .j) (f .i)) (quotientAt w t j i)
+          (rw (← g .den-is) h) (g .most p q l m) (subst₂ _≤ℤ_ right-is left-is below)) (≼-refl (quotientAt w t j i));
     }
       where
         below : y ≤ℤ x

@@ -78,5 +78,6 @@ blocks-written {kind} {n} {l} {mid} all rest post e m =
     record {
       merges = ms;
       tree = m .tree;
-      are = rw (front, m .written, append-assoc, ← append-assoc (singles n) (mergedBlocks ms) (drop (n - 1) mid ++ post)) (take-at (singles n ++ mergedBlocks ms) (drop (n - 1) mid ++ post) (n + (n - 1)) count);
+      are = rw (front, m .written, append-assoc, ← append-assoc (singles n) (mergedBlocks ms) (drop (n - 1) mid ++ post))
+          (take-at (singles n ++ mergedBlocks ms) (drop (n - 1) mid ++ post) (n + (n - 1)) count);
     }

@@ -32,7 +32,8 @@ module _ (n : ℕ) (s t : Similarity) (same : (a b : ℕ) → a < n → b < n �
   tree-cong linkage ms = subst (λ (f : ℕ → ℕ → Quotient). Merges f (singles n) ms) (fun-ext (λ U. fun-ext (link-cong linkage U)))
 
 -- the anchored scores in a pair list
-pub anchored-tree : (n x : ℕ) (l : List ℤ) (linkage : Linkage) (ms : List (ℕ × ℕ)) → Tree linkage n (score (anchoredScores n x l)) ms → Tree linkage n (farris (score l) x) ms
+pub anchored-tree : (n x : ℕ) (l : List ℤ) (linkage : Linkage) (ms : List (ℕ × ℕ))
+    → Tree linkage n (score (anchoredScores n x l)) ms → Tree linkage n (farris (score l) x) ms
 anchored-tree n x l = tree-cong n (score (anchoredScores n x l)) (farris (score l) x) (score-anchored n x l)
 
 -- every block is a set of the n entries

@@ -19,7 +19,8 @@ sum-requires : tie.Need-sum-requires
 sum-requires c κs = let u = c .before .listed-score in let v = c .listed-score2 in (addend (u .ok) (u .ensures .1), addend (v .ok) (v .ensures .1))
 
 listed-score-requires-3 : tie.Need-listed-score-requires-3
-listed-score-requires-3 c κs = let s = c .before .before .before in score-asks {n = s .args .n} (s .args .pairs .now) (s .pre .0) (s .pre .2) (omega arith) (omega arith)
+listed-score-requires-3 c κs = let s = c .before .before .before in
+    score-asks {n = s .args .n} (s .args .pairs .now) (s .pre .0) (s .pre .2) (omega arith) (omega arith)
 
 difference-requires : tie.Need-difference-requires
 difference-requires c κs = let m = c .before in let u = m .before .before .listed-score in let v = m .before .listed-score2 in let w = c .listed-score3 in

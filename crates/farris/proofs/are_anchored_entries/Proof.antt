@@ -34,7 +34,10 @@ loop-less : tie.Need-loop-less Inv-loop μ-loop
 loop-less c = search needs
 
 loop-again : tie.Need-loop-again Inv-loop μ-loop
-loop-again c = (omega arith, next-below (c .before .before .before .loop .inv .1) (omega arith) (sym (c .before .is-anchored-entry .ensures) ∙ not-false _ (c .if1 .left)))
+loop-again c = (
+  omega arith,
+  next-below (c .before .before .before .loop .inv .1) (omega arith) (sym (c .before .is-anchored-entry .ensures) ∙ not-false _ (c .if1 .left)),
+)
 
 returns-2 : tie.Need-returns-2 Inv-loop μ-loop
 returns-2 c = ended-below (c .before .loop .inv .1) (omega arith)

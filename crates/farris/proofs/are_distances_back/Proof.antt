@@ -35,7 +35,10 @@ loop-less : tie.Need-loop-less Inv-loop μ-loop
 loop-less c = search needs
 
 loop-again : tie.Need-loop-again Inv-loop μ-loop
-loop-again c = (omega arith, next-below (c .before .before .before .loop .inv .1) (omega arith) (sym (c .before .is-row-back .ensures) ∙ not-false _ (c .if1 .left)))
+loop-again c = (
+  omega arith,
+  next-below (c .before .before .before .loop .inv .1) (omega arith) (sym (c .before .is-row-back .ensures) ∙ not-false _ (c .if1 .left)),
+)
 
 returns-2 : tie.Need-returns-2 Inv-loop μ-loop
 returns-2 c = let a = c .before .before .args in ended-below (c .before .loop .inv .1) (omega arith) ∙ back-test (a .n) (a .scores .now)

@@ -21,14 +21,18 @@ sum-requires : tie.Need-sum-requires
 sum-requires c κs = let u = c .before .listed-score in let v = c .listed-score2 in (addend (u .ok) (u .ensures .1), addend (v .ok) (v .ensures .1))
 
 listed-score-requires-3 : tie.Need-listed-score-requires-3
-listed-score-requires-3 c κs = let s = c .before .before .before in score-asks {n = s .args .n} (s .args .scores .now) (s .pre .0) (s .pre .1) (omega arith) (omega arith)
+listed-score-requires-3 c κs = let s = c .before .before .before in
+    score-asks {n = s .args .n} (s .args .scores .now) (s .pre .0) (s .pre .1) (omega arith) (omega arith)
 
 sum-requires-2 : tie.Need-sum-requires-2
 sum-requires-2 c κs = let w = c .listed-score3 in (addend (w .ok) (w .ensures .1), addend (w .ok) (w .ensures .1))
 
 difference-requires : tie.Need-difference-requires
-difference-requires c κs = let w = c .before .listed-score3 in let m = c .before .before in let v = m .before .listed-score2 in let u = m .before .before .listed-score in
-    (addends (u .ok) (v .ok) (m .sum .ok) (m .sum .ensures) (u .ensures .1) (v .ensures .1), addends (w .ok) (w .ok) (c .sum2 .ok) (c .sum2 .ensures) (w .ensures .1) (w .ensures .1))
+difference-requires c κs = let w = c .before .listed-score3 in
+    let m = c .before .before in let v = m .before .listed-score2 in let u = m .before .before .listed-score in (
+      addends (u .ok) (v .ok) (m .sum .ok) (m .sum .ensures) (u .ensures .1) (v .ensures .1),
+      addends (w .ok) (w .ok) (c .sum2 .ok) (c .sum2 .ensures) (w .ensures .1) (w .ensures .1),
+    )
 
 half-requires : tie.Need-half-requires
 half-requires c κs = search needs

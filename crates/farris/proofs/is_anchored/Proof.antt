@@ -13,7 +13,8 @@ are-distances-back-requires c κs = search needs
 
 returns : tie.Need-returns
 returns c = let a = c .before .before .before .args in
-    and-second (c .before .before .are-anchored-entries .ensures) (c .before .if1 .taken) (c .are-distances-back .ensures) ∙ anchored-parts (a .n) (a .x) (a .scores .now)
+    and-second (c .before .before .are-anchored-entries .ensures) (c .before .if1 .taken) (c .are-distances-back .ensures)
+    ∙ anchored-parts (a .n) (a .x) (a .scores .now)
 
 returns-2 : tie.Need-returns-2
 returns-2 c = let a = c .before .before .args in

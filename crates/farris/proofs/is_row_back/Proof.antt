@@ -44,8 +44,11 @@ loop-less c = search needs
 
 loop-again : tie.Need-loop-again Inv-loop μ-loop
 loop-again c = let v = c .before .before .distance-back in
-    let s = c .before .before .before .before .loop .inv .2 in
-    (omega arith, refl, next-below s (omega arith) (sym (rw (passed w64 (v .ok) (v .ensures)) at (c .before .is-distance .ensures)) ∙ not-false _ (c .if1 .left)))
+    let s = c .before .before .before .before .loop .inv .2 in (
+      omega arith,
+      refl,
+      next-below s (omega arith) (sym (rw (passed w64 (v .ok) (v .ensures)) at (c .before .is-distance .ensures)) ∙ not-false _ (c .if1 .left)),
+    )
 
 returns-2 : tie.Need-returns-2 Inv-loop μ-loop
 returns-2 c = ended-below (c .before .loop .inv .2) (omega arith)

@@ -55,8 +55,13 @@ loop-again : tie.Need-loop-again Inv-loop μ-loop
 unfolding score
 loop-again c = let s = c .before .before in
     let l = s .loop in
-    let g = s .before .before in
-    (omega arith, l .inv .1, l .inv .2, seen-more (l .inv .3) (ap (number (g .args .pairs .now)) (at-row (g .args .x) (l .y) _ (omega arith) (l .inv .2))) (c .with-value .ensures .0) (c .with-value .ensures .1))
+    let g = s .before .before in (
+      omega arith,
+      l .inv .1,
+      l .inv .2,
+      seen-more (l .inv .3) (ap (number (g .args .pairs .now)) (at-row (g .args .x) (l .y) _ (omega arith) (l .inv .2)))
+          (c .with-value .ensures .0) (c .with-value .ensures .1),
+    )
 
 returns : tie.Need-returns Inv-loop μ-loop
 returns c = let s = c .before in

@@ -20,7 +20,8 @@ place-of-requires : tie.Need-place-of-requires Inv-loop μ-loop
 place-of-requires c κs = (omega (arith, c .pre .0 .few), omega (arith, c .pre .0 .few))
 
 small : (c : tie.After-place-of Inv-loop μ-loop) → c .place-of .result < 528
-small c = let g = c .before in omega (arith, place-few {a = g .args .x} {b = g .args .x} (omega (arith, g .pre .0 .few)) (omega (arith, g .pre .0 .few)), c .place-of .ensures)
+small c = let g = c .before in
+    omega (arith, place-few {a = g .args .x} {b = g .args .x} (omega (arith, g .pre .0 .few)) (omega (arith, g .pre .0 .few)), c .place-of .ensures)
 
 add-at : tie.Need-add-at Inv-loop μ-loop
 add-at c = omega (arith, small c, c .before .pre .0 .few)
@@ -32,7 +33,12 @@ add-y : tie.Need-add-y Inv-loop μ-loop
 add-y c = omega (arith, c .before .pre .0 .few)
 
 loop-holds : tie.Need-loop-holds Inv-loop μ-loop
-loop-holds c = let g = c .before in (omega arith, omega arith, omega (arith, c .place-of .ensures, next-column (g .args .x) (g .args .x) (omega arith)), g .pre .4)
+loop-holds c = let g = c .before in (
+  omega arith,
+  omega arith,
+  omega (arith, c .place-of .ensures, next-column (g .args .x) (g .args .x) (omega arith)),
+  g .pre .4,
+)
 
 with-value-requires : tie.Need-with-value-requires Inv-loop μ-loop
 with-value-requires c κs = let g = c .before .before .before in

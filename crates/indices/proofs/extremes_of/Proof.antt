@@ -4,8 +4,13 @@ use Rattle.indices.proofs.extremes_of.Statement.{statement}
 use Rattle.indices.proofs.extremes_of.Tie as tie
 
 along-row-requires : tie.Need-along-row-requires
-along-row-requires c κs = let (few, _, low) = score-asked (c .pre .0) (c .pre .1) (c .pre .1) in
-    (few, low, c .pre .0 .small, record { long = omega (arith, c .pre .2 .long); small = λ z h. c .pre .2 .small z (omega arith) }, record { long = omega (arith, c .pre .3 .long); small = λ z h. c .pre .3 .small z (omega arith) })
+along-row-requires c κs = let (few, _, low) = score-asked (c .pre .0) (c .pre .1) (c .pre .1) in (
+  few,
+  low,
+  c .pre .0 .small,
+  record { long = omega (arith, c .pre .2 .long); small = λ z h. c .pre .2 .small z (omega arith) },
+  record { long = omega (arith, c .pre .3 .long); small = λ z h. c .pre .3 .small z (omega arith) },
+)
 
 down-column-requires : tie.Need-down-column-requires
 down-column-requires c κs = let g = c .before .pre in (g .0, g .1, g .2, g .3, c .along-row .ensures)

@@ -14,7 +14,11 @@ extremes-of-requires c κs = search needs
 returns : tie.Need-returns
 returns c = let d = c .before in
     let g = d .before in
-    λ y h. omega (zarith, toZ-ofZ {w = w32} {z = d .extremes-of .result .greatest} (sfits-of (c .struct-told .given .1 .0 .1)), seen-greatest (score-within (g .pre .0 .small) (g .args .x)) (omega arith) (g .pre .2) (g .pre .3) (d .extremes-of .ensures) y h)
+    λ y h. omega (
+      zarith,
+      toZ-ofZ {w = w32} {z = d .extremes-of .result .greatest} (sfits-of (c .struct-told .given .1 .0 .1)),
+      seen-greatest (score-within (g .pre .0 .small) (g .args .x)) (omega arith) (g .pre .2) (g .pre .3) (d .extremes-of .ensures) y h,
+    )
 
 pub greatest-of-spec : {M : Type 1} → statement M
 greatest-of-spec = tie.close (tie.spec extremes-of-requires returns)

@@ -31,7 +31,13 @@ keep-pair-requires c κs = let t = c .before in
     let r = s .loop .inv .1 in
     let (scores, low, few, rise) = g .pre .0 in
     let (long, near, member) = g .pre .1 in (
-      (scores, low, omega arith, omega (arith, r .long), kept-sorted r (sorted-outside (g .args .n) (score (g .args .pairs .now)) (g .args .set) (g .args .k) (g .args .a)) rise),
+      (
+        scores,
+        low,
+        omega arith,
+        omega (arith, r .long),
+        kept-sorted r (sorted-outside (g .args .n) (score (g .args .pairs .now)) (g .args .set) (g .args .k) (g .args .a)) rise,
+      ),
       (long, near, member, has-yes (g .args .set) (s .loop .b) (true-T (sym (t .before .has .ensures) ∙ t .if1 .taken))),
     )
 

@@ -21,7 +21,8 @@ use Rattle.indices.proofs.keep_outside.Statement.{statement}
 use Rattle.indices.proofs.keep_outside.Tie as tie
 
 abbrev Inv-loop : tie.InvT-loop
-Inv-loop kept₀ k n pairs set a b own of-a₀ of-b₀ c₀ kept of-a of-b c = (c ≤ n) × (of-a ≡ place a c) × (of-b ≡ place b c) × Kept (λ l c. keepSmallest k l (weight (score pairs) a b c)) (λ c. not (has set c)) k kept₀ c kept
+Inv-loop kept₀ k n pairs set a b own of-a₀ of-b₀ c₀ kept of-a of-b c = (c ≤ n) × (of-a ≡ place a c)
+    × (of-b ≡ place b c) × Kept (λ l c. keepSmallest k l (weight (score pairs) a b c)) (λ c. not (has set c)) k kept₀ c kept
 
 abbrev μ-loop : tie.MeasureT-loop
 μ-loop kept₀ k n pairs set a b own of-a₀ of-b₀ c₀ kept of-a of-b c = n - c
@@ -42,8 +43,12 @@ has-requires : tie.Need-has-requires Inv-loop μ-loop
 has-requires c κs = search needs
 
 -- the pairs of a and c and of b and c
-asked : (c : tie.In-loop Inv-loop μ-loop) → let a = c .before .before .before .before .before .args in (place (a .a) (c .before .loop .c) < length (a .pairs .now)) × (place (a .b) (c .before .loop .c) < length (a .pairs .now))
-asked c = let g = c .before .before .before .before .before in (score-asked (g .pre .0) {a = g .args .a} {b = c .before .loop .c} (omega arith) (omega arith) .2, score-asked (g .pre .0) {a = g .args .b} {b = c .before .loop .c} (omega arith) (omega arith) .2)
+asked : (c : tie.In-loop Inv-loop μ-loop) → let a = c .before .before .before .before .before .args in
+    (place (a .a) (c .before .loop .c) < length (a .pairs .now)) × (place (a .b) (c .before .loop .c) < length (a .pairs .now))
+asked c = let g = c .before .before .before .before .before in (
+  score-asked (g .pre .0) {a = g .args .a} {b = c .before .loop .c} (omega arith) (omega arith) .2,
+  score-asked (g .pre .0) {a = g .args .b} {b = c .before .loop .c} (omega arith) (omega arith) .2,
+)
 
 value-requires : tie.Need-value-requires Inv-loop μ-loop
 value-requires c κs = let (p, q) = asked (c .before .before) in omega (arith, p, q)
@@ -68,8 +73,10 @@ difference-requires c κs = let m = c .before in
 keep-smallest-requires : tie.Need-keep-smallest-requires Inv-loop μ-loop
 keep-smallest-requires c κs = let s = c .before .before .before .before .before .before .before .before in
     let g = s .before .before .before .before in
-    let r = s .loop .inv .3 in
-    (omega (arith, g .pre .3, r .long), kept-sorted r (sorted-triple (g .args .n) (score (g .args .pairs .now)) (g .args .set) (g .args .k) (g .args .a) (g .args .b)) (g .pre .4))
+    let r = s .loop .inv .3 in (
+      omega (arith, g .pre .3, r .long),
+      kept-sorted r (sorted-triple (g .args .n) (score (g .args .pairs .now)) (g .args .set) (g .args .k) (g .args .a) (g .args .b)) (g .pre .4),
+    )
 
 next-place-requires : tie.Need-next-place-requires Inv-loop μ-loop
 next-place-requires c κs = let s = c .before .before .before in
@@ -104,7 +111,8 @@ loop-again c = let j = c .before .before in
       next-b,
       kept-yes (l .inv .3) (sym t ∙ w .0 .taken) (w .8) (w .6 .kept .0)
           (w .6 .ensures ∙ ap (keepSmallest _ _) (passed w64 (w .5 .ok) (w .5 .ensures ∙ ap₂ _-ℤ_ (passed w64 (own .ok) (own .ensures))
-          (passed w64 (w .3 .ok) (w .3 .ensures ∙ ap₂ maxZ (passed w64 (w .1 .ok) (w .1 .ensures ∙ ap at (l .inv .1))) (passed w64 (w .2 .ok) (w .2 .ensures ∙ ap at (l .inv .2)))))))),
+          (passed w64 (w .3 .ok) (w .3 .ensures
+          ∙ ap₂ maxZ (passed w64 (w .1 .ok) (w .1 .ensures ∙ ap at (l .inv .1))) (passed w64 (w .2 .ok) (w .2 .ensures ∙ ap at (l .inv .2)))))))),
     ))
     (λ w. (omega arith, next-a, next-b, kept-no (l .inv .3) (sym t ∙ w .0 .left) (w .1)))
     (j .if1 .came)

@@ -39,7 +39,8 @@ returns c = let m = c .before in
     let (_, near, ma, mb) = g .pre .1 in
     let last = getD-take (x .k) (x .kept .now) (x .k - 1) (pos 0) (omega arith) ∙ sym (toZ-ofZ (sfits-of (v .before .at-most-arg .given))) in
     let least = passed w64 (v .least-weight .ok) (v .least-weight .ensures) in
-    sym (pair-still (x .n) (score (x .pairs .now)) (x .set) (take (x .k) (x .kept .now)) (x .near .now) near ha hb ma mb rise (length-take-le (x .k) (x .kept .now) (omega arith)) (omega arith)
+    sym (pair-still (x .n) (score (x .pairs .now)) (x .set) (take (x .k) (x .kept .now))
+    (x .near .now) near ha hb ma mb rise (length-take-le (x .k) (x .kept .now) (omega arith)) (omega arith)
     (leZ-true (ap₂ leZ last (sym least) ∙ sym (m .at-most .ensures) ∙ c .if2 .taken)))
 
 keep-outside-requires : tie.Need-keep-outside-requires

@@ -17,7 +17,8 @@ use Rattle.indices.proofs.least_margin.Statement.{statement}
 use Rattle.indices.proofs.least_margin.Tie as tie
 
 abbrev Inv-loop : tie.InvT-loop
-Inv-loop n pairs set inner inside outside least₀ x₀ least x = (x ≤ n) × Run minZ top (λ x. Bool·beq (has set x) inner) (λ x. spread n (score pairs x) inside outside) x least
+Inv-loop n pairs set inner inside outside least₀ x₀ least x = (x ≤ n)
+    × Run minZ top (λ x. Bool·beq (has set x) inner) (λ x. spread n (score pairs x) inside outside) x least
 
 abbrev μ-loop : tie.MeasureT-loop
 μ-loop n pairs set inner inside outside least₀ x₀ least x = n - x

@@ -36,7 +36,8 @@ score-requires : tie.Need-score-requires
 score-requires c κs = let g = c .before .before .before .before .pre in score-asked (g .0) (g .1) (g .2)
 
 -- the larger of the two that are read
-other-is : (c : tie.After-wide) → let a = c .before .before .before .before .args in toZ w64 (ofZ w64 (c .wide .result)) ≡ maxZ (number (a .near .now) (a .a)) (number (a .near .now) (a .b))
+other-is : (c : tie.After-wide) → let a = c .before .before .before .before .args in
+    toZ w64 (ofZ w64 (c .wide .result)) ≡ maxZ (number (a .near .now) (a .a)) (number (a .near .now) (a .b))
 other-is c = let m = c .before in
     passed w64 (c .wide .ok) (c .wide .ensures ∙ passed w32 (m .larger-i32 .ok) (m .larger-i32 .ensures
     ∙ ap₂ maxZ (toZ-ofZ (sfits-of (m .before .before .larger-i32-arg .given))) (toZ-ofZ (sfits-of (m .before .larger-i32-arg2 .given)))))
@@ -45,7 +46,8 @@ difference-requires : tie.Need-difference-requires
 difference-requires c κs = let m = c .before .before in
     let g = m .before .before .before in (
       within-equal (passed w64 (c .score .ok) (c .score .ensures)) (score-safe (g .pre .0) _ _),
-      within-equal (other-is (c .before)) (within-grow (lit≤ tt) (within-max (fits-within w32 (sfits-of (m .before .before .larger-i32-arg .given))) (fits-within w32 (sfits-of (m .before .larger-i32-arg2 .given))))),
+      within-equal (other-is (c .before)) (within-grow (lit≤ tt) (within-max
+          (fits-within w32 (sfits-of (m .before .before .larger-i32-arg .given))) (fits-within w32 (sfits-of (m .before .larger-i32-arg2 .given))))),
     )
 
 returns : tie.Need-returns

@@ -22,7 +22,12 @@ abbrev μ-loop : tie.MeasureT-loop
 
 -- src/lib.rt:47:5
 loop-holds : tie.Need-loop-holds Inv-loop μ-loop
-loop-holds c = (omega arith, refl, refl, record { long = (omega arith, omega arith); members = λ y h. absurd (omega arith); others = λ y h. absurd (omega arith) })
+loop-holds c = (
+  omega arith,
+  refl,
+  refl,
+  record { long = (omega arith, omega arith); members = λ y h. absurd (omega arith); others = λ y h. absurd (omega arith) },
+)
 
 -- src/lib.rt:48:12
 has-requires : tie.Need-has-requires Inv-loop μ-loop
@@ -111,7 +116,11 @@ loop-again c = let s = c .before .before .before in
 -- src/lib.rt:41:1
 returns : tie.Need-returns Inv-loop μ-loop
 returns c = let l = c .before .loop in
-    record { long = (omega (arith, l .inv .1, c .before .before .pre), omega (arith, l .inv .2, c .before .before .pre)); members = λ y h. l .inv .3 .members y (omega arith); others = λ y h. l .inv .3 .others y (omega arith) }
+    record {
+      long = (omega (arith, l .inv .1, c .before .before .pre), omega (arith, l .inv .2, c .before .before .pre));
+      members = λ y h. l .inv .3 .members y (omega arith);
+      others = λ y h. l .inv .3 .others y (omega arith);
+    }
 
 pub part-spec : {M : Type 1} → statement M
 part-spec =

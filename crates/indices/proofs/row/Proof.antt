@@ -62,7 +62,8 @@ loop-again c = let s = c .before .before .before in
       omega arith,
       c .next-place .ensures,
       length-set (l .found) (l .y) _ ∙ l .inv .2,
-      place-more (pos 0) (score (a .pairs .now) (a .a)) (l .found) (l .inv .3) (omega (arith, l .inv .2, s .before .before .pre .0 .few)) (toZ-ofZ (sfits-of (c .before .found .given)) ∙ ap (number (a .pairs .now)) (l .inv .1)),
+      place-more (pos 0) (score (a .pairs .now) (a .a)) (l .found) (l .inv .3) (omega (arith, l .inv .2, s .before .before .pre .0 .few))
+          (toZ-ofZ (sfits-of (c .before .found .given)) ∙ ap (number (a .pairs .now)) (l .inv .1)),
     )
 
 returns : tie.Need-returns Inv-loop μ-loop

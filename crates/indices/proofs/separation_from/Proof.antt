@@ -18,7 +18,8 @@ least-margin-requires c κs = let g = c .before in
 returns : tie.Need-returns
 returns c = let r = c .before in
     let g = r .before in
-    passed w64 (c .least-margin .ok) (c .least-margin .ensures ∙ separation-least (g .args .pairs .now) (g .pre .1) (r .row .result) (g .args .a) (r .row .ensures))
+    passed w64 (c .least-margin .ok)
+    (c .least-margin .ensures ∙ separation-least (g .args .pairs .now) (g .pre .1) (r .row .result) (g .args .a) (r .row .ensures))
 
 pub separation-from-spec : {M : Type 1} → statement M
 separation-from-spec = tie.close (tie.spec row-requires least-margin-requires returns)

@@ -43,7 +43,10 @@ loop-again : tie.Need-loop-again Inv-loop μ-loop
 loop-again c = let s = c .before .before .before in
     let t = c .before .has .ensures in
     ⊎-elim
-    (λ w. (omega arith, run-yes (s .loop .inv .1) (sym t ∙ w .0 .taken) (w .3) (w .2 .ok) (w .2 .ensures ∙ ap (minZ _) (passed w64 (w .1 .ok) (w .1 .ensures)))))
+    (λ w. (
+      omega arith,
+      run-yes (s .loop .inv .1) (sym t ∙ w .0 .taken) (w .3) (w .2 .ok) (w .2 .ensures ∙ ap (minZ _) (passed w64 (w .1 .ok) (w .1 .ensures))),
+    ))
     (λ w. (omega arith, run-no (s .loop .inv .1) (sym t ∙ w .0 .left) (w .1)))
     (c .if1 .came)
 

@@ -21,7 +21,8 @@ wide-requires c κs = search needs
 wide-requires-2 : tie.Need-wide-requires-2
 wide-requires-2 c κs = search needs
 
-widened : (c : tie.After-wide2) → let e = c .before .before .before .before .extremes-of .result in (toZ w64 (ofZ w64 (c .before .before .wide .result)) ≡ e .least) × (toZ w64 (ofZ w64 (c .wide2 .result)) ≡ e .greatest)
+widened : (c : tie.After-wide2) → let e = c .before .before .before .before .extremes-of .result in
+    (toZ w64 (ofZ w64 (c .before .before .wide .result)) ≡ e .least) × (toZ w64 (ofZ w64 (c .wide2 .result)) ≡ e .greatest)
 widened c = let w = c .before .before in (
   passed w64 (w .wide .ok) (w .wide .ensures ∙ toZ-ofZ (sfits-of (w .before .struct-told .given .0 .1))),
   passed w64 (c .wide2 .ok) (c .wide2 .ensures ∙ toZ-ofZ (sfits-of (c .before .struct-told2 .given .1 .0 .1))),

@@ -13,13 +13,16 @@ use Rattle.indices.proofs.with_value.Statement.{statement}
 use Rattle.indices.proofs.with_value.Tie as tie
 
 -- what is read from the pair list and from the two tables
-value-told : (c : tie.After-value) → toZ w32 (ofZ w32 (number (c .before .args .pairs .now) (c .before .args .at))) ≡ number (c .before .args .pairs .now) (c .before .args .at)
+value-told : (c : tie.After-value)
+    → toZ w32 (ofZ w32 (number (c .before .args .pairs .now) (c .before .args .at))) ≡ number (c .before .args .pairs .now) (c .before .args .at)
 value-told c = toZ-ofZ (sfits-of (c .value .given))
 
-inside-told : (c : tie.After-difference-i32-arg) → let a = c .before .before .args in toZ w32 (ofZ w32 (number (a .inside .now) (a .y))) ≡ number (a .inside .now) (a .y)
+inside-told : (c : tie.After-difference-i32-arg) → let a = c .before .before .args in
+    toZ w32 (ofZ w32 (number (a .inside .now) (a .y))) ≡ number (a .inside .now) (a .y)
 inside-told c = toZ-ofZ (sfits-of (c .difference-i32-arg .given))
 
-outside-told : (c : tie.After-difference-i32-arg2) → let a = c .before .before .before .before .before .before .args in toZ w32 (ofZ w32 (number (a .outside .now) (a .y))) ≡ number (a .outside .now) (a .y)
+outside-told : (c : tie.After-difference-i32-arg2) → let a = c .before .before .before .before .before .before .args in
+    toZ w32 (ofZ w32 (number (a .outside .now) (a .y))) ≡ number (a .outside .now) (a .y)
 outside-told c = toZ-ofZ (sfits-of (c .difference-i32-arg2 .given))
 
 mul-value : tie.Need-mul-value
@@ -35,8 +38,10 @@ shared-slice-copy-out-difference-i32 : tie.Need-shared-slice-copy-out-difference
 shared-slice-copy-out-difference-i32 c = omega (arith, c .before .pre .2 .long)
 
 difference-i32-requires : tie.Need-difference-i32-requires
-difference-i32-requires c κs = let g = c .before .before in
-    (within-equal (value-told (c .before)) (value-within _ (g .args .at) (g .pre .0)), within-equal (inside-told c) (g .pre .2 .small (g .args .y) (omega arith)))
+difference-i32-requires c κs = let g = c .before .before in (
+  within-equal (value-told (c .before)) (value-within _ (g .args .at) (g .pre .0)),
+  within-equal (inside-told c) (g .pre .2 .small (g .args .y) (omega arith)),
+)
 
 smaller-i32-requires : tie.Need-smaller-i32-requires
 smaller-i32-requires c κs = search needs

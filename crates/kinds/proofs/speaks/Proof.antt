@@ -38,7 +38,8 @@ returns-2 c = rw (c .before .enum-told2 .given .1) (c .has-size2 .ensures)
 
 returns-3 : tie.Need-returns-3
 unfolding speaksOf kindFor
-returns-3 c = rw (c .before .before .before .enum-told3 .given .1) (and-second (c .before .before .has-size3 .ensures) (c .before .if1 .taken) (ap not (c .has .ensures)))
+returns-3 c = rw (c .before .before .before .enum-told3 .given .1)
+    (and-second (c .before .before .has-size3 .ensures) (c .before .if1 .taken) (ap not (c .has .ensures)))
 
 returns-4 : tie.Need-returns-4
 unfolding speaksOf kindFor

@@ -18,7 +18,9 @@ use Rattle.linkage.proofs.merge_all.Statement.{statement}
 use Rattle.linkage.proofs.merge_all.Tie as tie
 
 abbrev Inv-loop : tie.InvT-loop
-Inv-loop average n pairs out₀ blocks₀ weights₀ table₀ k₀ out blocks weights table k = (k + blocks .count ≡ n) × (1 ≤ blocks .count) × (length (blocksOf blocks) ≡ blocks .count) × (length out ≡ length out₀) × Weighed average (blocks .count) (blocksOf blocks) weights × Run average n (score pairs) out₀ k (blocksOf blocks) table out
+Inv-loop average n pairs out₀ blocks₀ weights₀ table₀ k₀ out blocks weights table k = (k + blocks .count ≡ n)
+    × (1 ≤ blocks .count) × (length (blocksOf blocks) ≡ blocks .count) × (length out ≡ length out₀)
+    × Weighed average (blocks .count) (blocksOf blocks) weights × Run average n (score pairs) out₀ k (blocksOf blocks) table out
 
 abbrev μ-loop : tie.MeasureT-loop
 μ-loop average n pairs out₀ blocks₀ weights₀ table₀ k₀ out blocks weights table k = blocks .count
@@ -44,7 +46,8 @@ unfolding start
 small s =
     let a = start s .args in
     let p = start s .pre in
-    run-small (a .average) (a .n) (score (a .pairs .now)) (score-symm (a .pairs .now)) (s .loop .inv .5) (p .1) (s .loop .blocks .count) (s .loop .inv .2) (omega (arith, s .loop .inv .0, p .1))
+    run-small (a .average) (a .n) (score (a .pairs .now)) (score-symm (a .pairs .now))
+    (s .loop .inv .5) (p .1) (s .loop .blocks .count) (s .loop .inv .2) (omega (arith, s .loop .inv .0, p .1))
     (λ x y hx hy. p .3 (score (a .pairs .now) x y) (score-element (a .n) (a .pairs .now) (p .2) hx hy))
 
 weights : (s : tie.At-loop Inv-loop μ-loop) → Weights (s .loop .blocks .count) (s .loop .weights)
@@ -52,7 +55,8 @@ unfolding start
 weights s =
     let l = s .loop in
     let a = start s .args in
-    run-weights (a .average) (a .n) (score (a .pairs .now)) (score-symm (a .pairs .now)) (l .inv .5) (start s .pre .1) (l .blocks .count) (l .inv .2) (l .weights) (l .inv .4)
+    run-weights (a .average) (a .n) (score (a .pairs .now)) (score-symm (a .pairs .now)) (l .inv .5)
+    (start s .pre .1) (l .blocks .count) (l .inv .2) (l .weights) (l .inv .4)
 
 room : (c : tie.In-loop Inv-loop μ-loop) → c .before .loop .k < length (c .before .loop .out)
 room c = let l = c .before .loop in omega (arith, l .inv .0, l .inv .3, c .loop-test .taken, c .before .before .before .before .before .before .pre .4)
@@ -65,8 +69,15 @@ fill-requires c κs = let s = c .before .before .before in (s .pre .1, s .pre .2
 
 loop-holds : tie.Need-loop-holds Inv-loop μ-loop
 loop-holds c = let s = c .before .before .before .before in
-    let b = c .before .before .singles in
-    (omega (arith, b .ensures .0), omega (arith, b .ensures .0), ap length (b .ensures .1) ∙ count-singles (s .args .n) ∙ sym (b .ensures .0), refl, weighed-singles (s .args .average) (s .args .n) (s .pre .1) (b .ensures .0) (b .ensures .1), rw (b .ensures .1) (run-start (s .args .average) (s .args .n) (score (s .args .pairs .now)) (s .args .out .now) (c .fill .ensures .0) (own-start (s .args .n) (s .pre .1) (c .fill .ensures .1))))
+    let b = c .before .before .singles in (
+      omega (arith, b .ensures .0),
+      omega (arith, b .ensures .0),
+      ap length (b .ensures .1) ∙ count-singles (s .args .n) ∙ sym (b .ensures .0),
+      refl,
+      weighed-singles (s .args .average) (s .args .n) (s .pre .1) (b .ensures .0) (b .ensures .1),
+      rw (b .ensures .1) (run-start (s .args .average) (s .args .n) (score (s .args .pairs .now))
+          (s .args .out .now) (c .fill .ensures .0) (own-start (s .args .n) (s .pre .1) (c .fill .ensures .1))),
+    )
 
 sub-last : tie.Need-sub-last Inv-loop μ-loop
 sub-last c = search needs
@@ -125,7 +136,8 @@ unfolding turn search-of merge-of
 loop-less c = let m = merge-of c in omega (arith, turn m .loop-test .taken, m .merge .ensures .0)
 
 -- the union is what the merge left at i
-union : (c : tie.After-merge Inv-loop μ-loop) → let m = c .merge .result in let i = search-of c .greatest .result .i in getD (m .sets) i 0 ≡ getD (blocksOf m) i 0
+union : (c : tie.After-merge Inv-loop μ-loop) → let m = c .merge .result in let i = search-of c .greatest .result .i in
+    getD (m .sets) i 0 ≡ getD (blocksOf m) i 0
 unfolding search-of
 union c =
     let g = search-of c .greatest in
@@ -133,15 +145,18 @@ union c =
     sym (getD-take (m .result .count) (m .result .sets) (g .result .i) 0 (omega (arith, m .ensures .0, g .ensures .rising, g .ensures .inside)))
 
 -- the run, the blocks' count and their weights after the turn
-next : (c : tie.After-merge Inv-loop μ-loop) → let s = turn c .before in let a = start s .args in let i = search-of c .greatest .result .i in let m = c .merge .result in
-    Run (a .average) (a .n) (score (a .pairs .now)) (a .out .now) (s .loop .k + 1) (blocksOf m) (c .before .move-row .last .1 .1 .0) (set (s .loop .out) (s .loop .k) (getD (m .sets) i 0))
+next : (c : tie.After-merge Inv-loop μ-loop)
+    → let s = turn c .before in let a = start s .args in let i = search-of c .greatest .result .i in let m = c .merge .result in
+    Run (a .average) (a .n) (score (a .pairs .now)) (a .out .now) (s .loop .k + 1)
+    (blocksOf m) (c .before .move-row .last .1 .1 .0) (set (s .loop .out) (s .loop .k) (getD (m .sets) i 0))
 unfolding start turn search-of
 next c =
     let s = turn c .before in
     let l = s .loop in
     let a = start s .args in
     run-next (a .average) (a .n) (score (a .pairs .now)) (score-symm (a .pairs .now)) (l .inv .5) (start s .pre .1) (l .blocks .count) (l .inv .2)
-    (l .weights) (l .inv .4) (search-of c .greatest .ensures) (short s) (small s) (rw (← l .inv .3) (room (turn c))) (c .before .before .before .join-rows .ensures) (c .before .move-row .ensures)
+    (l .weights) (l .inv .4) (search-of c .greatest .ensures) (short s) (small s)
+    (rw (← l .inv .3) (room (turn c))) (c .before .before .before .join-rows .ensures) (c .before .move-row .ensures)
     (c .merge .ensures .1) (union c)
 
 counted : (c : tie.After-merge Inv-loop μ-loop) → length (blocksOf (c .merge .result)) ≡ c .merge .result .count
@@ -151,16 +166,19 @@ counted c =
     let g = search-of c .greatest in
     let m = c .merge in
     let inside : g .result .j < length bs = omega (arith, g .ensures .inside, turn c .before .loop .inv .2) in
-    ap length (m .ensures .1) ∙ length-mergedAt (g .result .i) (g .result .j) bs (g .ensures .rising) inside ∙ omega (arith, turn c .before .loop .inv .2, m .ensures .0)
+    ap length (m .ensures .1) ∙ length-mergedAt (g .result .i) (g .result .j) bs (g .ensures .rising) inside
+    ∙ omega (arith, turn c .before .loop .inv .2, m .ensures .0)
 
-weighed : (c : tie.After-merge-weights Inv-loop μ-loop) → let m = merge-of c in Weighed (start (turn m .before) .args .average) (m .merge .result .count) (blocksOf (m .merge .result)) (c .merge-weights .last .0)
+weighed : (c : tie.After-merge-weights Inv-loop μ-loop) → let m = merge-of c in
+    Weighed (start (turn m .before) .args .average) (m .merge .result .count) (blocksOf (m .merge .result)) (c .merge-weights .last .0)
 unfolding start turn search-of merge-of
 weighed c =
     let m = merge-of c in
     let l = turn m .before .loop in
     let g = search-of m .greatest in
     weighed-merged (l .inv .4) (l .inv .2) (short (turn m .before)) (g .result .i) (g .result .j) (g .ensures .rising) (g .ensures .inside)
-    (m .merge .ensures .0) (m .merge .ensures .1) (c .before .weight .ensures ∙ ap (weight (start (turn m .before) .args .average)) (union m)) (c .merge-weights .ensures)
+    (m .merge .ensures .0) (m .merge .ensures .1)
+    (c .before .weight .ensures ∙ ap (weight (start (turn m .before) .args .average)) (union m)) (c .merge-weights .ensures)
 
 loop-again : tie.Need-loop-again Inv-loop μ-loop
 unfolding start turn search-of merge-of
@@ -178,7 +196,8 @@ unfolding start
 returns c = let s = c .before in
     let l = s .loop in
     let a = start s .args in
-    run-end (a .average) (a .n) (a .pairs .now) (l .inv .5) (omega (arith, c .loop-test .left, l .inv .1, l .inv .2)) (omega (arith, c .loop-test .left, l .inv .0, l .inv .1))
+    run-end (a .average) (a .n) (a .pairs .now) (l .inv .5)
+    (omega (arith, c .loop-test .left, l .inv .1, l .inv .2)) (omega (arith, c .loop-test .left, l .inv .0, l .inv .1))
 
 pub merge-all-spec : {M : Type 1} → statement M
 merge-all-spec =

@@ -39,8 +39,13 @@ loop-less c = search needs
 
 loop-again : tie.Need-loop-again Inv-loop μ-loop
 loop-again c = let s = c .before .before .before in
-    let a = s .loop .a in
-    (omega arith, omega (arith, rowStart-suc a, ap rowStart (add-one a)), omega arith, holds-next (score-symm (s .before .args .pairs .now)) (omega arith) (s .loop .inv .3) (c .fill-row .ensures), own-next (s .loop .inv .4) (c .fill-row .ensures))
+    let a = s .loop .a in (
+      omega arith,
+      omega (arith, rowStart-suc a, ap rowStart (add-one a)),
+      omega arith,
+      holds-next (score-symm (s .before .args .pairs .now)) (omega arith) (s .loop .inv .3) (c .fill-row .ensures),
+      own-next (s .loop .inv .4) (c .fill-row .ensures),
+    )
 
 returns : tie.Need-returns Inv-loop μ-loop
 returns c = let l = c .before .loop in

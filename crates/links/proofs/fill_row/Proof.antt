@@ -45,7 +45,8 @@ loop-again : tie.Need-loop-again Inv-loop μ-loop
 loop-again c = let s = c .before .before .before .before .before in
     let a = s .before .args in
     let w = c .before .wide in
-    let e : w .result ≡ score (a .pairs .now) (a .a) (s .loop .b) = w .ensures ∙ toZ-ofZ (sfits-of (c .before .before .wide-arg .given)) ∙ score-row (a .pairs .now) (s .loop .b) (s .before .pre .1) (omega arith) in
+    let e : w .result ≡ score (a .pairs .now) (a .a) (s .loop .b) = w .ensures
+    ∙ toZ-ofZ (sfits-of (c .before .before .wide-arg .given)) ∙ score-row (a .pairs .now) (s .loop .b) (s .before .pre .1) (omega arith) in
     (omega arith, rw (c .put .ensures) (written-next (s .loop .inv .1) (passed w64 (w .ok) e) (omega arith) (omega arith)))
 
 returns : tie.Need-returns Inv-loop μ-loop

@@ -30,7 +30,8 @@ start : tie.At-loop Inv-loop μ-loop → tie.Start Inv-loop μ-loop
 start l = l .before .before .before .before
 
 -- the link that is next
-num : (c : tie.After-get Inv-loop μ-loop) → let l = at-loop c in toZ w64 (ofZ w64 (c .get .result)) ≡ entry (start l .args .t .now) (start l .args .j) (l .loop .i)
+num : (c : tie.After-get Inv-loop μ-loop) → let l = at-loop c in
+    toZ w64 (ofZ w64 (c .get .result)) ≡ entry (start l .args .t .now) (start l .args .j) (l .loop .i)
 unfolding at-loop start
 num c = passed w64 (c .get .ok) (c .get .ensures)
 
@@ -62,12 +63,18 @@ element-copy-out-own c = search needs
 
 times-requires : tie.Need-times-requires Inv-loop μ-loop
 times-requires c κs = let s = c .before .before in
-    let f = s .pre .3 in
-    (omega (arith, s .pre .2 (s .args .j) (omega arith)), rw (found-value f (s .pre .1) (omega arith)) (within-grow (lit≤ tt) (found-within f (s .pre .1) (omega arith))))
+    let f = s .pre .3 in (
+      omega (arith, s .pre .2 (s .args .j) (omega arith)),
+      rw (found-value f (s .pre .1) (omega arith)) (within-grow (lit≤ tt) (found-within f (s .pre .1) (omega arith))),
+    )
 
 loop-holds : tie.Need-loop-holds Inv-loop μ-loop
-loop-holds c = let s = c .before .before .before in
-    (omega arith, found-same (s .pre .3) (omega arith) (λ p q h m. omega arith), held-result refl (c .times .ok) (c .times .ensures ∙ ap (λ z. pos (getD (s .args .weights .now) (s .args .j) 0) *ℤ z) (found-value (s .pre .3) (s .pre .1) (omega arith))))
+loop-holds c = let s = c .before .before .before in (
+  omega arith,
+  found-same (s .pre .3) (omega arith) (λ p q h m. omega arith),
+  held-result refl (c .times .ok)
+      (c .times .ensures ∙ ap (λ z. pos (getD (s .args .weights .now) (s .args .j) 0) *ℤ z) (found-value (s .pre .3) (s .pre .1) (omega arith))),
+)
 
 get-requires : tie.Need-get-requires Inv-loop μ-loop
 get-requires c κs = search needs
@@ -86,8 +93,11 @@ times-requires-2 c κs = let l = at-loop (c .before) in
 times-requires-3 : tie.Need-times-requires-3 Inv-loop μ-loop
 unfolding at-loop start
 times-requires-3 c κs = let l = at-loop (c .before .before) in
-    let s = start l in
-    (omega (arith, s .pre .2 (l .loop .i) (omega arith)), rw (held-value (l .loop .inv .2)) (within-times (getD (s .args .weights .now) (s .args .j) 0) (s .pre .2 (s .args .j) (omega arith) .1) (found-within (l .loop .inv .1) (s .pre .1) (omega arith))))
+    let s = start l in (
+      omega (arith, s .pre .2 (l .loop .i) (omega arith)),
+      rw (held-value (l .loop .inv .2)) (within-times (getD (s .args .weights .now) (s .args .j) 0)
+          (s .pre .2 (s .args .j) (omega arith) .1) (found-within (l .loop .inv .1) (s .pre .1) (omega arith))),
+    )
 
 at-most-requires : tie.Need-at-most-requires Inv-loop μ-loop
 at-most-requires c κs = search needs
@@ -101,8 +111,11 @@ loop-less c = search needs
 loop-again : tie.Need-loop-again Inv-loop μ-loop
 unfolding at-loop start
 loop-again c = let a = c .before in
-    let l = at-loop (a .before .before .before .before) in
-    (omega arith, found-keep (l .loop .i) (start l .args .j) (omega arith) (search needs) (l .loop .inv .1) (left a) (right a) (sym (a .at-most .ensures) ∙ c .if1 .taken), l .loop .inv .2)
+    let l = at-loop (a .before .before .before .before) in (
+      omega arith,
+      found-keep (l .loop .i) (start l .args .j) (omega arith) (search needs) (l .loop .inv .1) (left a) (right a) (sym (a .at-most .ensures) ∙ c .if1 .taken),
+      l .loop .inv .2,
+    )
 
 mul-den : tie.Need-mul-den Inv-loop μ-loop
 unfolding at-loop start
@@ -127,8 +140,12 @@ unfolding at-loop start
 loop-again-2 c = let a = c .before .before in
     let g = a .before .before .before .before in
     let l = at-loop g in
-    let s = start l in
-    (omega arith, found-new (l .loop .i) (s .args .j) (omega arith) (search needs) (l .loop .inv .1) (left a) (right a) (found-den (l .loop .inv .1) (s .pre .2) (omega arith) .0) (sym (a .at-most .ensures) ∙ c .before .if1 .left) (num g) refl, held-result refl (c .times4 .ok) (c .times4 .ensures))
+    let s = start l in (
+      omega arith,
+      found-new (l .loop .i) (s .args .j) (omega arith) (search needs) (l .loop .inv .1) (left a) (right a)
+          (found-den (l .loop .inv .1) (s .pre .2) (omega arith) .0) (sym (a .at-most .ensures) ∙ c .before .if1 .left) (num g) refl,
+      held-result refl (c .times4 .ok) (c .times4 .ensures),
+    )
 
 returns : tie.Need-returns Inv-loop μ-loop
 returns c = found-same (c .before .loop .inv .1) (omega arith) (λ p q h m. omega arith)

@@ -23,7 +23,8 @@ at-loop c = c .before .before .before .before .before .before
 start : tie.After-get2 Inv-loop μ-loop → tie.Start Inv-loop μ-loop
 start c = at-loop c .before
 
-first : (c : tie.After-get2 Inv-loop μ-loop) → toZ w64 (ofZ w64 (c .before .before .get .result)) ≡ entry (start c .args .t .now) (start c .args .i) (at-loop c .loop .q)
+first : (c : tie.After-get2 Inv-loop μ-loop)
+    → toZ w64 (ofZ w64 (c .before .before .get .result)) ≡ entry (start c .args .t .now) (start c .args .i) (at-loop c .loop .q)
 unfolding at-loop start
 first c = let g = c .before .before .get in
     passed w64 (g .ok) (g .ensures ∙ written-left (at-loop c .loop .inv .1) (start c .args .i) (omega arith) (omega arith) (omega arith))
@@ -58,8 +59,11 @@ loop-less c = search needs
 
 loop-again : tie.Need-loop-again Inv-loop μ-loop
 unfolding at-loop start joinedRow
-loop-again c = let d = c .before .before in
-    (omega arith, rw (c .put .ensures) (written-next (at-loop d .loop .inv .1) (passed w64 (c .before .join .ok) (c .before .join .ensures ∙ ap₂ (joined (start d .args .average)) (first d) (second d))) (omega arith) (omega arith)))
+loop-again c = let d = c .before .before in (
+  omega arith,
+  rw (c .put .ensures) (written-next (at-loop d .loop .inv .1) (passed w64 (c .before .join .ok)
+      (c .before .join .ensures ∙ ap₂ (joined (start d .args .average)) (first d) (second d))) (omega arith) (omega arith)),
+)
 
 returns : tie.Need-returns Inv-loop μ-loop
 returns c = let l = c .before .loop in

@@ -33,8 +33,11 @@ loop-less c = search needs
 loop-again : tie.Need-loop-again Inv-loop μ-loop
 loop-again c = let s = c .before .before .before .before .before in
     let l = s .loop in
-    let a = s .before .args in
-    (omega arith, rw (c .put .ensures) (written-next (l .inv .1) (passed w64 (c .before .get .ok) (c .before .get .ensures ∙ written-left (l .inv .1) (a .last) (search needs) (omega arith) (search needs))) (omega arith) (omega arith)))
+    let a = s .before .args in (
+      omega arith,
+      rw (c .put .ensures) (written-next (l .inv .1) (passed w64 (c .before .get .ok)
+          (c .before .get .ensures ∙ written-left (l .inv .1) (a .last) (search needs) (omega arith) (search needs))) (omega arith) (omega arith)),
+    )
 
 returns : tie.Need-returns Inv-loop μ-loop
 returns c = let l = c .before .loop in

@@ -43,8 +43,11 @@ loop-less c = search needs
 
 loop-again : tie.Need-loop-again Inv-loop μ-loop
 loop-again c = let v = c .before .before .value in
-    let s = c .before .before .before .before .loop .inv in
-    (omega arith, s .1, next (s .2) (pos 0) (omega arith) (sym (rw (passed w64 (v .ok) (v .ensures)) at (c .before .is-in-range .ensures)) ∙ not-false _ (c .if1 .left)))
+    let s = c .before .before .before .before .loop .inv in (
+      omega arith,
+      s .1,
+      next (s .2) (pos 0) (omega arith) (sym (rw (passed w64 (v .ok) (v .ensures)) at (c .before .is-in-range .ensures)) ∙ not-false _ (c .if1 .left)),
+    )
 
 returns-2 : tie.Need-returns-2 Inv-loop μ-loop
 unfolding inRange

@@ -13,7 +13,9 @@ use Rattle.matrix.proofs.row_start.Statement.{statement}
 use Rattle.matrix.proofs.row_start.Tie as tie
 
 table : List ℕ
-table = 0 ∷ 1 ∷ 3 ∷ 6 ∷ 10 ∷ 15 ∷ 21 ∷ 28 ∷ 36 ∷ 45 ∷ 55 ∷ 66 ∷ 78 ∷ 91 ∷ 105 ∷ 120 ∷ 136 ∷ 153 ∷ 171 ∷ 190 ∷ 210 ∷ 231 ∷ 253 ∷ 276 ∷ 300 ∷ 325 ∷ 351 ∷ 378 ∷ 406 ∷ 435 ∷ 465 ∷ 496 ∷ []
+table =
+    0 ∷ 1 ∷ 3 ∷ 6 ∷ 10 ∷ 15 ∷ 21 ∷ 28 ∷ 36 ∷ 45 ∷ 55 ∷ 66 ∷ 78 ∷ 91 ∷ 105 ∷ 120
+    ∷ 136 ∷ 153 ∷ 171 ∷ 190 ∷ 210 ∷ 231 ∷ 253 ∷ 276 ∷ 300 ∷ 325 ∷ 351 ∷ 378 ∷ 406 ∷ 435 ∷ 465 ∷ 496 ∷ []
 
 right : ℕ → Bool
 right i = eqb (getD table i 0) (rowStart i)

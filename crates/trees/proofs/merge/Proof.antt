@@ -10,13 +10,25 @@ enum-told : tie.Need-enum-told
 enum-told c = search needs
 
 merge-all-requires : tie.Need-merge-all-requires
-merge-all-requires c κs = let s = c .before .before .before .before in let p = checked-scores (s .pre .0) in (s .pre .0 .some, s .pre .0 .few, p .long, p .small, s .pre .1)
+merge-all-requires c κs = let s = c .before .before .before .before in let p = checked-scores (s .pre .0) in (
+  s .pre .0 .some,
+  s .pre .0 .few,
+  p .long,
+  p .small,
+  s .pre .1,
+)
 
 enum-told-2 : tie.Need-enum-told-2
 enum-told-2 c = search needs
 
 merge-all-requires-2 : tie.Need-merge-all-requires-2
-merge-all-requires-2 c κs = let s = c .before .before .before .before in let p = checked-scores (s .pre .0) in (s .pre .0 .some, s .pre .0 .few, p .long, p .small, s .pre .1)
+merge-all-requires-2 c κs = let s = c .before .before .before .before in let p = checked-scores (s .pre .0) in (
+  s .pre .0 .some,
+  s .pre .0 .few,
+  p .long,
+  p .small,
+  s .pre .1,
+)
 
 enum-told-3 : tie.Need-enum-told-3
 enum-told-3 c = search needs

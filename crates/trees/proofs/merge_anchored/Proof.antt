@@ -11,7 +11,8 @@ slice-aggregate-anchor : tie.Need-slice-aggregate-anchor
 slice-aggregate-anchor c = search needs
 
 -- the anchored scores as the code holds them
-anchored : (c : tie.After-pair-count) → let s = c .before .before .before .before .before in Front (s .args .n) (s .args .pairs .now) (c .before .before .anchor .last .1 .1 .1 .0) (c .pair-count .result)
+anchored : (c : tie.After-pair-count) → let s = c .before .before .before .before .before in
+    Front (s .args .n) (s .args .pairs .now) (c .before .before .anchor .last .1 .1 .1 .0) (c .pair-count .result)
 anchored c = record { count = c .pair-count .ensures; rest = _; are = c .before .before .anchor .ensures }
 
 anchor-requires : tie.Need-anchor-requires
