@@ -1,12 +1,16 @@
 -- `entries`, walked: the number is read from the view.
-use Rattle.triangle.proofs.Walks.{refl, [], _∷_, URA, w64, vint, SProp, emp, Lft, Share, Memory, Routine, Heap, Calls, Loops, Atoms, Fun, factI, givenOf, tables, Given, ‵, raw, _$_, _∵_, !, qed, by, move, drop, whole, sub, look-in, look, init, stop, fld, from, load, of-opd, assigns, returns, enter, alloc1, alloc0, params1, pass1, pass0, free0, Is, usize, uint-makes, owned, Clauses, View, view-vals, view-tells, view-typed, freed, Walk, silence, triple, Owned, Tokens, ends, meets}
+use Rattle.triangle.proofs.Walks.{refl, [], _∷_, URA, w64, vint, SProp, emp, Lft, Share, Memory, Routine, Heap, Calls, Loops, Atoms, Fun, factI, givenOf}
+use Rattle.triangle.proofs.Walks.{tables, Given, ‵, raw, _$_, _∵_, !, qed, by, move, drop, whole, sub, look-in, look, init, stop, fld, from, load}
+use Rattle.triangle.proofs.Walks.{of-opd, assigns, returns, enter, alloc1, alloc0, params1, pass1, pass0, free0, Is, usize, uint-makes, owned, Clauses}
+use Rattle.triangle.proofs.Walks.{View, view-vals, view-tells, view-typed, freed, Walk, silence, triple, Owned, Tokens, ends, meets}
 use Rattle.triangle.specs.declared.Triangle.{Triangle}
 use Rattle.triangle.proofs.Triangle.entries as entries
 use Rattle.triangle.proofs.Triangle.entries.Key.{name}
 use Rattle.triangle.proofs.Triangle.entries.Statement as stated
 use Rattle.triangle.proofs.Triangle.entries.Code as code
 
-module _ {M : Type 1} (𝓤 : URA M) (H : Heap 𝓤) (A : Atoms 𝓤) (W : Given 𝓤 H A) (mem : Memory → SProp 𝓤) (run : Routine → Fun 𝓤) (κ : Lft) (q : Share) (d : Triangle) where
+module _ {M : Type 1} (𝓤 : URA M) (H : Heap 𝓤) (A : Atoms 𝓤)
+    (W : Given 𝓤 H A) (mem : Memory → SProp 𝓤) (run : Routine → Fun 𝓤) (κ : Lft) (q : Share) (d : Triangle) where
   abbrev c : Clauses 𝓤 entries.ended
   c = entries.clauses 𝓤 H A mem run
 
@@ -29,4 +33,5 @@ unfolding code.routine
 entries-spec 𝓤 H 𝓜 𝓖 𝓡 =
     meets 𝓤 H 𝓜 𝓖 𝓡 code.env name code.function entries.ended (entries.clauses 𝓤 H (𝓖 .A) (𝓜 .mem) (𝓡 .run)) (code.unfolded 𝓤 H 𝓜 𝓡)
     (λ κs. (view-vals, tt)) (λ κs. (view-tells (κs .0), tt))
-    (λ κs qs bounds a g are. walk 𝓤 H (𝓖 .A) (givenOf 𝓤 H 𝓜 𝓖) (𝓜 .mem) (𝓡 .run) (κs .0) (qs .0) (a .0) (tables 𝓤 H 𝓜 𝓡 code.env .C) (tables 𝓤 H 𝓜 𝓡 code.env .Λ) (are .0))
+    (λ κs qs bounds a g are. walk 𝓤 H (𝓖 .A) (givenOf 𝓤 H 𝓜 𝓖)
+    (𝓜 .mem) (𝓡 .run) (κs .0) (qs .0) (a .0) (tables 𝓤 H 𝓜 𝓡 code.env .C) (tables 𝓤 H 𝓜 𝓡 code.env .Λ) (are .0))
