@@ -6,7 +6,7 @@ use Rattle.interface.specs.Refusals.{wrongDistances, anchoredChecks, anchoredRe
 use Rattle.interface.proofs.Refusals.{gives, first-yes, first-no, no-more}
 use Rattle.matrix.specs.Checks.{Checked}
 use Rattle.matrix.proofs.Checks.{pairs-left, pairs-refused, pairs-passed}
-use Rattle.farris.proofs.Refusals.{wrong-of-three}
+use Rattle.interface.proofs.Anchored.{judged}
 use Rattle.farris.proofs.anchored_refusal.Statement.{statement}
 use Rattle.farris.proofs.anchored_refusal.Tie as tie
 
@@ -16,7 +16,7 @@ left c = pairs-left _ _ (c .before .refusal .ensures) (c .if1 .left)
 
 wrong-is : (c : tie.After-are-distances) → let a = c .before .before .before .args in
     wrongDistances (pos 3) (a .n) (a .pairs .now) ≡ not (c .are-distances .result)
-wrong-is c = let a = c .before .before .before .args in wrong-of-three (a .n) (a .pairs .now) ∙ ap not (sym (c .are-distances .ensures))
+wrong-is c = let a = c .before .before .before .args in judged (a .n) (a .pairs .now) ∙ ap not (sym (c .are-distances .ensures))
 
 passed-12 : (c : tie.Else2) → let a = c .before .before .before .before .args in wrongDistances (pos 3) (a .n) (a .pairs .now) ≡ false
 passed-12 c = wrong-is (c .before) ∙ c .if2 .left

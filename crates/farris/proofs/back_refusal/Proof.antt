@@ -8,7 +8,7 @@ use Rattle.clusters.specs.PairList.{rowStart}
 use Rattle.interface.specs.Refusals.{wrongAnchor, shortSlice, notAnchored, backChecks, backRefusal}
 use Rattle.interface.proofs.Refusals.{gives, first-yes, first-no, no-more}
 use Rattle.matrix.proofs.Checks.{length-left, length-refused, length-passed}
-use Rattle.farris.proofs.Refusals.{in-place}
+use Rattle.interface.proofs.Anchored.{in-place}
 use Rattle.farris.proofs.back_refusal.Statement.{statement}
 use Rattle.farris.proofs.back_refusal.Tie as tie
 
