@@ -1,0 +1,59 @@
+#!/usr/bin/env python3
+"""What a reader is told of the statements is so: no line of a definition or of a contract is wider than 120 columns; the files that
+docs/PROMISES.md says to read have the lines that it says; every must-fail edit that it names is there; definitions that nobody need
+believe say so, and those that must be believed cite no others. The last line is `N passed, M failed`."""
+import glob
+import os
+import re
+
+os.chdir(os.path.join(os.path.dirname(os.path.abspath(__file__)), ".."))
+passed = failed = 0
+
+
+def hold(what, wrong):
+    global passed, failed
+    if wrong:
+        failed += 1
+        print(f"failed: {what}")
+        for line in wrong[:10]:
+            print(f"    {line}")
+    else:
+        passed += 1
+
+
+def text(path):
+    with open(path, encoding="utf-8") as opened:
+        return opened.read()
+
+
+specs = sorted(p for p in glob.glob("crates/*/specs/*.antt") if not p.endswith("/Lib.antt"))
+promises = text("docs/PROMISES.md")
+
+wide = [f"{p}:{i}" for p in specs + sorted(glob.glob("crates/*/src/*.rt")) for i, line in enumerate(text(p).split("\n"), 1) if len(line) > 120]
+hold("definitions and contracts of at most 120 columns", wide)
+
+rows = re.findall(r"^\| (crates/\S+\.antt) \| (\d+) \|", promises, re.M)
+counted = {p: len(text(p).splitlines()) for p, _ in rows if os.path.exists(p)}
+hold("the files to read have the lines that docs/PROMISES.md says", [f"{p}: {counted.get(p)}, not {n}" for p, n in rows if counted.get(p) != int(n)])
+total = re.search(r"^([\d,]+) lines in all", promises, re.M)
+hold("and so many in all", [] if total and int(total[1].replace(",", "")) == sum(counted.values()) else [f"they are {sum(counted.values())}"])
+
+believed = {"lists", "integers", "sets", "clusters", "answers", "interface"}
+head = {p: text(p).split("\nuse ")[0].replace("\n-- ", " ") for p in specs}
+hold("what is the code's own vocabulary says so", [p for p in specs if p.split("/")[1] not in believed and "believe" not in head[p]])
+cited = [f"{p}: {c}" for p, _ in rows for c in re.findall(r"^use Rattle·([a-z]+)", text(p), re.M) if c not in believed]
+hold("what must be believed cites nothing else", cited)
+
+named = []
+for section in re.findall(r"^\|.*$|^Further ones.*?(?=\n\n)", promises[promises.index("## Wrong versions") :], re.M | re.S):
+    for word in re.findall(r"(?<![\w/:`])(?:([a-z]+)/)?([a-z]+(?:_[a-zA-Z0-9]+)+)(?![\w(/])", section):
+        named.append(word)
+edits = {tuple(p[:-5].split("/")[1::2]) for p in glob.glob("crates/*/must-fail/*.edit")}
+labels = {label for _, label in edits}
+functions = set(re.findall(r"fn (\w+)", "".join(text(p) for p in glob.glob("crates/*/src/*.rt"))))
+missing = [f"{c or '?'}/{label}" for c, label in named if ((c, label) not in edits if c else label not in labels | functions)]
+hold("every edit that docs/PROMISES.md names is there", missing)
+hold("it names edits", [] if len(named) > 40 else [f"only {len(named)} were found"])
+
+print(f"{passed} passed, {failed} failed")
+raise SystemExit(failed != 0)
