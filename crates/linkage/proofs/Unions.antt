@@ -98,8 +98,8 @@ greatest-union n s A B W (a, ha, ka) (b, hb, kb) (w, hw, kw) =
     let (p, q, hp, hq, kp, kq, g) = of-between n s B W (greatest-of (between n s B W) (in-between n s B W hb hw kb kw)) in
     let l = greatest-ge (between n s (A ∪ B) W) (in-between n s (A ∪ B) W hx hy (∪-left A B kx) ky) in
     let m = greatest-ge (between n s (A ∪ B) W) (in-between n s (A ∪ B) W hp hq (∪-right A B kp) kq) in
-    let most : maxZ (greatest (between n s A W)) (greatest (between n s B W)) ≤ℤ greatest (between n s (A ∪ B) W) = either
-    (max-is (greatest (between n s A W)) (greatest (between n s B W))) (omega zarith) (omega zarith) in
+    let most : maxZ (greatest (between n s A W)) (greatest (between n s B W)) ≤ℤ greatest (between n s (A ∪ B) W) =
+    either (max-is (greatest (between n s A W)) (greatest (between n s B W))) (omega zarith) (omega zarith) in
     let least : greatest (between n s (A ∪ B) W) ≤ℤ maxZ (greatest (between n s A W)) (greatest (between n s B W)) = low u v hu hv kv e (∪-cases A B ku) in
     omega zarith
   where

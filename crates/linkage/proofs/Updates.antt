@@ -60,8 +60,9 @@ pub holds-singles : (avg : Bool) (n : ℕ) (s : Similarity) {t : List ℤ} → H
 unfolding numerators singles
 holds-singles avg n s h = record {
   size = h .size;
-  is = λ a b ha hb d. h .is a b ha hb d ∙ sym
-      (ap₂ (λ U W. link (linkageOf avg) n s U W .num) (getD-below (λ i. 2 ^ i) n a 0 ha) (getD-below (λ i. 2 ^ i) n b 0 hb) ∙ link-single avg n s a b ha hb);
+  is = λ a b ha hb d. h .is a b ha hb d
+      ∙ sym (ap₂ (λ U W. link (linkageOf avg) n s U W .num) (getD-below (λ i. 2 ^ i) n a 0 ha) (getD-below (λ i. 2 ^ i) n b 0 hb)
+      ∙ link-single avg n s a b ha hb);
 }
 
 module _ (avg : Bool) (n : ℕ) (s : Similarity) {bs : List ℕ} (p : Partition n bs) {t : List ℤ} (h : Holds (length bs) (numerators avg n s bs) t) where

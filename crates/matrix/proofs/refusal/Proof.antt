@@ -25,8 +25,8 @@ returns-2 c = let p = c .before .before in
 returns-3 : tie.Need-returns-3
 unfolding pairChecks
 returns-3 c = let p = c .before .before in
-    gives (length-passed _ _ (p .before .length-refusal .ensures)
-    (p .if1 .left) (first-no (ap not (sym (c .before .in-range .ensures)) ∙ c .if2 .left) no-more))
+    gives (length-passed _ _ (p .before .length-refusal .ensures) (p .if1 .left)
+    (first-no (ap not (sym (c .before .in-range .ensures)) ∙ c .if2 .left) no-more))
 
 pub refusal-spec : {M : Type 1} → statement M
 refusal-spec = tie.close (tie.spec length-refusal-requires returns in-range-requires returns-2 returns-3)
