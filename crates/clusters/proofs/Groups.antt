@@ -23,7 +23,7 @@ use native.Mathlib.Omega.{arith}
 use lib.IntN.{ℤ, pos}
 use lib.Signed.{_≤ℤ_, leZ, leZ-yes}
 use lib.Dec.{T, eqb, leb, ltb, leb→le, le→leb, ltb→lt, lt→ltb, eqb→eq, eqb-refl}
-use Rattle.lists.specs.Lists.{_∈_, below, each, keep, Distinct}
+use Rattle.lists.specs.Lists.{_∈_, _lists_, below, each, keep, Distinct}
 use Rattle.lists.proofs.Tests.{and-T, T-and, cond-elim}
 use Rattle.lists.proofs.Lists.{below-lt, lt-below, in-each, of-each, each-below, in-keep, of-keep, keep-append, in-map, of-map}
 use Rattle.sets.specs.Sets.{has, _∋_, _∌_, size}
@@ -102,11 +102,11 @@ module _ (k : Kind) (n : ℕ) (s : Similarity) (A : ℕ) where
   unfolding groupSets
   in-groupSets = (λ m. let (h, t) = of-keep (listed k n s) (sets n) m in (in-sets n A .0 h, t), λ p. in-keep (listed k n s) (in-sets n A .1 (p .0)) (p .1))
 
-  pub in-groups : (z : ℤ) → (_∈_ {A = ℕ × ℤ} (A, z) (groups k n s)) ↔ ((A < 2 ^ n) × T (listed k n s A) × (z ≡ index k n s A))
+  pub in-groups : (z : ℤ) → (groups k n s lists (A, z)) ↔ ((A < 2 ^ n) × T (listed k n s A) × (z ≡ index k n s A))
   unfolding groups
   in-groups z = (fore, λ (h, t, e). Memᴰ·cast (ap (λ (y : ℤ). (A, y)) e) (in-map (λ B. (B, index k n s B)) (in-groupSets .1 (h, t))))
     where
-      fore : _∈_ {A = ℕ × ℤ} (A, z) (map (λ B. (B, index k n s B)) (groupSets k n s)) → (A < 2 ^ n) × T (listed k n s A) × (z ≡ index k n s A)
+      fore : groups k n s lists (A, z) → (A < 2 ^ n) × T (listed k n s A) × (z ≡ index k n s A)
       fore m =
           let (B, b, e) = of-map (λ B. (B, index k n s B)) (groupSets k n s) m in
           let a : A ≡ B = ap (λ (p : ℕ × ℤ). p .0) e in

@@ -8,7 +8,7 @@ use native.Mathlib.Omega.{arith}
 use lib.IntN.{ℤ, pos, _+ℤ_, _-ℤ_}
 use lib.Signed.{_≤ℤ_}
 use lib.Dec.{T, leb}
-use Rattle.lists.specs.Lists.{_∈_}
+use Rattle.lists.specs.Lists.{_∈_, _lists_}
 use Rattle.lists.proofs.Tests.{T-and, cond-elim}
 use Rattle.integers.specs.Integers.{maxZ, least, sumOf, sumOfSmallest}
 use Rattle.integers.proofs.Linear.{up, dn, zarith}
@@ -161,7 +161,7 @@ abbrev Line : Kind → ℕ → ℤ → ℕ → ℤ → Type 0
 Line k n z m i = (leastSize k ≤ m) × (m < n) × (pos 1 ≤ℤ i) × (z ≡ i)
 
 in-written : (k : Kind) (n : ℕ) (s : Similarity) → Symmetric s → (A : ℕ) → A < 2 ^ n → (z : ℤ)
-    → (_∈_ {A = ℕ × ℤ} (writtenSet k n A, z) (groups k n s)) ↔ Line k n z (size n A) (index k n s A)
+    → (groups k n s lists (writtenSet k n A, z)) ↔ Line k n z (size n A) (index k n s A)
 in-written k n s symm A h z = (
   λ m.
       let (_, t, q) = in-groups k n s B z .0 m in
@@ -179,7 +179,7 @@ in-written k n s symm A h z = (
 
 pub groups-image : (k : Kind) (n : ℕ) (p : Permutation n) (old new : Similarity) → Reordered n p old new → Symmetric old → Symmetric new → (A : ℕ)
     → A < 2 ^ n → (z : ℤ)
-    → (_∈_ {A = ℕ × ℤ} (writtenSet k n A, z) (groups k n old)) ↔ (_∈_ {A = ℕ × ℤ} (writtenSet k n (image n p A), z) (groups k n new))
+    → (groups k n old lists (writtenSet k n A, z)) ↔ (groups k n new lists (writtenSet k n (image n p A), z))
 groups-image k n p old new r old-symm new-symm A h z =
     let before = in-written k n old old-symm A h z in
     let after = in-written k n new new-symm (image n p A) (image-lt n p A) z in
