@@ -60,7 +60,6 @@ use Rattle.interface.specs.Listing.{
   isLine,
   lineRead,
   isFirst,
-  pieces,
   lineWords,
   isListing,
   listingRead,
@@ -188,7 +187,7 @@ example lent after r long c =
 
 -- and read back, without the writer
 pub example-read : listingRead text ≡ some six
-unfolding text six all isDigit longer cut sameBytes digitValue numberFrom isHexDigit isSet isDecimal isLine lineRead isFirst pieces lineWords
+unfolding text six all isDigit longer cut sameBytes digitValue numberFrom isHexDigit isSet isDecimal isLine lineRead isFirst lines lineWords
     isListing listingRead
 example-read = refl
 

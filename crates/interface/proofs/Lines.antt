@@ -13,7 +13,7 @@ use lib.Seq.{take-at, getD-at}
 use Rattle.lists.specs.Lists.{_∈_, each, all}
 use Rattle.lists.proofs.Tests.{and-T, T-and, T-true, true-T, or-first, eqb-yes}
 use Rattle.lists.proofs.Lists.{in-all, all-in, of-map, map-cong}
-use Rattle.interface.specs.Sheet.{isDigit, numberFrom, longer, cut, sameBytes}
+use Rattle.interface.specs.Sheet.{isDigit, numberFrom, longer, cut, lines, sameBytes}
 use Rattle.interface.specs.Listing.{
   Line,
   hexadecimal,
@@ -29,7 +29,6 @@ use Rattle.interface.specs.Listing.{
   isLine,
   lineRead,
   isFirst,
-  pieces,
   lineWords,
   isListing,
   listingRead,
@@ -119,8 +118,8 @@ cut-lines (l ∷ ls) f =
     ∙ cut-first 10 (lineText l) rest (line-free (f l (List·Memᴰ·head refl)))
     ∙ ap (λ (x : List (List ℕ)). lineText l ∷ x) (cut-lines ls (λ x m. f x (List·Memᴰ·tail m)))
 
-listing-pieces : (ls : List Line) → ((l : Line) → l ∈ ls → Readable l) → pieces (listing ls) ≡ firstText ∷ (map lineText ls ++ ([] ∷ []))
-unfolding pieces listing firstLine firstText all
+listing-pieces : (ls : List Line) → ((l : Line) → l ∈ ls → Readable l) → lines (listing ls) ≡ firstText ∷ (map lineText ls ++ ([] ∷ []))
+unfolding lines listing firstLine firstText all
 listing-pieces ls f =
     cut-first 10 firstText (each ls (λ l. lineText l ++ (10 ∷ []))) tt ∙ ap (λ (x : List (List ℕ)). firstText ∷ x) (cut-lines ls f)
 
@@ -141,15 +140,15 @@ first-is : T (isFirst (cut 32 firstText))
 unfolding isFirst firstText cut longer sameBytes
 first-is = tt
 
-is-listing : (s : List ℕ) → let p = pieces s in T (leb 2 (length p)) → T (isFirst (cut 32 (getD p 0 []))) → T (all isLine (lineWords s))
+is-listing : (s : List ℕ) → let p = lines s in T (leb 2 (length p)) → T (isFirst (cut 32 (getD p 0 []))) → T (all isLine (lineWords s))
     → T (eqb (length (getD p (length p - 1) [])) 0) → T (isListing s)
 unfolding isListing
-is-listing s two first lines last =
-    let p = pieces s in
+is-listing s two first form last =
+    let p = lines s in
     let a = leb 2 (length p) in
     let b = isFirst (cut 32 (getD p 0 [])) in
     let c = all isLine (lineWords s) in
-    T-and (a && b && c) (eqb (length (getD p (length p - 1) [])) 0) (T-and (a && b) c (T-and a b two first) lines) last
+    T-and (a && b && c) (eqb (length (getD p (length p - 1) [])) 0) (T-and (a && b) c (T-and a b two first) form) last
 
 module _ (ls : List Line) (f : (l : Line) → l ∈ ls → Readable l) where
   listing-words : lineWords (listing ls) ≡ map (λ l. cut 32 (lineText l)) ls
@@ -160,7 +159,7 @@ module _ (ls : List Line) (f : (l : Line) → l ∈ ls → Readable l) where
   listing-form : T (isListing (listing ls))
   listing-form =
       let words : Line → List (List ℕ) = λ l. cut 32 (lineText l) in
-      let lines : T (all isLine (map words ls)) = in-all isLine (map words ls) λ ws m.
+      let form : T (all isLine (map words ls)) = in-all isLine (map words ls) λ ws m.
       let (l, ml, e) = of-map words ls m in
       subst (λ (w : List (List ℕ)). T (isLine w)) (sym e) (line-form (f l ml)) in
       let e = listing-pieces ls f in
@@ -168,7 +167,7 @@ module _ (ls : List Line) (f : (l : Line) → l ∈ ls → Readable l) where
       is-listing (listing ls)
       (subst (λ (p : List (List ℕ)). T (leb 2 (length p))) (sym e) (two-pieces firstText [] texts))
       (subst (λ (p : List (List ℕ)). T (isFirst (cut 32 (getD p 0 [])))) (sym e) first-is)
-      (subst (λ (w : List (List (List ℕ))). T (all isLine w)) (sym listing-words) lines)
+      (subst (λ (w : List (List (List ℕ))). T (all isLine w)) (sym listing-words) form)
       (subst (λ (p : List (List ℕ)). T (eqb (length (getD p (length p - 1) [])) 0)) (sym e) (empty-last firstText texts))
 
   -- what is written is read back as it was

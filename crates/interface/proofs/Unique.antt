@@ -13,7 +13,7 @@ use lib.ListN.{length, getD, take, drop}
 use lib.Seq.{take-suc, take-length}
 use Rattle.lists.specs.Lists.{all}
 use Rattle.lists.proofs.Tests.{and-T, T-true, T-false, T-or-not, eqb-no}
-use Rattle.interface.specs.Sheet.{isDigit, digitValue, numberFrom, cut, sameBytes}
+use Rattle.interface.specs.Sheet.{isDigit, digitValue, numberFrom, cut, lines, sameBytes}
 use Rattle.interface.specs.Listing.{
   Line,
   digit,
@@ -26,7 +26,6 @@ use Rattle.interface.specs.Listing.{
   isLine,
   lineRead,
   isFirst,
-  pieces,
   lineWords,
   isListing,
   listingRead,
@@ -208,19 +207,19 @@ piece-parts (x ∷ q) h =
     ap (λ (r : List (List ℕ)). x ∷ r) (front-last q [] (omega arith) ∙ ap₂ (λ (i j : ℕ). take i q ++ (getD (x ∷ q) j [] ∷ [])) (sym e) (sym f))
 
 between : List ℕ → List (List ℕ)
-between s = take (length (pieces s) - 2) (drop 1 (pieces s))
+between s = take (length (lines s) - 2) (drop 1 (lines s))
 
 listing-pieces : (s : List ℕ) → T (isListing s)
-    → (pieces s ≡ getD (pieces s) 0 [] ∷ (between s ++ ([] ∷ []))) × T (isFirst (cut 32 (getD (pieces s) 0 []))) × T (all isLine (cutAll (between s)))
+    → (lines s ≡ getD (lines s) 0 [] ∷ (between s ++ ([] ∷ []))) × T (isFirst (cut 32 (getD (lines s) 0 []))) × T (all isLine (cutAll (between s)))
 unfolding isListing lineWords between
 listing-pieces s t =
-    let p = pieces s in
+    let p = lines s in
     let first = isFirst (cut 32 (getD p 0 [])) in
     let (t₃, last) = and-T (leb 2 (length p) && first && all isLine (lineWords s)) (eqb (length (getD p (length p - 1) [])) 0) t in
-    let (t₂, lines) = and-T (leb 2 (length p) && first) (all isLine (lineWords s)) t₃ in
+    let (t₂, form) = and-T (leb 2 (length p) && first) (all isLine (lineWords s)) t₃ in
     let (two, one) = and-T (leb 2 (length p)) first t₂ in
     let empty = none (getD p (length p - 1) []) (eqb→eq (length (getD p (length p - 1) [])) 0 last) in
-    (piece-parts p (leb→le 2 (length p) two) ∙ ap (λ (z : List ℕ). getD p 0 [] ∷ (between s ++ (z ∷ []))) empty, one, lines)
+    (piece-parts p (leb→le 2 (length p) two) ∙ ap (λ (z : List ℕ). getD p 0 [] ∷ (between s ++ (z ∷ []))) empty, one, form)
   where
     none : (w : List ℕ) → length w ≡ 0 → w ≡ []
     none [] e = refl
@@ -236,12 +235,12 @@ is-read s {ls} e = go (isListing s) e
     go false e = absurd (Option·none-ne-some ls e)
 
 pub listing-once : (s t : List ℕ) {ls : List Line} → listingRead s ≡ some ls → listingRead t ≡ some ls → s ≡ t
-unfolding lineWords between pieces
+unfolding lineWords between lines
 listing-once s t rs rt =
     let (hs, es) = is-read s rs in
     let (ht, et) = is-read t rt in
     let (ps, fs, ls) = listing-pieces s hs in
     let (pt, ft, lt) = listing-pieces t ht in
-    let first = first-once (getD (pieces s) 0 []) (getD (pieces t) 0 []) fs ft in
+    let first = first-once (getD (lines s) 0 []) (getD (lines t) 0 []) fs ft in
     let same = lines-once (between s) (between t) ls lt (es ∙ sym et) in
     cut-once 10 s t (ps ∙ ap₂ (λ (x : List ℕ) (l : List (List ℕ)). x ∷ (l ++ ([] ∷ []))) first same ∙ sym pt)

@@ -10,7 +10,8 @@ use Rattle.lists.specs.Lists.{each, all}
 use Rattle.sets.specs.Sets.{size}
 use Rattle.clusters.specs.PairList.{score}
 use Rattle.clusters.specs.Groups.{kindOf, groups}
-use Rattle.interface.specs.Sheet.{lineFeed, space, minus, isDigit, numberFrom, cut, entries, pairs, sameBytes}
+use Rattle.interface.specs.Sheet.{lineFeed, space, minus, isDigit, numberFrom, cut}
+use Rattle.interface.specs.Sheet.{lines, entries, pairs, sameBytes}
 
 -- a line says "the set ..; the number of members; the index"
 pub record Line : Type 0 where
@@ -110,21 +111,18 @@ isFirst ws =
     && sameBytes (getD ws 1 []) (115 ∷ 105 ∷ 122 ∷ 101 ∷ [])
     && sameBytes (getD ws 2 []) (105 ∷ 110 ∷ 100 ∷ 101 ∷ 120 ∷ [])
 
--- "a line feed after each": the pieces are the first line, the lines, and an empty piece behind the last line feed
-unfoldable pub pieces : List ℕ → List (List ℕ)
-pieces s = cut lineFeed s
-
--- "single spaces": the words of the lines between the first and the last piece
+-- "a line feed after each", "single spaces": the text's lines, cut at line feeds, are the first line, a line per group
+-- and an empty piece behind the last line feed; the words of the lines between the first and the last
 unfoldable pub lineWords : List ℕ → List (List (List ℕ))
-lineWords s = map (cut space) (take (length (pieces s) - 2) (drop 1 (pieces s)))
+lineWords s = map (cut space) (take (length (lines s) - 2) (drop 1 (lines s)))
 
 -- the bytes are of the written form
 unfoldable pub isListing : List ℕ → Bool
 isListing s =
-    leb 2 (length (pieces s))
-    && isFirst (cut space (getD (pieces s) 0 []))
+    leb 2 (length (lines s))
+    && isFirst (cut space (getD (lines s) 0 []))
     && all isLine (lineWords s)
-    && eqb (length (getD (pieces s) (length (pieces s) - 1) [])) 0
+    && eqb (length (getD (lines s) (length (lines s) - 1) [])) 0
 
 -- the lines of a listing; what is not of the form is not read
 unfoldable pub listingRead : List ℕ → Option (List Line)
