@@ -2,15 +2,15 @@
 use mathlib.Core.Path.{_≡_, refl, ap, ap₂, _∙_}
 use mathlib.Core.List.{List, [], _∷_, _++_, map, append-nil}
 use mathlib.Core.Option.{some}
-use Prim.Native.Nat.{ℕ, _+_, _/_, _%_, _≤_}
+use Prim.Native.Nat.{ℕ, _+_, _/_, _%_, _<_, _≤_}
 use native.Mathlib.Omega.{arith}
-use lib.IntN.{ℤ, pos}
+use lib.Dec.{T, ltb, ltb→lt}
+use lib.IntN.{ℤ, pos, negsuc, negℤ}
 use lib.ListN.{length, drop-of-length-le}
 use Rattle.lists.specs.Lists.{_∈_, below, each, keep, all}
-use Rattle.lists.proofs.Lists.{of-map-cong}
+use Rattle.lists.proofs.Lists.{all-in, of-map-cong}
 use Rattle.integers.specs.Integers.{minZ, maxZ, eqZ, least}
-use Rattle.sets.specs.Sets.{has, members, others}
-use Rattle.sets.specs.Sets as Sets
+use Rattle.sets.specs.Sets.{has, members, others, size}
 use Rattle.clusters.specs.PairList.{rowStart, place, score, pairList, scoreLimit, inRange, areDistances}
 use Rattle.clusters.specs.Indices.{strongValues, strongIndex}
 use Rattle.clusters.specs.Groups.{kindOf, index, proper, speaksOf, listed, sets, groupSets, groups}
@@ -81,8 +81,12 @@ use Rattle.interface.specs.Refusals.{
   wrongDistances,
   sheetCallChecks,
   sheetRefusal,
+  readerChecks,
+  readerRefusal,
 }
-use Rattle.interface.specs.Calls.{cNumber, CCall}
+use Rattle.interface.specs.Calls.{cNumber, CCall, hasName, nameOf, startOf, nameStart}
+use Rattle.interface.proofs.Refusals.{first-iff}
+use Rattle.interface.proofs.Demands.{demand-1}
 
 -- Program strong, standard input, and whole output
 unfoldable pub sheet : List ℕ
@@ -115,6 +119,14 @@ six =
     ∷ record { set = 3; size = 2; index = pos 2 }
     ∷ record { set = 7; size = 3; index = pos 2 }
     ∷ []
+
+-- a negative value: `A B`, `0 -5`, `-5 0`
+unfoldable pub signed : List ℕ
+signed = 65 ∷ 32 ∷ 66 ∷ 10 ∷ 48 ∷ 32 ∷ 45 ∷ 53 ∷ 10 ∷ 45 ∷ 53 ∷ 32 ∷ 48 ∷ 10 ∷ []
+
+-- names of which one is a part of the other: `BA A`, `0 0`, `0 0`
+unfoldable pub parted : List ℕ
+parted = 66 ∷ 65 ∷ 32 ∷ 65 ∷ 10 ∷ 48 ∷ 32 ∷ 48 ∷ 10 ∷ 48 ∷ 32 ∷ 48 ∷ 10 ∷ []
 
 -- 33 names: A, A0 to A9, B0 to B9, C0 to C9, D0, D1
 unfoldable pub many : List ℕ
@@ -155,54 +167,72 @@ refused =
     ∷ record { kind = pos 1; sheet = 65 ∷ 10 ∷ 48 ∷ 10 ∷ []; buffer = 14; number = 14 }
     ∷ []
 
-example-listing : sheetListing (pos 1) sheet ≡ text
-unfolding sheet text isUpper isDigit isName isNumeral isValue digitValue numberFrom valueOf longer cut lines names entries words value mirrored pairs
-    sameBytes isAmong hasEqual kindOf index proper speaksOf listed sets groupSets groups strongValues strongIndex score place rowStart pairList has
-    members others Sets.size minZ maxZ eqZ least below each keep lineOf digit digits hexadecimal decimalFrom decimal signedDecimal firstText lineText
-    firstLine listing groupsFound pairsListing sheetListing
-example-listing = refl
+record Computed : Type 0 where
+  written : sheetListing (pos 1) sheet ≡ text
+  passes : sheetRefusal (pos 1) sheet 93 ≡ 0
+  long : length text ≡ 93
+  read : listingRead text ≡ some six
+  given : map (λ c. sheetRefusal (c .kind) (c .sheet) (c .buffer)) refused ≡ map (λ c. c .number) refused
+  numbers : map (λ c. c .number) refused ≡ 1 ∷ 2 ∷ 3 ∷ 4 ∷ 5 ∷ 6 ∷ 7 ∷ 8 ∷ 9 ∷ 11 ∷ 12 ∷ 14 ∷ []
+  positive : T (all (λ c. ltb 0 (c .number)) refused)
+  signed-is : pairs signed ≡ pos 0 ∷ negsuc 4 ∷ pos 0 ∷ []
+  name : nameOf parted 1 ≡ 65 ∷ []
+  start : nameStart parted 1 ≡ 3
 
-example-passes : sheetRefusal (pos 1) sheet 93 ≡ 0
-unfolding sheet text isUpper isDigit isName isNumeral isValue digitValue numberFrom valueOf longer cut lines names entries words value mirrored pairs
-    sameBytes isAmong hasEqual kindOf index proper speaksOf listed sets groupSets groups strongValues strongIndex score place rowStart pairList has
-    members others Sets.size minZ maxZ eqZ least below each keep lineOf digit digits hexadecimal decimalFrom decimal signedDecimal firstText lineText
-    firstLine listing groupsFound pairsListing sheetListing all inRange scoreLimit areDistances firstOf mostBytes mostEntries wrongKind wrongLength
-    isAllowed wrongByte wrongNames equalNames wrongCount wrongLines isRow wrongValues wrongDistances sheetCallChecks sheetRefusal refused many
-example-passes = refl
-
-size : length text ≡ 93
-unfolding text
-size = refl
+computed : Computed
+unfolding sheet text six signed parted refused many isUpper isDigit isName isNumeral isValue digitValue numberFrom valueOf longer cut lines names entries
+    words value mirrored pairs sameBytes isAmong hasEqual kindOf index proper speaksOf listed sets groupSets groups strongValues strongIndex score place
+    rowStart pairList has members others size minZ maxZ eqZ least below each keep all lineOf digit digits hexadecimal decimalFrom decimal signedDecimal
+    firstText lineText firstLine listing groupsFound pairsListing sheetListing isHexDigit isSet isDecimal isLine lineRead isFirst lineWords isListing
+    listingRead inRange scoreLimit areDistances firstOf mostBytes mostEntries wrongKind wrongLength isAllowed wrongByte wrongNames equalNames wrongCount
+    wrongLines isRow wrongValues wrongDistances sheetCallChecks sheetRefusal readerChecks readerRefusal hasName nameOf startOf nameStart
+computed = record {
+  written = refl;
+  passes = refl;
+  long = refl;
+  read = refl;
+  given = refl;
+  numbers = refl;
+  positive = tt;
+  signed-is = refl;
+  name = refl;
+  start = refl;
+}
 
 -- the C call on the example's sheet, with a buffer of as many bytes as the listing has
 pub example : (lent after : List ℕ) (r : ℤ) → length lent ≡ 93 → CCall (pos 1) sheet lent r after → (r ≡ pos 93) × (after ≡ text)
 unfolding cNumber answer
 example lent after r long c =
-    let passes : sheetRefusal (pos 1) sheet (length lent) ≡ 0 = ap (sheetRefusal (pos 1) sheet) long ∙ example-passes in
-    let all : length lent ≤ length text = omega (arith, size) in (
-      c .answered ∙ ap₂ (λ (k : ℕ) (t : List ℕ). cNumber (answer k (length t))) passes example-listing ∙ ap pos size,
-      c .written ∙ ap₂ (λ (k : ℕ) (t : List ℕ). slots k t lent) passes example-listing ∙ slots-written text lent
+    let passes : sheetRefusal (pos 1) sheet (length lent) ≡ 0 = ap (sheetRefusal (pos 1) sheet) long ∙ computed .passes in
+    let all : length lent ≤ length text = omega (arith, computed .long) in (
+      c .answered ∙ ap₂ (λ (k : ℕ) (t : List ℕ). cNumber (answer k (length t))) passes (computed .written) ∙ ap pos (computed .long),
+      c .written ∙ ap₂ (λ (k : ℕ) (t : List ℕ). slots k t lent) passes (computed .written) ∙ slots-written text lent
           ∙ ap (λ (l : List ℕ). text ++ l) (drop-of-length-le lent all) ∙ append-nil text,
     )
 
 -- and read back, without the writer
 pub example-read : listingRead text ≡ some six
-unfolding text six all isDigit longer cut sameBytes digitValue numberFrom isHexDigit isSet isDecimal isLine lineRead isFirst lines lineWords
-    isListing listingRead
-example-read = refl
+example-read = computed .read
 
-numbers : map (λ c. sheetRefusal (c .kind) (c .sheet) (c .buffer)) refused ≡ map (λ c. c .number) refused
-unfolding sheet text isUpper isDigit isName isNumeral isValue digitValue numberFrom valueOf longer cut lines names entries words value mirrored pairs
-    sameBytes isAmong hasEqual kindOf index proper speaksOf listed sets groupSets groups strongValues strongIndex score place rowStart pairList has
-    members others Sets.size minZ maxZ eqZ least below each keep lineOf digit digits hexadecimal decimalFrom decimal signedDecimal firstText lineText
-    firstLine listing groupsFound pairsListing sheetListing all inRange scoreLimit areDistances firstOf mostBytes mostEntries wrongKind wrongLength
-    isAllowed wrongByte wrongNames equalNames wrongCount wrongLines isRow wrongValues wrongDistances sheetCallChecks sheetRefusal refused many
-numbers = refl
-
--- each is refused with its number, and every number of the C call is there
-pub refused-with : (c : Case) → c ∈ refused → sheetRefusal (c .kind) (c .sheet) (c .buffer) ≡ c .number
-refused-with c m = of-map-cong (λ c. sheetRefusal (c .kind) (c .sheet) (c .buffer)) (λ c. c .number) refused numbers m
+-- the C call on each sheet that is refused answers minus its number, and writes nothing; every number of the C call is there
+pub refused-with : (c : Case) → c ∈ refused → (lent after : List ℕ) (r : ℤ) → length lent ≡ c .buffer → CCall (c .kind) (c .sheet) lent r after
+    → (r ≡ negℤ (pos (c .number))) × (after ≡ lent)
+unfolding sheetRefusal
+refused-with c m lent after r long call =
+    let given = of-map-cong (λ c. sheetRefusal (c .kind) (c .sheet) (c .buffer)) (λ c. c .number) refused (computed .given) m in
+    let more : 0 < c .number = ltb→lt 0 (c .number) (all-in (λ (c : Case). ltb 0 (c .number)) refused (computed .positive) m) in
+    let checks = sheetCallChecks (c .kind) (c .sheet) (length lent) in
+    let first : firstOf checks ≡ c .number = ap (sheetRefusal (c .kind) (c .sheet)) long ∙ given in
+    let demand = demand-1 (c .kind) (c .sheet) lent r after call in
+    let minus = demand .refusal (c .number) more .1 (first-iff checks (c .number) more .0 first) in
+    (minus, demand .refused (c .number) more minus)
 
 pub every-number : map (λ c. c .number) refused ≡ 1 ∷ 2 ∷ 3 ∷ 4 ∷ 5 ∷ 6 ∷ 7 ∷ 8 ∷ 9 ∷ 11 ∷ 12 ∷ 14 ∷ []
-unfolding refused
-every-number = refl
+every-number = computed .numbers
+
+-- a negative value is read as one; a name is told by its place, though its bytes stand elsewhere too
+pub signed-pairs : pairs signed ≡ pos 0 ∷ negsuc 4 ∷ pos 0 ∷ []
+signed-pairs = computed .signed-is
+
+pub name-place : (nameOf parted 1 ≡ 65 ∷ []) × (nameStart parted 1 ≡ 3)
+name-place = (computed .name, computed .start)
