@@ -7,4 +7,5 @@ pub mod Anchored
 pub mod Slots
 pub mod Demands
 pub mod Example
+pub mod Calls
 pub mod Unique

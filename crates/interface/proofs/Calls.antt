@@ -1,0 +1,124 @@
+-- Examples of the calls on a pair list, by computing: the numbers call's slots, the refusals of each call, scores looked up.
+use mathlib.Core.Path.{_≡_, refl, ap, ap₂, _∙_}
+use mathlib.Core.List.{List, [], _∷_}
+use Prim.Native.Nat.{ℕ}
+use lib.IntN.{ℤ, pos, negsuc}
+use lib.ListN.{length}
+use Rattle.lists.specs.Lists.{below, each, keep, all}
+use Rattle.integers.specs.Integers.{minZ, maxZ, eqZ, least, half, even}
+use Rattle.sets.specs.Sets.{has, members, others, size}
+use Rattle.clusters.specs.PairList.{rowStart, place, score, pairList, scoreLimit, hasLength, inRange, areDistances}
+use Rattle.clusters.specs.Indices.{strongValues, strongIndex}
+use Rattle.clusters.specs.Farris.{unfarris, distancesBack, isAnchored}
+use Rattle.clusters.specs.Groups.{kindOf, index, proper, speaksOf, listed, sets, groupSets, groups}
+use Rattle.clusters.specs.Bench.{own}
+use Rattle.answers.specs.declared.Answer.{Answer}
+use Rattle.answers.specs.declared.Answer.the-variants.{Count, Refused}
+use Rattle.answers.specs.Answers.{answer, slots, filled}
+use Rattle.interface.specs.Listing.{groupsFound}
+use Rattle.interface.specs.Refusals.{
+  firstOf,
+  mostEntries,
+  wrongKind,
+  wrongCount,
+  wrongDistances,
+  fewSlots,
+  wrongAnchor,
+  shortSlice,
+  notAnchored,
+  numbersChecks,
+  numbersRefusal,
+  linkageChecks,
+  linkageRefusal,
+  anchoredChecks,
+  anchoredRefusal,
+  backChecks,
+  backRefusal,
+}
+use Rattle.interface.specs.Calls.{NumbersCall, setsFound, indicesFound, isPair, scoreAmong}
+
+-- Of the bench's three entries, own 6, others 5, and of one entry: what the numbers call finds; each number of each call's table, and 0 where no
+-- line holds; scores of two entries, and of what is no pair.
+pub record Examples : Type 0 where
+  pub passes : numbersRefusal (pos 1) 3 own 7 6 ≡ 0
+  pub these : setsFound (pos 1) 3 own ≡ 1 ∷ 2 ∷ 4 ∷ []
+  pub their : indicesFound (pos 1) 3 own ≡ pos 1 ∷ pos 1 ∷ pos 1 ∷ []
+  pub many : length (groupsFound (pos 1) 3 own) ≡ 3
+  pub numbers :
+      numbersRefusal (pos 0) 3 own 6 6
+      ∷ numbersRefusal (pos 1) 0 [] 6 6
+      ∷ numbersRefusal (pos 1) 2 own 6 6
+      ∷ numbersRefusal (pos 1) 1 (pos 1000001 ∷ []) 2 2
+      ∷ numbersRefusal (pos 3) 3 own 6 6
+      ∷ numbersRefusal (pos 1) 3 own 5 6
+      ∷ numbersRefusal (pos 1) 3 own 6 5
+      ∷ []
+      ≡ 1 ∷ 6 ∷ 10 ∷ 11 ∷ 12 ∷ 13 ∷ 13 ∷ []
+  pub linkage :
+      linkageRefusal 0 [] 0
+      ∷ linkageRefusal 2 own 2
+      ∷ linkageRefusal 1 (negsuc 1000000 ∷ []) 0
+      ∷ linkageRefusal 3 own 1
+      ∷ linkageRefusal 3 own 2
+      ∷ []
+      ≡ 6 ∷ 10 ∷ 11 ∷ 15 ∷ 0 ∷ []
+  pub anchored :
+      anchoredRefusal 0 0 [] 0
+      ∷ anchoredRefusal 2 0 own 6
+      ∷ anchoredRefusal 1 0 (pos 1000001 ∷ []) 1
+      ∷ anchoredRefusal 1 0 (pos 1 ∷ []) 1
+      ∷ anchoredRefusal 1 1 (pos 0 ∷ []) 1
+      ∷ anchoredRefusal 1 0 (pos 0 ∷ []) 0
+      ∷ anchoredRefusal 1 0 (pos 0 ∷ []) 1
+      ∷ []
+      ≡ 6 ∷ 10 ∷ 11 ∷ 12 ∷ 15 ∷ 15 ∷ 0 ∷ []
+  pub back :
+      backRefusal 0 0 [] 0
+      ∷ backRefusal 2 0 own 6
+      ∷ backRefusal 1 1 (pos 0 ∷ []) 1
+      ∷ backRefusal 1 0 (pos 0 ∷ []) 0
+      ∷ backRefusal 1 0 (pos 1 ∷ []) 1
+      ∷ backRefusal 1 0 (pos 0 ∷ []) 1
+      ∷ []
+      ≡ 6 ∷ 10 ∷ 15 ∷ 15 ∷ 15 ∷ 0 ∷ []
+  pub scores :
+      scoreAmong 3 own 0 1 ∷ scoreAmong 3 own 1 1 ∷ scoreAmong 3 own 0 3 ∷ scoreAmong 2 own 0 1 ∷ []
+      ≡ pos 5 ∷ pos 6 ∷ pos 0 ∷ pos 0 ∷ []
+
+pub examples : Examples
+unfolding own below each keep all minZ maxZ eqZ least half even has members others size rowStart place score pairList scoreLimit hasLength inRange
+    areDistances strongValues strongIndex unfarris distancesBack isAnchored kindOf index proper speaksOf listed sets groupSets groups groupsFound firstOf
+    mostEntries wrongKind wrongCount wrongDistances fewSlots wrongAnchor shortSlice notAnchored numbersChecks numbersRefusal linkageChecks
+    linkageRefusal anchoredChecks anchoredRefusal backChecks backRefusal setsFound indicesFound isPair scoreAmong
+examples = record {
+  passes = refl;
+  these = refl;
+  their = refl;
+  many = refl;
+  numbers = refl;
+  linkage = refl;
+  anchored = refl;
+  back = refl;
+  scores = refl;
+}
+
+-- the numbers call, given 7 and 6 slots, counts 3, puts the three singles, and "fills all further slots with 0"
+pub numbers-example : (lentSets sets : List ℕ) (lentIndices indices : List ℤ) (r : Answer) → length lentSets ≡ 7 → length lentIndices ≡ 6
+    → NumbersCall (pos 1) 3 own lentSets lentIndices r sets indices
+    → (r ≡ Count 3)
+    × (sets ≡ 1 ∷ 2 ∷ 4 ∷ 0 ∷ 0 ∷ 0 ∷ 0 ∷ [])
+    × (indices ≡ pos 1 ∷ pos 1 ∷ pos 1 ∷ pos 0 ∷ pos 0 ∷ pos 0 ∷ [])
+unfolding answer filled
+numbers-example lentSets sets lentIndices indices r seven six c =
+    let none : numbersRefusal (pos 1) 3 own (length lentSets) (length lentIndices) ≡ 0 =
+    ap₂ (numbersRefusal (pos 1) 3 own) seven six ∙ examples .passes in (
+      c .answered ∙ ap₂ answer none (examples .many),
+      c .setsWritten ∙ rw (none, examples .these, seven),
+      c .indicesWritten ∙ rw (none, examples .their, six),
+    )
+
+-- refused, it writes nothing
+pub numbers-refused : (lentSets sets : List ℕ) (lentIndices indices : List ℤ) (r : Answer)
+    → NumbersCall (pos 0) 3 own lentSets lentIndices r sets indices → (r ≡ Refused 1) × (sets ≡ lentSets) × (indices ≡ lentIndices)
+unfolding numbersRefusal numbersChecks firstOf wrongKind eqZ answer filled
+numbers-refused lentSets sets lentIndices indices r c = (c .answered, c .setsWritten, c .indicesWritten)
