@@ -1,4 +1,71 @@
-/* The grouping engine's call for C. Link with target/staticlib/libfarzhudyl.a (made by `rt staticlib farzhudyl`); it needs nothing else. */
+/* The grouping engine: lists every group of entries that belongs together on a sheet of pairwise scores.
+
+   Link with libfarzhudyl.a; `pkg-config --cflags --libs farzhudyl` has the words for the compiler once ./install has run. Of the C
+   library it needs memcpy and memset only. A call keeps no state, allocates nothing, and takes at most FARZHUDYL_STACK_MAX bytes
+   of stack; calls may run at the same time in several threads, as long as none writes where another reads or writes.
+
+   THE SHEET
+   Line 1 holds the names of the n entries, single spaces between. Then come n lines of n values, in the order of the names, single
+   spaces between. Each line ends with a line feed (byte 10), the last one too; there is no carriage return, no tab, no further byte.
+     A name is 1 to 8 bytes: first A to Z, then A to Z or 0 to 9. No two names are equal.
+     A value is an optional minus and 1 to 7 decimal digits, without a leading zero unless it is `0`; `-0` is no value. It lies
+     from -1000000 to 1000000.
+     Row i column j equals row j column i. A pair never compared is entered as 0.
+   Kinds 1 and 2 read the values as scores: the greater, the closer. Kind 3 reads them as distances: none is negative, and each
+   entry's distance to itself is 0. Example, four entries:
+
+       A B C D
+       9 8 6 2
+       8 9 5 3
+       6 5 9 1
+       2 3 1 9
+
+   THE PAIR LIST
+   The calls that take numbers take the lower triangle of the values, row by row, own pairs included: FARZHUDYL_PAIRS(n) numbers.
+   Entry i is counted from 0. The value of i and j, where j <= i, stands at FARZHUDYL_PAIRS(i) + j; of the sheet above:
+   9, 8 9, 6 5 9, 2 3 1 9.
+
+   SETS OF ENTRIES
+   A set is a uint32_t in which entry i, counted from 0, is bit i: 0x5 is the first and the third entry.
+
+   THE LISTING
+   The first line is `set size index`. Then each group has one line: its set as 8 lower-case hexadecimal digits, the number of its
+   members, its index; both decimal, single spaces between, a line feed (byte 10) behind each line. The lines rise by size, groups of
+   one size by set. A split has one line too: of its two sides the one without the first entry is written, and size is that side's.
+   Exactly the groups of index 1 or more have a line. There is no byte 0 at the end. The strong groups of the sheet above:
+
+       set size index
+       00000001 1 1
+       00000002 1 1
+       00000004 1 3
+       00000008 1 6
+       00000003 2 2
+       00000007 3 2
+
+   REFUSALS
+   A call that can be refused makes its checks in the order of their numbers, and the first that fails is the answer. A refused call
+   has written nothing. No call asks anything of the values it is handed: any bytes and any numbers get the answer described here.
+      1  kind is not 1, 2 or 3
+      2  the sheet has 0 bytes, or over 12,288
+      3  a byte of the sheet is not A to Z, 0 to 9, minus, space or line feed
+      4  line 1 has no line feed, or is not one or more names, single spaces between
+      5  two names are equal
+      6  n is 0 or over 32
+      7  there are not n line feeds after line 1, or the last byte is no line feed
+      8  a line does not have exactly n well-formed values, single spaces between
+      9  two mirrored values differ
+     10  the pair list's length is not FARZHUDYL_PAIRS(n)
+     11  a value is below -1,000,000 or above 1,000,000
+     12  distances: a value is negative, or an own value is not 0
+     13  a result slice of farzhudyl_numbers has fewer than 2n slots
+     14  the listing has more bytes than the buffer
+     15  an anchor or an entry number is n or more; a result slice is shorter than the result; a list is not the anchored scores, at
+         that anchor, of any distances passing 11 and 12
+
+   WHAT THE CALLER OWES
+   A pointer with a length points to that many bytes or slots; it may be null where the length is 0. A pointer without a length
+   points to one slot, or to as many as stand in its brackets. What a call writes overlaps nothing else that is handed to the call.
+   These are the only things that the engine cannot check. */
 #ifndef FARZHUDYL_H
 #define FARZHUDYL_H
 
@@ -13,40 +80,82 @@ extern "C" {
 enum {
     FARZHUDYL_STRONG = 1, /* strong groups (Apresjan clusters) */
     FARZHUDYL_CLEAN = 2,  /* clean groups */
-    FARZHUDYL_SPLITS = 3  /* Buneman splits of a sheet of distances */
+    FARZHUDYL_SPLITS = 3  /* splits (Buneman splits) of a sheet of distances */
 };
 
-/* A longer sheet than this is refused with 2. */
+/* The most entries a sheet may have, the most bytes of a name, and the most bytes of a sheet; a longer sheet is refused with 2, so a
+   reader of files needs room for one byte more. */
+#define FARZHUDYL_ENTRIES_MAX 32
+#define FARZHUDYL_NAME_MAX 8
 #define FARZHUDYL_SHEET_MAX 12288
 
-/* A buffer of this many bytes holds the listing of every sheet. */
+/* How many numbers the pair list of n entries has; and that of 32 entries. */
+#define FARZHUDYL_PAIRS(n) ((n) * ((n) + 1) / 2)
+#define FARZHUDYL_PAIRS_MAX 528
+
+/* Room that always serves: bytes for a listing; slots for the groups of farzhudyl_numbers; slots for the blocks of a linkage. */
 #define FARZHUDYL_LISTING_MAX 2048
+#define FARZHUDYL_GROUPS_MAX 64
+#define FARZHUDYL_BLOCKS_MAX 31
 
-/* Writes the listing of a sheet to a buffer.
+/* The most bytes of stack that a call takes. */
+#define FARZHUDYL_STACK_MAX 32768
 
-   kind       1, 2 or 3; any other number is refused with 1.
-   sheet      the sheet's sheet_len bytes; any bytes may be handed over. May be null where sheet_len is 0.
-   out        the buffer's out_len bytes. May be null where out_len is 0. The two must not overlap.
+/* The listing of a sheet, as text.
 
-   Returns the listing's length in bytes, at least 15 (the first line), and has then written that many bytes at the start of the
-   buffer and touched no other; or minus the number of the refusal, and has then written nothing. The listing has no byte 0 at its end.
-
-   The first of these that holds is the refusal:
-      1  kind is not 1, 2 or 3
-      2  the sheet has 0 bytes, or over 12,288
-      3  a byte that is not A to Z, 0 to 9, minus, space or line feed
-      4  line 1 has no line feed, or is not one or more names (1 to 8 bytes, first A to Z, then A to Z or 0 to 9), single spaces between
-      5  two names are equal
-      6  there are over 32 names
-      7  not as many line feeds after line 1 as there are names, or the last byte is no line feed
-      8  a line without exactly as many well-formed values as there are names, single spaces between
-      9  two mirrored values differ
-     11  a value below -1,000,000 or above 1,000,000
-     12  kind 3: a negative value, or an own value that is not 0
-     14  the listing has more bytes than the buffer
-
-   It keeps no state and allocates nothing; calls on different buffers may run at the same time. */
+   Answers the listing's length in bytes, at least 15, and has then written that many bytes at the start of out and no other; or minus
+   the refusal's number. Checks 1 to 9, 11, 12 (kind 3 only), 14. */
 int64_t farzhudyl_listing(int32_t kind, const uint8_t *sheet, size_t sheet_len, uint8_t *out, size_t out_len);
+
+/* The groups of a pair list, as numbers.
+
+   Answers how many groups there are, and has then written their sets and their indices, in the order of the listing's lines, to the
+   first slots of sets and indices, and 0 to all further slots of both; or minus the refusal's number. Checks 1, 6, 10, 11, 12 (kind 3
+   only), 13. */
+int64_t farzhudyl_numbers(int32_t kind, size_t n, const int32_t *pairs, size_t pairs_len, uint32_t *sets, size_t sets_len,
+                          int64_t *indices, size_t indices_len);
+
+/* A single linkage tree and an average linkage tree of a pair list of scores: from the n single entries on, the two blocks whose link
+   is the greatest are merged, until one is left. The link is the greatest score between the two blocks (single), or the average
+   of all scores between them, compared exactly (average). Of equal links any may be taken.
+
+   Answers n - 1, and has then written the n - 1 merged blocks, in the order of merging, to the first slots of blocks and no other; or
+   minus the refusal's number. Checks 6, 10, 11, 15 (blocks has fewer than n - 1 slots). */
+int64_t farzhudyl_single_linkage(size_t n, const int32_t *pairs, size_t pairs_len, uint32_t *blocks, size_t blocks_len);
+int64_t farzhudyl_average_linkage(size_t n, const int32_t *pairs, size_t pairs_len, uint32_t *blocks, size_t blocks_len);
+
+/* The scores of a list of distances d, anchored at an entry x (the Farris transform, doubled): d(a,x) + d(b,x) - d(a,b) for each pair,
+   own pairs and the anchor's included.
+
+   Answers FARZHUDYL_PAIRS(n), and has then written the scores, in the order of a pair list, to the first slots of out and no other; or
+   minus the refusal's number. Checks 6, 10, 11, 12, 15 (anchor is n or more, or out has fewer slots than the result). */
+int64_t farzhudyl_anchored_scores(size_t n, size_t anchor, const int32_t *pairs, size_t pairs_len, int32_t *out, size_t out_len);
+
+/* The way back, from anchored scores to the distances.
+
+   Answers FARZHUDYL_PAIRS(n), and has then written the distances, in the order of a pair list, to the first slots of out and no other;
+   or minus the refusal's number. Checks 6, 10, 15 (anchor is n or more, or out has fewer slots than the result, or the list is not the
+   anchored scores, at that anchor, of any distances passing 11 and 12). */
+int64_t farzhudyl_distances_back(size_t n, size_t anchor, const int32_t *scores, size_t scores_len, int32_t *out, size_t out_len);
+
+/* The pair list of a sheet.
+
+   Answers n, the number of entries, and has then written the pair list to the first FARZHUDYL_PAIRS(n) slots and no other; or minus the
+   refusal's number. Checks 2 to 9; whether the values are in range (11) or distances (12) the calls that are handed the list check. */
+int64_t farzhudyl_pair_list(const uint8_t *sheet, size_t sheet_len, int32_t pairs[FARZHUDYL_PAIRS_MAX]);
+
+/* The name of an entry, counted from 0, as its own part of the sheet; nothing is copied.
+
+   Answers the name's length, 1 to 8, and has then written where the name starts to *start: its bytes are sheet[*start] to
+   sheet[*start + length - 1]. If one of checks 2 to 9 refuses the sheet, or the sheet has no such entry, the length is 0 and *start
+   is 0. */
+size_t farzhudyl_name(const uint8_t *sheet, size_t sheet_len, size_t entry, size_t *start);
+
+/* The score of two entries a and b, counted from 0, in a pair list.
+
+   Answers 0, and has then written the score to *score; or the refusal's number (not minus the number: a score may be negative, so it does
+   not come back as the answer). Checks 6, 10, 15 (a or b is n or more). */
+int32_t farzhudyl_score(size_t n, const int32_t *pairs, size_t pairs_len, size_t a, size_t b, int32_t *score);
 
 #ifdef __cplusplus
 }
