@@ -155,7 +155,7 @@ size_t farzhudyl_name(const uint8_t *sheet, size_t sheet_len, size_t entry, size
 
    Answers 0, and has then written the score to *score; or the refusal's number (not minus the number: a score may be negative, so it does
    not come back as the answer). Checks 6, 10, 15 (a or b is n or more). */
-int32_t farzhudyl_score(size_t n, const int32_t *pairs, size_t pairs_len, size_t a, size_t b, int32_t *score);
+int32_t farzhudyl_score(size_t n, const int32_t *pairs, size_t pairs_len, size_t a, size_t b, int64_t *score);
 
 #ifdef __cplusplus
 }

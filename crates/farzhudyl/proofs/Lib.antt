@@ -3,3 +3,5 @@ pub mod Numbers
 pub mod Found
 pub mod Pairs
 pub mod Sheets
+pub mod Small
+pub mod InC

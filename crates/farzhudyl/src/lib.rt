@@ -1,11 +1,13 @@
-// The sheet call and the C call.
+// The sheet call, and the face in C of every call.
 ghost use mathlib.Core.Path.{_≡_};
 ghost use Prim.Native.Nat.{_^_, _<_, _≤_};
 ghost use lib.IntN.{pos, negℤ};
 ghost use lib.ListN.{length};
 ghost use Rattle.clusters.specs.PairList.{rowStart};
+ghost use Rattle.clusters.specs.Linkage.{single, average};
 ghost use Rattle.answers.specs.Answers.{numberOf, countOf};
-ghost use Rattle.interface.specs.Calls.{SheetCall, cNumber, CCall};
+ghost use Rattle.interface.specs.Calls.{SheetCall, cNumber, InC, CCall, NumbersCall, LinkageCall};
+ghost use Rattle.interface.specs.Calls.{AnchoredCall, BackCall, ReaderCall, NameInC, ScoreInC};
 ghost use Rattle.farzhudyl.specs.Pairs.{PairsListed};
 use answers::Answer;
 
@@ -67,7 +69,7 @@ fn minus(number: usize) -> i64
 }
 
 // An answer as the number that C is given.
-pub fn as_number(a: Answer) -> i64
+fn as_number(a: Answer) -> i64
     requires { ⌜ (numberOf a < 2 ^ 63) × (countOf a < 2 ^ 63) ⌝ }
     ensures { λ r. ⌜ r ≡ cNumber a ⌝ }
 {
@@ -77,10 +79,111 @@ pub fn as_number(a: Answer) -> i64
     }
 }
 
-// The C call: the listing's length, or minus the refusal's number.
+// A refusal's number as it is.
+fn as_i32(number: usize) -> i32
+    requires { ⌜ number < 2 ^ 31 ⌝ }
+    ensures { λ r. ⌜ r ≡ pos number ⌝ }
+{
+    number as i32
+}
+
+// The faces in C, which include/farzhudyl.h declares: a count is answered as it is, a refusal as minus its number.
+
 #[no_mangle]
 pub extern "C" fn farzhudyl_listing(kind: i32, sheet: &[u8], out: &mut [u8]) -> i64
     ensures { λ r. ⌜ CCall kind (now (sheet .entry)) (now (out .entry)) r (now (out .exit)) ⌝ }
 {
     as_number(listing(kind, sheet, out))
+}
+
+#[no_mangle]
+pub extern "C" fn farzhudyl_numbers(
+    kind: i32,
+    n: usize,
+    pairs: &[i32],
+    sets: &mut [u32],
+    indices: &mut [i64],
+) -> i64
+    ensures { λ r. ⌜ InC (λ a. NumbersCall kind n (now (pairs .entry))
+        (now (sets .entry)) (now (indices .entry)) a (now (sets .exit)) (now (indices .exit))) r ⌝ }
+{
+    as_number(groups::numbers(kind, n, pairs, sets, indices))
+}
+
+#[no_mangle]
+pub extern "C" fn farzhudyl_single_linkage(n: usize, pairs: &[i32], blocks: &mut [u32]) -> i64
+    ensures { λ r. ⌜ InC (λ a. LinkageCall single n (now (pairs .entry))
+        (now (blocks .entry)) a (now (blocks .exit))) r ⌝ }
+{
+    as_number(linkage::single_linkage(n, pairs, blocks))
+}
+
+#[no_mangle]
+pub extern "C" fn farzhudyl_average_linkage(n: usize, pairs: &[i32], blocks: &mut [u32]) -> i64
+    ensures { λ r. ⌜ InC (λ a. LinkageCall average n (now (pairs .entry))
+        (now (blocks .entry)) a (now (blocks .exit))) r ⌝ }
+{
+    as_number(linkage::average_linkage(n, pairs, blocks))
+}
+
+#[no_mangle]
+pub extern "C" fn farzhudyl_anchored_scores(
+    n: usize,
+    anchor: usize,
+    pairs: &[i32],
+    out: &mut [i32],
+) -> i64
+    ensures { λ r. ⌜ InC (λ a. AnchoredCall n anchor (now (pairs .entry))
+        (now (out .entry)) a (now (out .exit))) r ⌝ }
+{
+    as_number(farris::anchored_scores(n, anchor, pairs, out))
+}
+
+#[no_mangle]
+pub extern "C" fn farzhudyl_distances_back(
+    n: usize,
+    anchor: usize,
+    scores: &[i32],
+    out: &mut [i32],
+) -> i64
+    ensures { λ r. ⌜ InC (λ a. BackCall n anchor (now (scores .entry))
+        (now (out .entry)) a (now (out .exit))) r ⌝ }
+{
+    as_number(farris::distances_back(n, anchor, scores, out))
+}
+
+#[no_mangle]
+pub extern "C" fn farzhudyl_pair_list(sheet: &[u8], pairs: &mut [i32; 528]) -> i64
+    ensures { λ r. ⌜ InC (λ a. ReaderCall (now (sheet .entry)) (now (pairs .entry)) a (now (pairs .exit))) r ⌝ }
+{
+    as_number(reader::read(sheet, pairs))
+}
+
+// A C function hands no part of the sheet back: the part's length is answered, and its start goes to a slot.
+#[no_mangle]
+pub extern "C" fn farzhudyl_name(sheet: &[u8], entry: usize, start: &mut usize) -> usize
+    ensures { λ r. ⌜ NameInC (now (sheet .entry)) entry r (now (start .exit)) ⌝ }
+{
+    let part = reader::name_part(sheet, entry);
+    *start = part.start;
+    part.end - part.start
+}
+
+// A score may be negative, so it goes to a slot: 0 is answered, or the refusal's number.
+#[no_mangle]
+pub extern "C" fn farzhudyl_score(
+    n: usize,
+    pairs: &[i32],
+    a: usize,
+    b: usize,
+    score: &mut i64,
+) -> i32
+    ensures { λ r. ⌜ ScoreInC n (now (pairs .entry)) a b (now (score .entry)) r (now (score .exit)) ⌝ }
+{
+    let number = triangle::score_refusal(n, pairs, a, b);
+    if number != 0 {
+        return as_i32(number);
+    }
+    *score = triangle::score_of(pairs, n, a, b);
+    0
 }

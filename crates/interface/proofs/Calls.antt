@@ -34,6 +34,8 @@ use Rattle.interface.specs.Refusals.{
   anchoredRefusal,
   backChecks,
   backRefusal,
+  scoreChecks,
+  scoreRefusal,
 }
 use Rattle.interface.specs.Calls.{NumbersCall, setsFound, indicesFound, isPair, scoreAmong}
 
@@ -84,12 +86,20 @@ pub record Examples : Type 0 where
   pub scores :
       scoreAmong 3 own 0 1 ∷ scoreAmong 3 own 1 1 ∷ scoreAmong 3 own 0 3 ∷ scoreAmong 2 own 0 1 ∷ []
       ≡ pos 5 ∷ pos 6 ∷ pos 0 ∷ pos 0 ∷ []
+  pub scored :
+      scoreRefusal 0 [] 0 0
+      ∷ scoreRefusal 2 own 0 0
+      ∷ scoreRefusal 3 own 3 0
+      ∷ scoreRefusal 3 own 0 3
+      ∷ scoreRefusal 3 own 2 0
+      ∷ []
+      ≡ 6 ∷ 10 ∷ 15 ∷ 15 ∷ 0 ∷ []
 
 pub examples : Examples
 unfolding own below each keep all minZ maxZ eqZ least half even has members others size rowStart place score pairList scoreLimit hasLength inRange
     areDistances strongValues strongIndex unfarris distancesBack isAnchored kindOf index proper speaksOf listed sets groupSets groups groupsFound firstOf
     mostEntries wrongKind wrongCount wrongDistances fewSlots wrongAnchor shortSlice notAnchored numbersChecks numbersRefusal linkageChecks
-    linkageRefusal anchoredChecks anchoredRefusal backChecks backRefusal setsFound indicesFound isPair scoreAmong
+    linkageRefusal anchoredChecks anchoredRefusal backChecks backRefusal scoreChecks scoreRefusal setsFound indicesFound isPair scoreAmong
 examples = record {
   passes = refl;
   these = refl;
@@ -100,6 +110,7 @@ examples = record {
   anchored = refl;
   back = refl;
   scores = refl;
+  scored = refl;
 }
 
 -- the numbers call, given 7 and 6 slots, counts 3, puts the three singles, and "fills all further slots with 0"

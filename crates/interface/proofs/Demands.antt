@@ -26,6 +26,7 @@ use Rattle.clusters.proofs.Groups.{in-groups, in-groupSets, groups-rise, rising
 use Rattle.clusters.proofs.Theorems.{group-in-tree, groups-nested, groups-bound}
 use Rattle.clusters.proofs.Reordering.{groups-image}
 use Rattle.answers.specs.declared.Answer.{Answer}
+use Rattle.answers.specs.declared.Answer.the-variants.{Count, Refused}
 use Rattle.answers.specs.Answers.{numberOf, countOf, answer, slots, filled}
 use Rattle.answers.proofs.Answers.{number-answer, count-answer, slots-refused, slots-written}
 use Rattle.interface.specs.Sheet.{entries, pairs}
@@ -41,8 +42,24 @@ use Rattle.interface.specs.Refusals.{
   anchoredRefusal,
   backRefusal,
 }
-use Rattle.interface.specs.Calls.{SheetCall, cNumber, CCall, NumbersCall, setsFound, indicesFound, groupsOf}
-use Rattle.interface.specs.Demands.{Demand1, Listed, by-C-call, by-sheet-call, Wrote, in-lines, in-slots, Indices, Demand2, SameGroups, Complete, Demand3}
+use Rattle.interface.specs.Calls.{SheetCall, cNumber, InC, CCall, NumbersCall, setsFound, indicesFound, groupsOf, AnchoredCall, BackCall}
+use Rattle.interface.specs.Demands.{
+  Demand1,
+  Listed,
+  by-C-call,
+  by-sheet-call,
+  Counted,
+  by-numbers-call,
+  by-numbers-in-C,
+  Wrote,
+  in-lines,
+  in-slots,
+  Indices,
+  Demand2,
+  SameGroups,
+  Complete,
+  Demand3,
+}
 use Rattle.interface.proofs.Refusals.{first-iff, first-none, passes, few-count}
 use Rattle.interface.proofs.Lines.{Readable, listing-read}
 use Rattle.interface.proofs.Slots.{groups-slots}
@@ -83,24 +100,36 @@ module _ {r : Answer} (k c : ℕ) (e : r ≡ answer k c) (none : numberOf r ≡ 
   counted : countOf r ≡ c
   counted = ap countOf (e ∙ ap (λ (j : ℕ). answer j c) not-refused) ∙ count-answer c
 
+-- the number in C of an answer whose checks give k
+module _ {Outcome : Answer → Type 0} {r : ℤ} (c : InC Outcome r) (k m : ℕ) (e : c .given ≡ answer k m) where
+  pub answered : r ≡ cNumber (answer k m)
+  answered = c .number ∙ ap cNumber e
+
+  not-refused-in-C : {count : ℕ} → r ≡ pos count → (numberOf (c .given) ≡ 0) × (countOf (c .given) ≡ count)
+  unfolding numberOf countOf answer
+  not-refused-in-C {count} q =
+      let (z, is) = c-count k m count (sym answered ∙ q) in
+      let a = e ∙ ap (λ (j : ℕ). answer j m) z in
+      (ap numberOf a, ap countOf a ∙ is)
+
 -- demand 1
 pub demand-1 : (kind : ℤ) (sheet lent : List ℕ) (r : ℤ) (after : List ℕ) → CCall kind sheet lent r after → Demand1 kind sheet lent r after
 unfolding sheetRefusal sheetCallChecks all
 demand-1 kind sheet lent r after c = record {
   refusal = λ j h. (
-    λ q. first-iff checks j h .0 (c-refused k many j h .0 (sym (c .answered) ∙ q)),
-    λ g. c .answered ∙ c-refused k many j h .1 (first-iff checks j h .1 g),
+    λ q. first-iff checks j h .0 (c-refused k many j h .0 (sym (number) ∙ q)),
+    λ g. number ∙ c-refused k many j h .1 (first-iff checks j h .1 g),
   );
   refused = λ j h q.
-      let is : k ≡ j = c-refused k many j h .0 (sym (c .answered) ∙ q) in
-      c .written ∙ slots-refused k text lent (omega arith);
+      let is : k ≡ j = c-refused k many j h .0 (sym (number) ∙ q) in
+      c .outcome .written ∙ slots-refused k text lent (omega arith);
   listed = (
-    λ q. first-none checks tt .0 (c-count k many many (sym (c .answered) ∙ q) .0),
-    λ t. c .answered ∙ c-listed k many (first-none checks tt .1 t),
+    λ q. first-none checks tt .0 (c-count k many many (sym (number) ∙ q) .0),
+    λ t. number ∙ c-listed k many (first-none checks tt .1 t),
   );
   written = λ count q.
-      let (z, e) = c-count k many count (sym (c .answered) ∙ q) in
-      (taken z text lent (c .written) e, dropped z text lent (c .written) e);
+      let (z, e) = c-count k many count (sym (number) ∙ q) in
+      (taken z text lent (c .outcome .written) e, dropped z text lent (c .outcome .written) e);
   either = go k refl;
 }
   where
@@ -116,13 +145,12 @@ demand-1 kind sheet lent r after c = record {
     many : ℕ
     many = length text
 
-    go : (j : ℕ) → k ≡ j → ((j : ℕ) × (0 < j) × (r ≡ negℤ (pos j))) ⊎ (r ≡ pos many)
-    go zero e = inr (c .answered ∙ c-listed k many e)
-    go (suc j) e = inl (suc j, omega arith, c .answered ∙ c-refused k many (suc j) (omega arith) .1 e)
+    number : r ≡ cNumber (answer k many)
+    number = answered c k many (c .outcome .answered)
 
--- the sheet call is the C call but for the number in C
-sheet-c : {kind : ℤ} {sheet lent after : List ℕ} {r : Answer} → SheetCall kind sheet lent r after → CCall kind sheet lent (cNumber r) after
-sheet-c c = record { answered = ap cNumber (c .answered); written = c .written }
+    go : (j : ℕ) → k ≡ j → ((j : ℕ) × (0 < j) × (r ≡ negℤ (pos j))) ⊎ (r ≡ pos many)
+    go zero e = inr (number ∙ c-listed k many e)
+    go (suc j) e = inl (suc j, omega arith, number ∙ c-refused k many (suc j) (omega arith) .1 e)
 
 -- bytes that either call listed are the sheet's listing, and no check refused
 record Accepted (kind : ℤ) (sheet bytes : List ℕ) : Type 0 where
@@ -136,7 +164,7 @@ accepted {kind} {sheet} (by-C-call {lent} {after} {r} c count e) =
     let text = sheetListing kind sheet in
     record {
       buffer = length lent;
-      passed = c-count k (length text) count (sym (c .answered) ∙ e) .0;
+      passed = c-count k (length text) count (sym (answered c k (length text) (c .outcome .answered)) ∙ e) .0;
       are = demand-1 kind sheet lent r after c .written count e .0;
     }
 accepted {kind} {sheet} (by-sheet-call {lent} {after} {r} c z) =
@@ -217,13 +245,21 @@ module _ {kind : ℤ} {n : ℕ} {l : List ℤ} {lentSets : List ℕ} {lentIndice
       (replicate (length lentSets - length (setsFound kind n l)) 0)
       (replicate (length lentIndices - length (indicesFound kind n l)) (pos 0))
 
+slots-counted : {kind : ℤ} {n count : ℕ} {l indices : List ℤ} {sets : List ℕ} → Counted kind n l count sets indices
+    → (groupsOf count sets indices ≡ groupsFound kind n l) × (count ≡ length (groupsFound kind n l))
+slots-counted (by-numbers-call c z) = (slots-found c z, count-found c z)
+slots-counted {kind} {n} {l = l} {indices = indices} {sets = sets} (by-numbers-in-C {lentSets} {lentIndices = lentIndices} c count e) =
+    let k = numbersRefusal kind n l (length lentSets) (length lentIndices) in
+    let (z, is) = not-refused-in-C c k (length (groupsFound kind n l)) (c .outcome .answered) e in
+    (sym (ap (λ (j : ℕ). groupsOf j sets indices) is) ∙ slots-found (c .outcome) z, sym is ∙ count-found (c .outcome) z)
+
 -- what a call wrote is the groups
 wrote : {kind : ℤ} {n : ℕ} {s : Similarity} {found : List (ℕ × ℤ)} → Wrote kind n s found → (found ≡ groups (kindOf kind) n s) × Symmetric s
 unfolding groupsFound
 wrote (in-lines {sheet} {ls = ls} l e) =
     let same = Option·some-injective ls (lines l) (sym e ∙ lines-read l) in
     (ap (map {B = ℕ × ℤ} (λ x. (x .set, x .index))) same ∙ lines-groups l, score-symm (pairs sheet))
-wrote (in-slots {l = l} c z) = (slots-found c z, score-symm l)
+wrote (in-slots {l = l} c) = (slots-counted c .0, score-symm l)
 
 -- demands 2 and 3 of the groups
 module _ (kind : ℤ) (n : ℕ) (s : Similarity) where
@@ -265,12 +301,12 @@ module _ (kind : ℤ) (n : ℕ) (s : Similarity) where
       nested = λ A B y z a b. groups-nested (kindOf kind) n s symm A B (member A y a) (member B z b);
     }
 
--- demand 2
-pub demand-2 : Demand2
-unfolding anchoredScores distancesBack
-demand-2 = record {
-  indices = λ {kind} {n} {s} w. subst (λ (g : List (ℕ × ℤ)). Indices kind n s g) (sym (wrote w .0)) (indices-right kind n s);
-  back = λ {n} {x} {distances} {lent} {after} {r} a z {lent′} {after′} {r′} b room.
+-- demand 2: the anchored scores, and the way back from what was written
+module _ {n x : ℕ} {distances lent after : List ℤ} {r : Answer} (a : AnchoredCall n x distances lent r after) (z : numberOf r ≡ 0)
+    {lent′ after′ : List ℤ} {r′ : Answer} (b : BackCall n x (take (countOf r) after) lent′ r′ after′) (room : countOf r ≤ length lent′) where
+  pub back-again : (numberOf r′ ≡ 0) × (countOf r′ ≡ countOf r) × (take (countOf r′) after′ ≡ distances)
+  unfolding anchoredScores distancesBack
+  back-again =
       let k = anchoredRefusal n x distances (length lent) in
       let first = not-refused k (rowStart n) (a .answered) z in
       let count = counted k (rowStart n) (a .answered) z in
@@ -282,14 +318,31 @@ demand-2 = record {
       let z′ = ap numberOf (b .answered) ∙ number-answer k′ (rowStart n) ∙ first′ in
       let count′ = counted k′ (rowStart n) (b .answered) z′ in
       let long : length (distancesBack n S) ≡ countOf r′ = length-pairList n (unfarris (score S)) ∙ sym count′ in
-      (z′, taken first′ (distancesBack n S) lent′ (b .written) long ∙ ap (distancesBack n) scores ∙ same);
+      (z′, count′ ∙ sym count, taken first′ (distancesBack n S) lent′ (b .written) long ∙ ap (distancesBack n) scores ∙ same)
+
+-- an answer that is no refusal is its count in C
+count-in-C : (a : Answer) → numberOf a ≡ 0 → cNumber a ≡ pos (countOf a)
+unfolding numberOf countOf cNumber
+count-in-C (Count c) z = refl
+count-in-C (Refused k) z = ap (λ (j : ℕ). negℤ (pos j)) z
+
+pub demand-2 : Demand2
+demand-2 = record {
+  indices = λ {kind} {n} {s} w. subst (λ (g : List (ℕ × ℤ)). Indices kind n s g) (sym (wrote w .0)) (indices-right kind n s);
+  back = λ a z b room. let (z′, _, e) = back-again a z b room in (z′, e);
+  back-in-C = λ {n} {x} {count} {distances} {lent} {after} a q {lent′} {after′} b room.
+      let (z, is) = not-refused-in-C a (anchoredRefusal n x distances (length lent)) (rowStart n) (a .outcome .answered) q in
+      let there = subst (λ (j : ℕ). BackCall n x (take j after) lent′ (b .given) after′) (sym is) (b .outcome) in
+      let (z′, same, e) = back-again (a .outcome) z there (omega arith) in
+      let count′ : countOf (b .given) ≡ count = same ∙ is in
+      (b .number ∙ count-in-C (b .given) z′ ∙ ap pos count′, sym (ap (λ (j : ℕ). take j after′) count′) ∙ e);
 }
 
 -- demand 3
 pub demand-3 : (kind : ℤ) → Demand3 kind
 demand-3 kind = record {
   lines = λ l. (lines l, lines-read l, line-size l);
-  slots = λ c z. ap length (slots-found c z) ∙ sym (count-found c z);
+  slots = λ c. let (e, is) = slots-counted c in ap length e ∙ sym is;
   complete = λ {n} {s} w. let (e, symm) = wrote w in subst (λ (g : List (ℕ × ℤ)). Complete kind n s g) (sym e) (complete kind n s symm);
   reordered = λ {n} {s} {s′} w w′ p m.
       let (e, symm) = wrote w in

@@ -86,7 +86,7 @@ use Rattle.interface.specs.Refusals.{
 }
 use Rattle.interface.specs.Calls.{cNumber, CCall, hasName, nameOf, startOf, nameStart}
 use Rattle.interface.proofs.Refusals.{first-iff}
-use Rattle.interface.proofs.Demands.{demand-1}
+use Rattle.interface.proofs.Demands.{answered, demand-1}
 
 -- Program strong, standard input, and whole output
 unfoldable pub sheet : List ℕ
@@ -205,8 +205,9 @@ unfolding cNumber answer
 example lent after r long c =
     let passes : sheetRefusal (pos 1) sheet (length lent) ≡ 0 = ap (sheetRefusal (pos 1) sheet) long ∙ computed .passes in
     let all : length lent ≤ length text = omega (arith, computed .long) in (
-      c .answered ∙ ap₂ (λ (k : ℕ) (t : List ℕ). cNumber (answer k (length t))) passes (computed .written) ∙ ap pos (computed .long),
-      c .written ∙ ap₂ (λ (k : ℕ) (t : List ℕ). slots k t lent) passes (computed .written) ∙ slots-written text lent
+      answered c (sheetRefusal (pos 1) sheet (length lent)) (length (sheetListing (pos 1) sheet)) (c .outcome .answered)
+          ∙ ap₂ (λ (k : ℕ) (t : List ℕ). cNumber (answer k (length t))) passes (computed .written) ∙ ap pos (computed .long),
+      c .outcome .written ∙ ap₂ (λ (k : ℕ) (t : List ℕ). slots k t lent) passes (computed .written) ∙ slots-written text lent
           ∙ ap (λ (l : List ℕ). text ++ l) (drop-of-length-le lent all) ∙ append-nil text,
     )
 

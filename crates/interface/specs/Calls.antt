@@ -6,7 +6,7 @@ use mathlib.Core.List.{List, [], _∷_, map}
 use Prim.Native.Nat.{ℕ, zero, suc, _+_, _-_}
 use lib.IntN.{ℤ, pos, negℤ}
 use lib.Dec.{eqb, leb, ltb}
-use lib.ListN.{length, getD}
+use lib.ListN.{length, getD, take, drop}
 use Rattle.clusters.specs.PairList.{Similarity, rowStart, score, hasLength}
 use Rattle.clusters.specs.Farris.{anchoredScores, distancesBack}
 use Rattle.clusters.specs.Linkage.{Linkage, Tree, mergedBlocks}
@@ -23,6 +23,7 @@ use Rattle.interface.specs.Refusals.{
   anchoredRefusal,
   backRefusal,
   readerRefusal,
+  scoreRefusal,
 }
 
 -- The sheet call: the listing's length, and the listing in the first bytes.
@@ -35,9 +36,14 @@ unfoldable pub cNumber : Answer → ℤ
 cNumber (Count length) = pos length
 cNumber (Refused number) = negℤ (pos number)
 
-pub record CCall (kind : ℤ) (sheet lent : List ℕ) (r : ℤ) (after : List ℕ) : Type 0 where
-  pub answered : r ≡ cNumber (answer (sheetRefusal kind sheet (length lent)) (length (sheetListing kind sheet)))
-  pub written : after ≡ slots (sheetRefusal kind sheet (length lent)) (sheetListing kind sheet) lent
+-- a call in C: the number of an answer of which the call's outcome holds
+pub record InC (Outcome : Answer → Type 0) (r : ℤ) : Type 0 where
+  pub given : Answer
+  pub number : r ≡ cNumber given
+  pub outcome : Outcome given
+
+abbrev pub CCall : ℤ → (sheet lent : List ℕ) → ℤ → (after : List ℕ) → Type 0
+CCall kind sheet lent r after = InC (λ a. SheetCall kind sheet lent a after) r
 
 -- "The numbers call puts sets and indices in two lent slices in this order, returns their count, and fills all further
 -- slots with 0."
@@ -114,6 +120,12 @@ pub record NameCall (sheet : List ℕ) (at : ℕ × ℕ) (i : ℕ) (part : List 
   pub bytes : part ≡ nameOf sheet i
   pub lies : place ≡ behind (nameStart sheet i) at
 
+-- in C: the part's length is answered, and where it starts in the sheet goes to a slot; nothing is copied
+pub record NameInC (sheet : List ℕ) (i : ℕ) (r start : ℕ) : Type 0 where
+  pub answered : r ≡ length (nameOf sheet i)
+  pub lies : start ≡ nameStart sheet i
+  pub bytes : take r (drop start sheet) ≡ nameOf sheet i
+
 -- "Scores are looked up by two entries in the pair list as lent": the score of two of n entries, and 0 of any other two
 -- numbers or if the list is no pair list of n entries
 unfoldable pub isPair : ℕ → List ℤ → ℕ → ℕ → Bool
@@ -121,3 +133,8 @@ isPair n l a b = leb n mostEntries && hasLength n l && ltb a n && ltb b n
 
 unfoldable pub scoreAmong : ℕ → List ℤ → Similarity
 scoreAmong n l a b = cond (isPair n l a b) (score l a b) (pos 0)
+
+-- in C, where a score of 0 and no score must differ: 0 is answered, and the score goes to a slot; or the refusal's number
+pub record ScoreInC (n : ℕ) (l : List ℤ) (a b : ℕ) (lent r after : ℤ) : Type 0 where
+  pub answered : r ≡ pos (scoreRefusal n l a b)
+  pub written : after ≡ cond (eqb (scoreRefusal n l a b) 0) (score l a b) lent

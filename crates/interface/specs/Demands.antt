@@ -21,7 +21,7 @@ use Rattle.answers.specs.Answers.{numberOf, countOf}
 use Rattle.interface.specs.Sheet.{entries, pairs}
 use Rattle.interface.specs.Listing.{Line, sheetListing, listingRead}
 use Rattle.interface.specs.Refusals.{none, Given, check6, check10, sheetCallChecks, backRefusal}
-use Rattle.interface.specs.Calls.{SheetCall, CCall, NumbersCall, groupsOf, AnchoredCall, BackCall}
+use Rattle.interface.specs.Calls.{SheetCall, InC, CCall, NumbersCall, groupsOf, AnchoredCall, BackCall}
 
 -- Demand 1, of the C call: "any kind number, any sheet, any buffer gets the complete listing or the one refusal that
 -- document 01 names; a refusal writes no byte, a listing only its own bytes".
@@ -43,14 +43,22 @@ pub data Listed (kind : ℤ) (sheet : List ℕ) : List ℕ → Type 0 where
   by-sheet-call : {lent after : List ℕ} {r : Answer} → SheetCall kind sheet lent r after
       → numberOf r ≡ 0 → Listed kind sheet (take (countOf r) after)
 
+-- how many groups the numbers call counts, here or in C, if it did not refuse, and its slots
+pub data Counted (kind : ℤ) (n : ℕ) (l : List ℤ) : ℕ → List ℕ → List ℤ → Type 0 where
+  by-numbers-call : {lentSets sets : List ℕ} {lentIndices indices : List ℤ} {r : Answer}
+      → NumbersCall kind n l lentSets lentIndices r sets indices
+      → numberOf r ≡ 0 → Counted kind n l (countOf r) sets indices
+  by-numbers-in-C : {lentSets sets : List ℕ} {lentIndices indices : List ℤ} {r : ℤ}
+      → InC (λ a. NumbersCall kind n l lentSets lentIndices a sets indices) r
+      → (count : ℕ) → r ≡ pos count → Counted kind n l count sets indices
+
 -- what a call wrote for a kind number, n entries and their scores: the set and the index of each line read back from
 -- the bytes listed, or those in the numbers call's slots below its count
 pub data Wrote (kind : ℤ) : ℕ → Similarity → List (ℕ × ℤ) → Type 0 where
   in-lines : {sheet bytes : List ℕ} {ls : List Line} → Listed kind sheet bytes → listingRead bytes ≡ some ls
       → Wrote kind (entries sheet) (score (pairs sheet)) (map (λ l. (l .set, l .index)) ls)
-  in-slots : {n : ℕ} {l indices lentIndices : List ℤ} {sets lentSets : List ℕ} {r : Answer}
-      → NumbersCall kind n l lentSets lentIndices r sets indices → numberOf r ≡ 0
-      → Wrote kind n (score l) (groupsOf (countOf r) sets indices)
+  in-slots : {n count : ℕ} {l indices : List ℤ} {sets : List ℕ} → Counted kind n l count sets indices
+      → Wrote kind n (score l) (groupsOf count sets indices)
 
 -- Demand 2: "Every index written equals the definition of Bryant and Berry in document 01's whole-number form": 003,
 -- formula 1; the clean index; 003, formula 2.
@@ -68,6 +76,10 @@ pub record Demand2 : Type 0 where
       → AnchoredCall n x distances lent r after → numberOf r ≡ 0
       → {lent′ after′ : List ℤ} {r′ : Answer} → BackCall n x (take (countOf r) after) lent′ r′ after′
       → countOf r ≤ length lent′ → (numberOf r′ ≡ 0) × (take (countOf r′) after′ ≡ distances)
+  pub back-in-C : {n x count : ℕ} {distances lent after : List ℤ} {r : ℤ}
+      → InC (λ a. AnchoredCall n x distances lent a after) r → r ≡ pos count
+      → {lent′ after′ : List ℤ} {r′ : ℤ} → InC (λ a. BackCall n x (take count after) lent′ a after′) r′
+      → count ≤ length lent′ → (r′ ≡ pos count) × (take count after′ ≡ distances)
 
 -- A set of positive index, or a split of positive index by the side that is written.
 pub record Positive (k : Kind) (n : ℕ) (s : Similarity) (A : ℕ) : Type 0 where
@@ -107,9 +119,8 @@ pub record Demand3 (kind : ℤ) : Type 0 where
       → (ls : List Line) × (listingRead bytes ≡ some ls)
       × ((l : Line) → l ∈ ls → l .size ≡ size (entries sheet) (l .set))
   -- the numbers call's slots hold as many groups as it counts
-  pub slots : {n : ℕ} {l indices lentIndices : List ℤ} {sets lentSets : List ℕ} {r : Answer}
-      → NumbersCall kind n l lentSets lentIndices r sets indices → numberOf r ≡ 0
-      → length (groupsOf (countOf r) sets indices) ≡ countOf r
+  pub slots : {n count : ℕ} {l indices : List ℤ} {sets : List ℕ} → Counted kind n l count sets indices
+      → length (groupsOf count sets indices) ≡ count
   pub complete : {n : ℕ} {s : Similarity} {found : List (ℕ × ℤ)} → Wrote kind n s found → Complete kind n s found
   -- of any two calls on entries of which one order is a reordering of the other
   pub reordered : {n : ℕ} {s s′ : Similarity} {found found′ : List (ℕ × ℤ)}

@@ -235,6 +235,14 @@ readerChecks s =
     ∷ check9 s
     ∷ []
 
+-- of a score looked up in C: the checks of a pair list's length, and 15 for an entry number of n or more
+unfoldable pub scoreChecks : ℕ → List ℤ → (a b : ℕ) → List Check
+scoreChecks n l a b =
+    check6 n
+    ∷ check10 n l
+    ∷ check15 (wrongAnchor n a || wrongAnchor n b)
+    ∷ []
+
 -- the number of the refusal that each call gives, 0 if none
 unfoldable pub sheetRefusal : ℤ → List ℕ → (buffer : ℕ) → ℕ
 sheetRefusal kind s buffer = firstOf (sheetCallChecks kind s buffer)
@@ -253,3 +261,6 @@ backRefusal n x l slots = firstOf (backChecks n x l slots)
 
 unfoldable pub readerRefusal : List ℕ → ℕ
 readerRefusal s = firstOf (readerChecks s)
+
+unfoldable pub scoreRefusal : ℕ → List ℤ → (a b : ℕ) → ℕ
+scoreRefusal n l a b = firstOf (scoreChecks n l a b)

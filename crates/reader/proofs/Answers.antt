@@ -33,6 +33,7 @@ use Rattle.interface.specs.Refusals.{
 use Rattle.interface.specs.Calls.{ReaderCall, hasName, nameOf, startOf, nameStart, behind, NameCall}
 use Rattle.interface.proofs.Refusals.{Gives, no-first, right-count}
 use Rattle.reader.specs.Square.{square, Holds}
+use Rattle.reader.specs.Names.{NamePart}
 
 -- what check 2 leaves
 pub length-right : (s : List ℕ) → wrongLength s ≡ false → (0 < length s) × (length s ≤ 12288)
@@ -111,7 +112,7 @@ pub slots-pairs : (s : List ℕ) (l : List ℤ) → readerRefusal s ≡ 0
     → take (rowStart (entries s)) (slots (readerRefusal s) (pairs s) l) ≡ pairs s
 slots-pairs s l e = rw (e, slots-written (pairs s) l) (take-at (pairs s) _ (rowStart (entries s)) (pairs-length s))
 
--- the name of an entry: whether there is one, and the part that lies `from` bytes behind the sheet's own place
+-- the name of an entry: whether there is one, and where it stands
 module _ (s : List ℕ) (i : ℕ) where
   pub name-none : {k : ℕ} → answer (readerRefusal s) (entries s) ≡ Refused k → hasName s i ≡ false
   unfolding hasName
@@ -125,14 +126,17 @@ module _ (s : List ℕ) (i : ℕ) where
   unfolding hasName
   name-some {n} e h = let (z, is) = entries-is s n e in rw (z, lt-ltb i (entries s) (omega arith))
 
-  module _ (at : ℕ × ℕ) (from : ℕ) where
-    pub no-part : hasName s i ≡ false → from ≡ 0 → NameCall s at i (take (from - from) (drop from s)) (at .0, from + at .1)
-    unfolding nameOf nameStart behind
-    no-part e q =
-        let z : from - from ≡ 0 = omega arith in
-        record { bytes = rw (e, z); lies = ap (λ (k : ℕ). behind k at) q ∙ rw e }
+  pub no-part : (from : ℕ) → hasName s i ≡ false → from ≡ 0 → NamePart s i from from
+  unfolding nameOf nameStart
+  no-part from e q =
+      let z : from - from ≡ 0 = omega arith in
+      record { ordered = omega arith; inside = omega arith; lies = q ∙ rw e; bytes = rw (e, z) }
 
-    pub name-part : {part : List ℕ} → hasName s i ≡ true → part ≡ getD (names s) i [] → from ≡ startOf (names s) i
-        → NameCall s at i part (at .0, from + at .1)
-    unfolding nameOf nameStart behind
-    name-part e p q = record { bytes = p ∙ rw e; lies = ap (λ (k : ℕ). behind k at) q ∙ rw e }
+  pub whole-part : (from to : ℕ) → hasName s i ≡ true → from ≤ to → to ≤ length s → take (to - from) (drop from s) ≡ getD (names s) i []
+      → from ≡ startOf (names s) i → NamePart s i from to
+  unfolding nameOf nameStart
+  whole-part from to e h k p q = record { ordered = h; inside = k; lies = q ∙ rw e; bytes = p ∙ rw e }
+
+  pub part-call : (at : ℕ × ℕ) (from to : ℕ) → NamePart s i from to → NameCall s at i (take (to - from) (drop from s)) (at .0, from + at .1)
+  unfolding behind
+  part-call at from to p = record { bytes = p .bytes; lies = ap (λ (k : ℕ). behind k at) (p .lies) }

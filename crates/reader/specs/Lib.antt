@@ -1,1 +1,2 @@
 pub mod Square
+pub mod Names

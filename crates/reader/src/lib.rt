@@ -11,6 +11,7 @@ ghost use Rattle.interface.specs.Sheet.{space, cut, valueOf, entries, value, mi
 ghost use Rattle.interface.specs.Refusals.{isRow, wrongLines, wrongValues, readerRefusal};
 ghost use Rattle.interface.specs.Calls.{ReaderCall, startOf, NameCall};
 ghost use Rattle.reader.specs.Square.{square, Holds};
+ghost use Rattle.reader.specs.Names.{NamePart};
 use answers::Answer;
 use text::ValueRead;
 
@@ -173,20 +174,45 @@ fn piece_start(line: &[u8], i: usize) -> usize
     at
 }
 
-// The name of an entry as its own part of the sheet; the empty part if the sheet is refused or has no such entry.
-pub fn name(sheet: &[u8], entry: usize) -> &[u8]
-    ensures { λ r. ⌜ NameCall (now (sheet .entry)) (sheet .entry .ptr) entry (now r) (r .ptr) ⌝ }
+// A part of the sheet, from its start up to its end.
+pub struct Part {
+    pub start: usize,
+    pub end: usize,
+}
+
+// Where the name of an entry stands; the empty part at 0 if the sheet is refused or has no such entry.
+pub fn name_part(sheet: &[u8], entry: usize) -> Part
+    ensures { λ r. ⌜ NamePart (now (sheet .entry)) entry (r .start) (r .end) ⌝ }
 {
     let none: usize = 0;
     let mut pairs = [0i32; 528];
     let Answer::Count(n) = read(sheet, &mut pairs) else {
-        return &sheet[none..none];
+        return Part {
+            start: none,
+            end: none,
+        };
     };
     if entry >= n {
-        return &sheet[none..none];
+        return Part {
+            start: none,
+            end: none,
+        };
     }
     let end = text::line_end(sheet, 0);
     let from = piece_start(&sheet[..end], entry);
     let to = text::piece_end(&sheet[..end], b' ', from);
-    &sheet[from..to]
+    Part {
+        start: from,
+        end: to,
+    }
+}
+
+// The name of an entry as its own part of the sheet.
+pub fn name(sheet: &[u8], entry: usize) -> &[u8]
+    ensures { λ r. ⌜ NameCall (now (sheet .entry)) (sheet .entry .ptr) entry (now r) (r .ptr) ⌝ }
+{
+    let part = name_part(sheet, entry);
+    let start = part.start;
+    let end = part.end;
+    &sheet[start..end]
 }

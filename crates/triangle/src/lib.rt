@@ -1,5 +1,6 @@
 // The triangle view: the pair list as lent, with its number of entries (document 01, The sheet).
 ghost use mathlib.Core.Path.{_≡_};
+ghost use Rattle.interface.specs.Refusals.{scoreRefusal};
 ghost use Rattle.interface.specs.Calls.{scoreAmong};
 
 pub struct Triangle<'a> {
@@ -53,4 +54,21 @@ pub fn score_of(pairs: &[i32], n: usize, a: usize, b: usize) -> i64
     ensures { λ r. ⌜ r ≡ scoreAmong n (now (pairs .entry)) a b ⌝ }
 {
     view(pairs, n).score(a, b)
+}
+
+// Why two numbers have no score in a pair list: 6 or 10, or 15 if one is n or more; 0 if they have one.
+pub fn score_refusal(n: usize, pairs: &[i32], a: usize, b: usize) -> usize
+    ensures { λ r. ⌜ r ≡ scoreRefusal n (now (pairs .entry)) a b ⌝ }
+{
+    let refused = matrix::length_refusal(n, pairs);
+    if refused != 0 {
+        return refused;
+    }
+    if a >= n {
+        return 15;
+    }
+    if b >= n {
+        return 15;
+    }
+    0
 }

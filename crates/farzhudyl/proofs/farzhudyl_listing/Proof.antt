@@ -1,4 +1,4 @@
-use mathlib.Core.Path.{ap, _∙_, subst}
+use mathlib.Core.Path.{ap, subst}
 use native.Mathlib.Omega.{arith}
 use borrow.Author.Needs.{needs}
 use lib.ListN.{length}
@@ -6,7 +6,7 @@ use mir.Syntax.{w64}
 use mir.Facts.{toZ-ofZ}
 use Rattle.integers.proofs.Held.{passed}
 use Rattle.answers.specs.Answers.{numberOf, countOf}
-use Rattle.interface.specs.Calls.{SheetCall, cNumber}
+use Rattle.interface.specs.Calls.{SheetCall}
 use Rattle.farzhudyl.proofs.Numbers.{number-le, count-le}
 use Rattle.farzhudyl.proofs.farzhudyl_listing.Statement.{statement}
 use Rattle.farzhudyl.proofs.farzhudyl_listing.Tie as tie
@@ -32,9 +32,11 @@ same-length : tie.Need-same-length
 same-length c = search needs
 
 returns : tie.Need-returns
-returns c =
-    let s = asked (c .before .before .before) in
-    record { answered = passed w64 (c .as-number .ok) (c .as-number .ensures ∙ ap cNumber (s .answered)); written = s .written }
+returns c = record {
+  given = c .before .before .before .listing .result;
+  number = passed w64 (c .as-number .ok) (c .as-number .ensures);
+  outcome = asked (c .before .before .before);
+}
 
 pub farzhudyl-listing-spec : {M : Type 1} → statement M
 farzhudyl-listing-spec = tie.close (tie.spec listing-requires as-number-requires same-length returns)

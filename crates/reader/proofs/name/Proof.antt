@@ -1,39 +1,11 @@
-use mathlib.Core.Path.{_≡_, refl, sym, _∙_}
-use mathlib.Core.List.{List}
-use Prim.Native.Nat.{ℕ, _≤_, _<_}
 use native.Mathlib.Omega.{arith}
 use borrow.Author.Needs.{needs}
-use lib.ListN.{length, take}
-use Rattle.answers.specs.declared.Answer.the-variants.{Count}
-use Rattle.answers.specs.Answers.{answer}
-use Rattle.interface.specs.Sheet.{cut, entries}
-use Rattle.interface.specs.Refusals.{readerRefusal}
-use Rattle.sheet.proofs.Lines.{line-length}
-use Rattle.reader.proofs.Parts.{entry-in, name-start, name-from, name-inside, name-bytes}
-use Rattle.reader.proofs.Answers.{entries-is, name-none, name-past, name-some, no-part, name-part}
+use Rattle.reader.proofs.Answers.{part-call}
 use Rattle.reader.proofs.name.Statement.{statement}
 use Rattle.reader.proofs.name.Tie as tie
 
-read-requires : tie.Need-read-requires
-read-requires c κs = search needs
-
-enum-known-n : tie.Need-enum-known-n
-enum-known-n c = search needs
-
-enum-told : tie.Need-enum-told
-enum-told c = search needs
-
--- the sheet, the number that is asked for, and what the reader answered
-abbrev sheet : tie.After-read → List ℕ
-sheet c = c .before .before .before .args .sheet .now
-
-abbrev entry : tie.After-read → ℕ
-entry c = c .before .before .before .args .entry
-
-counted : (c : tie.After-n) →
-    let s = sheet (c .before .before) in
-    answer (readerRefusal s) (entries s) ≡ Count (c .n .given .0 .0)
-counted c = sym (c .before .before .read .ensures .answered) ∙ c .n .given .1
+name-part-requires : tie.Need-name-part-requires
+name-part-requires c κs = search needs
 
 sub-result : tie.Need-sub-result
 sub-result c = search needs
@@ -44,102 +16,8 @@ part-result-start c = search needs
 part-result-end : tie.Need-part-result-end
 part-result-end c = search needs
 
--- no name: the empty part starts where the sheet does
 returns : tie.Need-returns
-returns c =
-    let r = c .before .before .before in
-    let e = sym (r .read .ensures .answered) ∙ c .before .enum-told .given .1 in
-    no-part (sheet r) (entry r) _ _ (name-none _ _ e) (omega arith)
-
-sub-result-2 : tie.Need-sub-result-2
-sub-result-2 c = search needs
-
-part-result-start-2 : tie.Need-part-result-start-2
-part-result-start-2 c = search needs
-
-part-result-end-2 : tie.Need-part-result-end-2
-part-result-end-2 c = search needs
-
-returns-2 : tie.Need-returns-2
-returns-2 c =
-    let n = c .before .before .before in
-    let r = n .before .before in
-    let past : n .n .given .0 .0 ≤ entry r = omega arith in
-    no-part (sheet r) (entry r) _ _ (name-past _ _ (counted n) past) (omega arith)
-
-line-end-requires : tie.Need-line-end-requires
-line-end-requires c κs = search needs
-
--- line 1 has that many names
-has : (c : tie.After-line-end) →
-    let r = c .before .before .before .before .before in
-    entry r < length (cut 32 (take (c .line-end .result) (sheet r)))
-has c =
-    let n = c .before .before .before in
-    let r = n .before .before in
-    entry-in (sheet r) _ (entry r) _ (c .line-end .ensures) (entries-is _ _ (counted n) .1) (c .before .if1 .left)
-
-slice-aggregate-piece-start : tie.Need-slice-aggregate-piece-start
-slice-aggregate-piece-start c = line-length (sheet (c .before .before .before .before .before .before)) _ (c .before .line-end .ensures)
-
-piece-start-requires : tie.Need-piece-start-requires
-piece-start-requires c κs = has (c .before)
-
-slice-aggregate-piece-end : tie.Need-slice-aggregate-piece-end
-slice-aggregate-piece-end c =
-    let e = c .before .before .before in
-    line-length (sheet (e .before .before .before .before .before)) _ (e .line-end .ensures)
-
-piece-end-requires : tie.Need-piece-end-requires
-piece-end-requires c κs =
-    let e = c .before .before .before in
-    let r = e .before .before .before .before .before in
-    name-from (sheet r) _ _ (entry r) (e .line-end .ensures) (has e) (c .before .piece-start .ensures)
-
-sub-result-3 : tie.Need-sub-result-3
-sub-result-3 c = search needs
-
-part-result-start-3 : tie.Need-part-result-start-3
-part-result-start-3 c = search needs
-
-part-result-end-3 : tie.Need-part-result-end-3
-part-result-end-3 c =
-    let e = c .before .before .before .before in
-    let r = e .before .before .before .before .before in
-    name-inside (sheet r) _ _ (entry r) (e .line-end .ensures) (has e) (c .before .before .piece-start .ensures) _ _ (c .piece-end .ensures)
-
-returns-3 : tie.Need-returns-3
-returns-3 c =
-    let e = c .before .before .before .before .before in
-    let n = e .before .before .before in
-    let r = n .before .before in
-    let l = e .line-end .ensures in
-    let f = c .before .before .before .piece-start .ensures in
-    name-part (sheet r) (entry r) _ _ (name-some _ _ (counted n) (e .before .if1 .left))
-    (name-bytes (sheet r) _ _ (entry r) l (has e) f _ (c .before .piece-end .ensures))
-    (name-start (sheet r) _ _ (entry r) l (has e) f)
+returns c = part-call _ _ _ _ _ (c .before .name-part .ensures)
 
 pub name-spec : {M : Type 1} → statement M
-name-spec =
-    tie.close
-    (tie.spec
-    read-requires
-    enum-known-n
-    enum-told
-    sub-result
-    part-result-start
-    part-result-end
-    returns
-    sub-result-2
-    part-result-start-2
-    part-result-end-2
-    returns-2
-    line-end-requires
-    slice-aggregate-piece-start
-    piece-start-requires
-    slice-aggregate-piece-end
-    piece-end-requires
-    sub-result-3
-    part-result-start-3
-    part-result-end-3
-    returns-3)
+name-spec = tie.close (tie.spec name-part-requires sub-result part-result-start part-result-end returns)

@@ -1,9 +1,9 @@
 use borrow.Author.Needs.{needs}
 use mir.Syntax.{w64}
 use Rattle.integers.proofs.Held.{passed}
-use Rattle.exported.proofs.Small.{read-small}
-use Rattle.exported.proofs.exported_read.Statement.{statement}
-use Rattle.exported.proofs.exported_read.Tie as tie
+use Rattle.farzhudyl.proofs.Small.{read-small}
+use Rattle.farzhudyl.proofs.farzhudyl_pair_list.Statement.{statement}
+use Rattle.farzhudyl.proofs.farzhudyl_pair_list.Tie as tie
 
 read-requires : tie.Need-read-requires
 read-requires c κs = search needs
@@ -15,8 +15,8 @@ returns : tie.Need-returns
 returns c = record {
   given = c .before .read .result;
   number = passed w64 (c .as-number .ok) (c .as-number .ensures);
-  holds = c .before .read .ensures;
+  outcome = c .before .read .ensures;
 }
 
-pub exported-read-spec : {M : Type 1} → statement M
-exported-read-spec = tie.close (tie.spec read-requires as-number-requires returns)
+pub farzhudyl-pair-list-spec : {M : Type 1} → statement M
+farzhudyl-pair-list-spec = tie.close (tie.spec read-requires as-number-requires returns)

@@ -4,9 +4,9 @@ use mir.Syntax.{w32, w64}
 use mir.Val.{ofZ, toZ}
 use mir.Facts.{toZ-ofZ}
 use Rattle.integers.proofs.Held.{passed}
-use Rattle.exported.proofs.Small.{numbers-small}
-use Rattle.exported.proofs.exported_numbers.Statement.{statement}
-use Rattle.exported.proofs.exported_numbers.Tie as tie
+use Rattle.farzhudyl.proofs.Small.{numbers-small}
+use Rattle.farzhudyl.proofs.farzhudyl_numbers.Statement.{statement}
+use Rattle.farzhudyl.proofs.farzhudyl_numbers.Tie as tie
 
 numbers-requires : tie.Need-numbers-requires
 numbers-requires c κs = search needs
@@ -26,8 +26,8 @@ returns : tie.Need-returns
 returns c = record {
   given = c .before .before .before .before .numbers .result;
   number = passed w64 (c .as-number .ok) (c .as-number .ensures);
-  holds = rw (toZ-ofZ (c .before .before .before .before .before .before .before .before .fits .kind)) at (c .before .before .before .before .numbers .ensures);
+  outcome = rw (toZ-ofZ (c .before .before .before .before .before .before .before .before .fits .kind)) at (c .before .before .before .before .numbers .ensures);
 }
 
-pub exported-numbers-spec : {M : Type 1} → statement M
-exported-numbers-spec = tie.close (tie.spec numbers-requires as-number-requires same-length same-length-2 returns)
+pub farzhudyl-numbers-spec : {M : Type 1} → statement M
+farzhudyl-numbers-spec = tie.close (tie.spec numbers-requires as-number-requires same-length same-length-2 returns)

@@ -2,9 +2,9 @@ use borrow.Author.Needs.{needs}
 use lib.ListN.{length}
 use mir.Syntax.{w64}
 use Rattle.integers.proofs.Held.{passed}
-use Rattle.exported.proofs.Small.{linkage-small}
-use Rattle.exported.proofs.exported_average_linkage.Statement.{statement}
-use Rattle.exported.proofs.exported_average_linkage.Tie as tie
+use Rattle.farzhudyl.proofs.Small.{linkage-small}
+use Rattle.farzhudyl.proofs.farzhudyl_average_linkage.Statement.{statement}
+use Rattle.farzhudyl.proofs.farzhudyl_average_linkage.Tie as tie
 
 average-linkage-requires : tie.Need-average-linkage-requires
 average-linkage-requires c κs = search needs
@@ -20,8 +20,8 @@ returns : tie.Need-returns
 returns c = record {
   given = c .before .before .before .average-linkage .result;
   number = passed w64 (c .as-number .ok) (c .as-number .ensures);
-  holds = c .before .before .before .average-linkage .ensures;
+  outcome = c .before .before .before .average-linkage .ensures;
 }
 
-pub exported-average-linkage-spec : {M : Type 1} → statement M
-exported-average-linkage-spec = tie.close (tie.spec average-linkage-requires as-number-requires same-length returns)
+pub farzhudyl-average-linkage-spec : {M : Type 1} → statement M
+farzhudyl-average-linkage-spec = tie.close (tie.spec average-linkage-requires as-number-requires same-length returns)

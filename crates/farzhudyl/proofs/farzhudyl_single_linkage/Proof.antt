@@ -2,9 +2,9 @@ use borrow.Author.Needs.{needs}
 use lib.ListN.{length}
 use mir.Syntax.{w64}
 use Rattle.integers.proofs.Held.{passed}
-use Rattle.exported.proofs.Small.{linkage-small}
-use Rattle.exported.proofs.exported_single_linkage.Statement.{statement}
-use Rattle.exported.proofs.exported_single_linkage.Tie as tie
+use Rattle.farzhudyl.proofs.Small.{linkage-small}
+use Rattle.farzhudyl.proofs.farzhudyl_single_linkage.Statement.{statement}
+use Rattle.farzhudyl.proofs.farzhudyl_single_linkage.Tie as tie
 
 single-linkage-requires : tie.Need-single-linkage-requires
 single-linkage-requires c κs = search needs
@@ -20,8 +20,8 @@ returns : tie.Need-returns
 returns c = record {
   given = c .before .before .before .single-linkage .result;
   number = passed w64 (c .as-number .ok) (c .as-number .ensures);
-  holds = c .before .before .before .single-linkage .ensures;
+  outcome = c .before .before .before .single-linkage .ensures;
 }
 
-pub exported-single-linkage-spec : {M : Type 1} → statement M
-exported-single-linkage-spec = tie.close (tie.spec single-linkage-requires as-number-requires same-length returns)
+pub farzhudyl-single-linkage-spec : {M : Type 1} → statement M
+farzhudyl-single-linkage-spec = tie.close (tie.spec single-linkage-requires as-number-requires same-length returns)
