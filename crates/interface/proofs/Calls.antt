@@ -37,7 +37,7 @@ use Rattle.interface.specs.Refusals.{
   scoreChecks,
   scoreRefusal,
 }
-use Rattle.interface.specs.Calls.{NumbersCall, setsFound, indicesFound, isPair, scoreAmong}
+use Rattle.interface.specs.Calls.{NumbersCall, setsFound, indicesFound, isPair, scoreAmong, ScoreInC}
 
 -- Of the bench's three entries, own 6, others 5, and of one entry: what the numbers call finds; each number of each call's table, and 0 where no
 -- line holds; scores of two entries, and of what is no pair.
@@ -133,3 +133,12 @@ pub numbers-refused : (lentSets sets : List ℕ) (lentIndices indices : List ℤ
     → NumbersCall (pos 0) 3 own lentSets lentIndices r sets indices → (r ≡ Refused 1) × (sets ≡ lentSets) × (indices ≡ lentIndices)
 unfolding numbersRefusal numbersChecks firstOf wrongKind eqZ answer filled
 numbers-refused lentSets sets lentIndices indices r c = (c .answered, c .setsWritten, c .indicesWritten)
+
+-- a score looked up in C: put in the slot, or nothing is written; a score below 0 is no refusal
+pub score-example : (lent r after : ℤ) → ScoreInC 2 (pos 0 ∷ negsuc 4 ∷ pos 0 ∷ []) 0 1 lent r after → (r ≡ pos 0) × (after ≡ negsuc 4)
+unfolding rowStart place score hasLength firstOf mostEntries wrongCount wrongAnchor scoreChecks scoreRefusal
+score-example lent r after c = (c .answered, c .written)
+
+pub score-refused : (lent r after : ℤ) → ScoreInC 3 own 0 3 lent r after → (r ≡ pos 15) × (after ≡ lent)
+unfolding own rowStart place score hasLength firstOf mostEntries wrongCount wrongAnchor scoreChecks scoreRefusal
+score-refused lent r after c = (c .answered, c .written)

@@ -6,7 +6,7 @@ use Prim.Native.Nat.{ℕ, _+_, _/_, _%_, _<_, _≤_}
 use native.Mathlib.Omega.{arith}
 use lib.Dec.{T, ltb, ltb→lt}
 use lib.IntN.{ℤ, pos, negsuc, negℤ}
-use lib.ListN.{length, drop-of-length-le}
+use lib.ListN.{length, take, drop, drop-of-length-le}
 use Rattle.lists.specs.Lists.{_∈_, below, each, keep, all}
 use Rattle.lists.proofs.Lists.{all-in, of-map-cong}
 use Rattle.integers.specs.Integers.{minZ, maxZ, eqZ, least}
@@ -84,7 +84,7 @@ use Rattle.interface.specs.Refusals.{
   readerChecks,
   readerRefusal,
 }
-use Rattle.interface.specs.Calls.{cNumber, CCall, hasName, nameOf, startOf, nameStart}
+use Rattle.interface.specs.Calls.{cNumber, CCall, hasName, nameOf, startOf, nameStart, NameInC}
 use Rattle.interface.proofs.Refusals.{first-iff}
 use Rattle.interface.proofs.Demands.{answered, demand-1}
 
@@ -237,3 +237,6 @@ signed-pairs = computed .signed-is
 
 pub name-place : (nameOf parted 1 ≡ 65 ∷ []) × (nameStart parted 1 ≡ 3)
 name-place = (computed .name, computed .start)
+
+pub name-in-C : (r start : ℕ) → NameInC parted 1 r start → (r ≡ 1) × (start ≡ 3) × (take r (drop start parted) ≡ 65 ∷ [])
+name-in-C r start c = (c .answered ∙ ap length (computed .name), c .lies ∙ computed .start, c .bytes ∙ computed .name)

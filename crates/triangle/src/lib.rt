@@ -64,10 +64,10 @@ pub fn score_refusal(n: usize, pairs: &[i32], a: usize, b: usize) -> usize
     if refused != 0 {
         return refused;
     }
-    if a >= n {
+    if n <= a {
         return 15;
     }
-    if b >= n {
+    if n <= b {
         return 15;
     }
     0
