@@ -1,0 +1,282 @@
+#!/usr/bin/env bash
+# Compiles the header alone and every program of examples/, as C11 and as C++17. Runs each program on every sheet of examples/ and of
+# tests/examples/ under each kind, and compares what it writes with tests/examples/PROGRAM/SHEET.KIND, or with the file beside the sheet
+# (examples/SHEET.KIND for client, examples/SHEET.KIND.names for show). Tries bad usage, refused sheets, input and output that fail, and
+# for lines damaged listings. Runs the C builds under valgrind. The last line is `N passed, M failed`; the exit status is 1 if anything
+# failed.
+# usage: tests/examples.sh [PREFIX]     PREFIX is where the library is installed; without it, this folder's header and library are taken
+set -u
+root=$(cd "$(dirname "$0")/.." && pwd) || exit 2
+# shellcheck source=scripts/tools.sh
+. "$root/scripts/tools.sh"
+# shellcheck source=scripts/library.sh
+. "$root/scripts/library.sh"
+if [ $# -gt 1 ]; then
+    echo "usage: tests/examples.sh [PREFIX]" >&2
+    exit 2
+fi
+need gcc gcc
+need g++ g++
+need valgrind valgrind
+if [ $# = 1 ]; then
+    need pkg-config pkg-config
+    prefix=$(cd "$1" && pwd) || exit 2
+    if [ ! -f "$prefix/lib/pkgconfig/farzhudyl.pc" ]; then
+        echo "missing: $prefix/lib/pkgconfig/farzhudyl.pc" >&2
+        exit 2
+    fi
+    # xargs takes a space in a path as pkg-config writes it.
+    mapfile -t library < <(PKG_CONFIG_PATH=$prefix/lib/pkgconfig pkg-config --cflags --libs farzhudyl | xargs -r printf '%s\n')
+    mapfile -t header < <(PKG_CONFIG_PATH=$prefix/lib/pkgconfig pkg-config --cflags farzhudyl | xargs -r printf '%s\n')
+else
+    find_libraries "$root" farzhudyl
+    library=(-Iinclude "$FARZHUDYL_LIB_DIR/libfarzhudyl.a")
+    header=(-Iinclude)
+fi
+cd "$root" || exit 2
+built=$(mktemp -d) || exit 2
+trap 'rm -rf "$built"' EXIT
+mkdir "$built/c" "$built/c++" "$built/given" || exit 2
+
+words=('' strong clean splits)
+reasons=(
+    [2]='the sheet has no bytes, or over 12,288'
+    [3]='a byte of the sheet is not A to Z, 0 to 9, minus, space or line feed'
+    [4]='line 1 has no line feed, or is not one or more names, single spaces between'
+    [5]='two names are equal'
+    [6]='there are over 32 names'
+    [7]='there are not as many lines of values as names, or the last line has no line feed'
+    [8]='a line does not have as many well-formed values as there are names, single spaces between'
+    [9]='two mirrored values differ'
+    [11]='a value is below -1,000,000 or above 1,000,000'
+    [12]='a distance is negative, or that of an entry to itself is not 0'
+)
+passed=0
+failed=0
+
+count() { # STATUS NAME
+    if [ "$1" = 0 ]; then
+        passed=$((passed + 1))
+    else
+        echo "failed: $2"
+        failed=$((failed + 1))
+    fi
+}
+
+# Compiles C files as C or as C++; the symbols are for valgrind's reports.
+compile() { # c|c++ WORD ..
+    local language=$1
+    shift
+    case $language in
+        c) gcc -std=c11 -g -Wall -Wextra -Werror -pedantic -x c "$@" ;;
+        c++) g++ -std=c++17 -g -Wall -Wextra -Werror -pedantic -x c++ "$@" ;;
+    esac
+}
+
+# A command ends with this status and has written the bytes of this file, and on standard error this line, or nothing if it is empty.
+expect() { # NAME STATUS FILE LINE COMMAND ..   the sheet on standard input
+    local name=$1 status=$2 file=$3 line=$4 ended=0
+    shift 4
+    "$@" >"$built/out" 2>"$built/err" || ended=$?
+    printf '%s' "${line:+$line$'\n'}" >"$built/line"
+    if [ "$ended" = "$status" ] && cmp "$file" "$built/out" && cmp "$built/line" "$built/err"; then
+        count 0 "$name"
+    else
+        count 1 "$name"
+        echo "exit status $ended, wanted $status; standard output and standard error, < wanted, > found:"
+        diff "$file" "$built/out"
+        diff "$built/line" "$built/err"
+    fi
+}
+
+# A command writes `refused N` and ends with 1; show says why.
+expect_refusal() { # NAME NUMBER PROGRAM COMMAND ..   the sheet on standard input
+    local name=$1 number=$2 line=''
+    if [ "$3" = show ]; then line="show: ${reasons[$number]}"; fi
+    shift 3
+    echo "refused $number" >"$built/wanted"
+    expect "$name" 1 "$built/wanted" "$line" "$@"
+}
+
+# The word for a kind: show takes the kind's name, the others its number.
+word() { # PROGRAM KIND
+    if [ "$1" = show ]; then echo "${words[$2]}"; else echo "$2"; fi
+}
+
+# The file that says what a program writes.
+wanted() { # PROGRAM SHEET KIND
+    local beside=examples/$2.${words[$3]}
+    if [ "$1" = client ] && [ -f "$beside" ]; then
+        echo "$beside"
+    elif [ "$1" = show ] && [ -f "$beside.names" ]; then
+        echo "$beside.names"
+    else
+        echo "tests/examples/$1/$2.${words[$3]}"
+    fi
+}
+
+# Runs a program on a sheet.
+on_sheet() { # PROGRAM SHEET-FILE KIND COMMAND ..
+    local program=$1 sheet=$2 kind=$3 file
+    shift 3
+    file=$(wanted "$program" "$(basename "$sheet" .sheet)" "$kind")
+    if [ "$(head -c 8 "$file")" = 'refused ' ]; then
+        expect_refusal "$* ${words[$kind]}, $sheet" "$(cut -d ' ' -f 2 "$file")" "$program" "$@" "$(word "$program" "$kind")" <"$sheet"
+    else
+        expect "$* ${words[$kind]}, $sheet" 0 "$file" '' "$@" "$(word "$program" "$kind")" <"$sheet"
+    fi
+}
+
+# Runs a program on a refused sheet.
+on_refused() { # PROGRAM NUMBER.WHAT KIND COMMAND ..
+    local program=$1 sheet=$2 kind=$3
+    shift 3
+    expect_refusal "$* ${words[$kind]}, $sheet" "${sheet%%.*}" "$program" "$@" "$(word "$program" "$kind")" <"$built/refused/$sheet"
+}
+
+# Bad arguments: one line about usage. Numbers that are no kind go to the library.
+on_arguments() { # PROGRAM FILE
+    local program=$1 file=$2 usage argument
+    local no_kinds=('' ' 1' '1 ' '+1' '1x' 'x1' '01' '-0' '-' '1.0' '0x1' '1e0' $'1\n' 4294967297 4294967298 -4294967295 2147483648
+        -2147483649 9223372036854775808 18446744073709551617 -18446744073709551615 100000000000000000000001 strong)
+    if [ "$program" = show ]; then
+        usage='usage: show strong|clean|splits < SHEET'
+        no_kinds=('' ' strong' 'strong ' Strong stron strongx groups 1 2 3 0 $'clean\n')
+    else
+        usage="usage: $program 1|2|3 < SHEET"
+        for argument in 0 4 -1 -7 255 257 65537 2147483647 -2147483648; do
+            expect_refusal "$file $argument" 1 "$program" "$file" "$argument" <examples/four.sheet
+        done
+    fi
+    for argument in "${no_kinds[@]}"; do
+        expect "$file '$argument'" 2 /dev/null "$usage" "$file" "$argument" <examples/four.sheet
+    done
+    expect "$file without an argument" 2 /dev/null "$usage" "$file" <examples/four.sheet
+    argument=$(word "$program" 1)
+    expect "$file with two arguments" 2 /dev/null "$usage" "$file" "$argument" "$argument" <examples/four.sheet
+}
+
+from_folder() { "$@" </; }
+from_closed() { "$@" <&-; }
+to_full() { "$@" >/dev/full; }
+to_closed() { "$@" >&-; }
+
+# Input and output that fail.
+on_failures() { # PROGRAM FILE
+    local program=$1 file=$2 kind way
+    for kind in 1 3; do # a listing, and a refusal
+        for way in from_folder from_closed; do
+            expect "$way $file $kind" 2 /dev/null "$program: cannot read standard input" "$way" "$file" "$(word "$program" "$kind")"
+        done
+        for way in to_full to_closed; do
+            expect "$way $file $kind" 2 /dev/null "$program: cannot write standard output" "$way" "$file" \
+                "$(word "$program" "$kind")" <examples/four.sheet
+        done
+    done
+}
+
+# The refused sheets, NUMBER.WHAT.
+mkdir "$built/refused" && cd "$built/refused" || exit 2
+printf '' >2.no-bytes
+head -c 12289 /dev/zero | tr '\0' 'A' >2.12289-bytes
+head -c 100000 /dev/zero | tr '\0' '\n' >2.100000-bytes
+head -c 12288 /dev/zero | tr '\0' 'A' >4.12288-bytes
+printf 'A B\n9 8\n8 9\r\n' >3.carriage-return
+printf 'A B\n9\t8\n8 9\n' >3.tab
+printf 'A b\n9 8\n8 9\n' >3.lower-case
+printf 'A B\n9 8\n8 9\n\0' >3.byte-0
+printf 'A B' >4.no-line-feed
+printf '\n' >4.no-name
+printf 'A  B\n9 8\n8 9\n' >4.two-spaces
+printf 'A LONGNAME9\n9 8\n8 9\n' >4.nine-bytes
+printf 'A B A\n9 8 7\n8 9 6\n7 6 9\n' >5.equal-names
+seq -f 'N%g' -s ' ' 33 >6.33-names
+printf 'A B\n9 8\n' >7.line-missing
+printf 'A B\n9 8\n8 9\n\n' >7.line-too-many
+printf 'A B\n9 8\n8 9' >7.no-line-feed
+printf 'A B\n9 8\n8\n' >8.value-missing
+printf 'A B\n9 -0\n-0 9\n' >8.minus-zero
+printf 'A B\n9 8\n8 9 \n' >8.space-at-end
+printf 'A B\n9 8\n7 9\n' >9.mirrored
+printf 'A B\n0 1000001\n1000001 0\n' >11.over
+printf 'A B\n0 -1000001\n-1000001 0\n' >11.under
+printf 'A B\n0 -1\n-1 0\n' >12.negative
+printf 'A B\n0 1\n1 1\n' >12.own
+cd "$root" || exit 2
+
+printf '#include "farzhudyl.h"\n#include "farzhudyl.h"\n' >"$built/alone.c"
+for language in c c++; do
+    compile "$language" -c "$built/alone.c" "${header[@]}" -o "$built/alone.o"
+    count $? "the header alone, as $language"
+    for source in examples/*.c; do
+        program=$(basename "$source" .c)
+        file=$built/$language/$program
+        compile "$language" "$source" -x none "${library[@]}" -o "$file"
+        status=$?
+        count "$status" "compiling $source as $language"
+        if [ "$status" != 0 ]; then continue; fi
+        for sheet in examples/*.sheet tests/examples/*.sheet; do
+            for kind in 1 2 3; do on_sheet "$program" "$sheet" "$kind" "$file"; done
+        done
+        for sheet in "$built"/refused/*; do
+            sheet=$(basename "$sheet")
+            for kind in 1 2 3; do
+                if [ "${sheet%%.*}" != 12 ] || [ "$kind" = 3 ]; then on_refused "$program" "$sheet" "$kind" "$file"; fi
+            done
+        done
+        on_arguments "$program" "$file"
+        on_failures "$program" "$file"
+    done
+done
+
+memory=(valgrind --quiet --error-exitcode=3 --leak-check=full --errors-for-leak-kinds=all)
+for source in examples/*.c; do
+    program=$(basename "$source" .c)
+    file=$built/c/$program
+    if [ ! -x "$file" ]; then continue; fi
+    on_sheet "$program" examples/burials.sheet 1 "${memory[@]}" "$file"
+    on_sheet "$program" examples/burials.sheet 2 "${memory[@]}" "$file"
+    on_sheet "$program" examples/registers.sheet 3 "${memory[@]}" "$file"
+    on_sheet "$program" tests/examples/full.sheet 1 "${memory[@]}" "$file"
+    for sheet in 2.no-bytes 2.12289-bytes 9.mirrored 12.own; do on_refused "$program" "$sheet" 3 "${memory[@]}" "$file"; done
+done
+
+# How lines reads a listing: each case is a listing, in which printf's escapes stand for bytes.
+first='set size index\n'
+no_listings=(
+    '' 'set size index' 'Set size index\n' 'set size  index\n' '00000001 1 1\n' '\n' "\\n$first" "$first\\n" "$first$first" "$first\\0"
+    "${first}00000001 1 1" "${first}00000001 1 1 \\n" "${first}00000001 1 1\\n\\n" "${first}00000001 1 1\\n\\0" "${first}00000001 1 1\\r\\n"
+    "${first}00000001 1\\n" "${first}00000001\\n" "${first}0000000" "${first}00000001 1 " "${first}00000001 1 1\\n00000002"
+    "${first} 00000001 1 1\\n" "${first}00000001  1 1\\n" "${first}00000001 1  1\\n" "${first}00000001\\t1 1\\n"
+    "${first}0000001 1 1\\n" "${first}000000001 1 1\\n" "${first}0x000001 1 1\\n" "${first}0000000A 2 1\\n" "${first}0000000g 2 1\\n"
+    "${first}00000000 0 1\\n" "${first}00000003 1 1\\n" "${first}00000003 3 1\\n" "${first}00000003 02 1\\n" "${first}00000003 +2 1\\n"
+    "${first}00000003 4294967298 1\\n" "${first}00000001 1 0\\n" "${first}00000001 1 01\\n" "${first}00000001 1 -1\\n"
+    "${first}00000001 1 +1\\n" "${first}00000001 1 1x\\n" "${first}00000001 1 1000000000000000000\\n"
+    "${first}00000001 1 18446744073709551617\\n" "${first}00000001 1 1\\n00000001 1 1\\n" "${first}00000002 1 1\\n00000001 1 1\\n"
+    "${first}00000003 2 1\\n00000004 1 1\\n"
+)
+rising=''
+for ((a = 0; a < 32; a++)); do rising+=$(printf '%08x 1 1' $((1 << a)))'\n'; done
+for ((a = 1; a < 9; a++)); do
+    for ((b = 0; b < a && a * (a - 1) / 2 + b < 32; b++)); do rising+=$(printf '%08x 2 1' $((1 << a | 1 << b)))'\n'; done
+done
+file=$built/given/lines
+compile c examples/lines.c tests/examples/given_listing.c "${header[@]}" -o "$file"
+status=$?
+count "$status" "compiling examples/lines.c for given listings"
+if [ "$status" = 0 ]; then
+    for listing in "${no_listings[@]}" "$first${rising}00010001 2 1\\n"; do
+        expect "lines of $listing" 2 /dev/null 'lines: these bytes are no listing' "$file" 1 < <(printf '%b' "$listing")
+    done
+    printf 'lines 0\n' >"$built/wanted"
+    expect "lines of no group" 0 "$built/wanted" '' "$file" 1 < <(printf '%b' "$first")
+    printf 'lines 64\nlargest: set 00000003, size 2, index 1\ngreatest index: set 00000001, size 1, index 1\n' >"$built/wanted"
+    expect "lines of 64 groups" 0 "$built/wanted" '' "$file" 1 < <(printf '%b' "$first$rising")
+    printf '%s\n' 'lines 2' 'largest: set ffffffff, size 32, index 2' 'greatest index: set abcdef09, size 19, index 999999999999999999' \
+        >"$built/wanted"
+    expect "lines of the greatest numbers" 0 "$built/wanted" '' "$file" 1 \
+        < <(printf '%b' "${first}abcdef09 19 999999999999999999\\nffffffff 32 2\\n")
+fi
+
+echo "$passed passed, $failed failed"
+[ "$failed" = 0 ]
