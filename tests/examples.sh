@@ -248,7 +248,7 @@ no_listings=(
     "${first}00000001 1 1" "${first}00000001 1 1 \\n" "${first}00000001 1 1\\n\\n" "${first}00000001 1 1\\n\\0" "${first}00000001 1 1\\r\\n"
     "${first}00000001 1\\n" "${first}00000001\\n" "${first}0000000" "${first}00000001 1 " "${first}00000001 1 1\\n00000002"
     "${first} 00000001 1 1\\n" "${first}00000001  1 1\\n" "${first}00000001 1  1\\n" "${first}00000001\\t1 1\\n"
-    "${first}0000001 1 1\\n" "${first}000000001 1 1\\n" "${first}0x000001 1 1\\n" "${first}0000000A 2 1\\n" "${first}0000000g 2 1\\n"
+    "${first}0000001 1 1\\n" "${first}000000001 1 1\\n" "${first}0x000001 1 1\\n" "${first}0000000A 2 1\\n" "${first}0000000g 1 1\\n"
     "${first}00000000 0 1\\n" "${first}00000003 1 1\\n" "${first}00000003 3 1\\n" "${first}00000003 02 1\\n" "${first}00000003 +2 1\\n"
     "${first}00000003 4294967298 1\\n" "${first}00000001 1 0\\n" "${first}00000001 1 01\\n" "${first}00000001 1 -1\\n"
     "${first}00000001 1 +1\\n" "${first}00000001 1 1x\\n" "${first}00000001 1 1000000000000000000\\n"
@@ -267,6 +267,11 @@ count "$status" "compiling examples/lines.c for given listings"
 if [ "$status" = 0 ]; then
     for listing in "${no_listings[@]}" "$first${rising}00010001 2 1\\n"; do
         expect "lines of $listing" 2 /dev/null 'lines: these bytes are no listing' "$file" 1 < <(printf '%b' "$listing")
+    done
+    for listing in '' 'set size' "${first}0" "${first}0000000" "${first}00000001" "${first}00000001 " "${first}00000001 1" \
+        "${first}00000001 1 " "${first}00000001 1 1"; do
+        expect "lines of $listing, under valgrind" 2 /dev/null 'lines: these bytes are no listing' "${memory[@]}" "$file" 1 \
+            < <(printf '%b' "$listing")
     done
     printf 'lines 0\n' >"$built/wanted"
     expect "lines of no group" 0 "$built/wanted" '' "$file" 1 < <(printf '%b' "$first")
