@@ -7,13 +7,14 @@ use std::cmp::Ordering;
 /// The number of the refusal, as in the table.
 pub type Refusal = i64;
 
-const MOST_BYTES: usize = 12_288;
+/// The bytes that a sheet may have.
+pub const MOST_BYTES: usize = 12_288;
 const MOST_ENTRIES: usize = 32;
 const GREATEST: i32 = 1_000_000;
 
-const STRONG: i32 = 1;
-const CLEAN: i32 = 2;
-const SPLITS: i32 = 3;
+pub const STRONG: i32 = 1;
+pub const CLEAN: i32 = 2;
+pub const SPLITS: i32 = 3;
 
 // ---------------------------------------------------------------- The sheet
 
@@ -113,12 +114,17 @@ pub fn read(sheet: &[u8], slots: &mut [i32]) -> Result<usize, Refusal> {
     Ok(names.len())
 }
 
-/// The name of an entry, counted from 0, as its own part of the sheet; the
-/// empty part if checks 2 to 9 refuse the sheet or there is no such entry.
-pub fn name(sheet: &[u8], entry: usize) -> &[u8] {
+/// The name of an entry, counted from 0: where it starts, and its own part of
+/// the sheet. 0 and the empty part if checks 2 to 9 refuse the sheet or there is
+/// no such entry.
+pub fn name(sheet: &[u8], entry: usize) -> (usize, &[u8]) {
     match read_sheet(sheet) {
-        Ok(Sheet { names, .. }) if entry < names.len() => names[entry],
-        _ => &sheet[..0],
+        Ok(Sheet { names, .. }) if entry < names.len() => {
+            // Each name before it, and the space behind.
+            let start = names[..entry].iter().map(|name| name.len() + 1).sum();
+            (start, names[entry])
+        }
+        _ => (0, &sheet[..0]),
     }
 }
 
@@ -138,17 +144,6 @@ impl<'a> Scores<'a> {
     fn at(self, a: usize, b: usize) -> i64 {
         let (row, column) = (a.max(b), a.min(b));
         i64::from(self.pairs[pair_count(row) + column])
-    }
-}
-
-/// The score of two entries; 0 if this is no pair list of n entries, or a or b
-/// none of them.
-pub fn score(n: usize, pairs: &[i32], a: usize, b: usize) -> i64 {
-    let is_list = check_entries(n).is_ok() && check_length(n, pairs).is_ok();
-    if is_list && a < n && b < n {
-        Scores::new(n, pairs).at(a, b)
-    } else {
-        0
     }
 }
 
@@ -612,6 +607,15 @@ fn distances_behind(n: usize, scores: &[i32], anchor: usize) -> Option<Vec<i32>>
         .zip(scores)
         .all(|(&s, &given)| s == i64::from(given));
     same.then_some(list)
+}
+
+/// The score of two entries, counted from 0, in a pair list.
+pub fn score(n: usize, pairs: &[i32], a: usize, b: usize) -> Result<i32, Refusal> {
+    check_entries(n)?;
+    check_length(n, pairs)?;
+    refuse_if(a >= n || b >= n, 15)?;
+    let score = Scores::new(n, pairs).at(a, b);
+    Ok(i32::try_from(score).expect("it is a value of the list"))
 }
 
 #[cfg(test)]

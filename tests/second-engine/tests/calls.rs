@@ -1,4 +1,5 @@
-//! The calls without a C face: names, numbers, linkage, anchored scores.
+//! The calls that write no listing: names, numbers, linkage, anchored scores,
+//! the score of two entries.
 
 use second_engine::engine::{
     anchored, is_tree, linkage, linkage_refusal, name, numbers, read, score, way_back, Method,
@@ -8,15 +9,28 @@ use second_engine::engine::{
 fn names_are_parts_of_the_sheet() {
     let sheet = b"AB C3 D\n0 1 2\n1 0 3\n2 3 0\n";
     for (entry, (start, end)) in [(0, 2), (3, 5), (6, 7)].into_iter().enumerate() {
-        assert!(std::ptr::eq(name(sheet, entry), &sheet[start..end]));
+        let (found, part) = name(sheet, entry);
+        assert_eq!(found, start);
+        assert!(std::ptr::eq(part, &sheet[start..end]));
     }
-    assert_eq!(name(sheet, 3), b"");
-    assert_eq!(name(sheet, usize::MAX), b"");
-    assert_eq!(name(b"", 0), b"");
-    assert_eq!(name(b"A B\n0 1\n2 0\n", 0), b"");
+    let none: (usize, &[u8]) = (0, b"");
+    assert_eq!(name(sheet, 3), none);
+    assert_eq!(name(sheet, usize::MAX), none);
+    assert_eq!(name(b"", 0), none);
+    assert_eq!(name(b"A B\n0 1\n2 0\n", 0), none);
+    assert_eq!(name(b"A B\n0 1\n2 0\n", 1), none);
     // Checks 11 and 12 are none of its business.
-    assert_eq!(name(b"A\n9999999\n", 0), b"A");
-    assert_eq!(name(b"A\n-1\n", 0), b"A");
+    assert_eq!(name(b"A\n9999999\n", 0), (0, &b"A"[..]));
+    assert_eq!(name(b"A\n-1\n", 0), (0, &b"A"[..]));
+}
+
+/// Each name's bytes stand in an earlier name too.
+#[test]
+fn names_within_names() {
+    let sheet = b"AAB AB B\n0 0 0\n0 0 0\n0 0 0\n";
+    assert_eq!(name(sheet, 0), (0, &b"AAB"[..]));
+    assert_eq!(name(sheet, 1), (4, &b"AB"[..]));
+    assert_eq!(name(sheet, 2), (7, &b"B"[..]));
 }
 
 #[test]
@@ -30,13 +44,23 @@ fn a_pair_list_is_read() {
 
 #[test]
 fn scores_of_two_entries() {
-    assert_eq!(score(2, &[1, 2, 3], 0, 1), 2);
-    assert_eq!(score(2, &[1, 2, 3], 1, 0), 2);
-    assert_eq!(score(2, &[1, i32::MIN, 3], 0, 1), i64::from(i32::MIN));
-    assert_eq!(score(2, &[1, 2, 3], 0, 2), 0);
-    assert_eq!(score(2, &[1, 2, 3, 4], 0, 1), 0);
-    assert_eq!(score(33, &[7; 561], 0, 0), 0);
-    assert_eq!(score(usize::MAX, &[], 0, 0), 0);
+    assert_eq!(score(2, &[1, 2, 3], 0, 1), Ok(2));
+    assert_eq!(score(2, &[1, 2, 3], 1, 0), Ok(2));
+    assert_eq!(score(2, &[1, 2, 3], 1, 1), Ok(3));
+    assert_eq!(score(2, &[1, i32::MIN, 3], 0, 1), Ok(i32::MIN));
+    assert_eq!(score(1, &[i32::MAX], 0, 0), Ok(i32::MAX));
+}
+
+#[test]
+fn scores_refuse_in_order() {
+    assert_eq!(score(0, &[], 0, 0), Err(6));
+    assert_eq!(score(33, &[7; 561], 0, 0), Err(6));
+    assert_eq!(score(usize::MAX, &[], 0, 0), Err(6));
+    assert_eq!(score(2, &[1, 2, 3, 4], 2, 2), Err(10));
+    assert_eq!(score(2, &[], 0, 0), Err(10));
+    assert_eq!(score(2, &[1, 2, 3], 0, 2), Err(15));
+    assert_eq!(score(2, &[1, 2, 3], 2, 0), Err(15));
+    assert_eq!(score(2, &[1, 2, 3], usize::MAX, 1 << 32), Err(15));
 }
 
 #[test]

@@ -1,11 +1,8 @@
-//! The comparison accepts an engine that is right and rejects ones that are
-//! not; the program writes what the engine answers.
+//! The comparison accepts an engine that is right and rejects ones that are not.
 
 use second_engine::compare::{compare, Case, SHEET_REFUSALS};
 use second_engine::engine::listing;
 use second_engine::generate::cases;
-use std::io::Write;
-use std::process::{Command, Stdio};
 
 const CASES: usize = 1_500;
 
@@ -105,35 +102,4 @@ fn writing_outside_the_buffer_does_not_pass() {
             length
         });
     }
-}
-
-fn program(words: &[&str], input: &[u8]) -> (Option<i32>, String) {
-    let mut child = Command::new(env!("CARGO_BIN_EXE_second-engine"))
-        .args(words)
-        .stdin(Stdio::piped())
-        .stdout(Stdio::piped())
-        .stderr(Stdio::null())
-        .spawn()
-        .unwrap();
-    let _ = child.stdin.take().unwrap().write_all(input);
-    let output = child.wait_with_output().unwrap();
-    let text = String::from_utf8(output.stdout).unwrap();
-    (output.status.code(), text)
-}
-
-#[test]
-fn the_program() {
-    let sheet = b"A B\n0 5\n5 0\n";
-    let whole = "set size index\n00000002 1 10\n";
-    assert_eq!(program(&["listing", "3"], sheet), (Some(0), whole.into()));
-    let refused = "refused 9\n";
-    let sheet = b"A B\n0 5\n4 0\n";
-    assert_eq!(program(&["listing", "3"], sheet), (Some(0), refused.into()));
-    let refused = "refused 2\n";
-    let long = vec![b'\n'; 200_000];
-    assert_eq!(program(&["listing", "1"], &long), (Some(0), refused.into()));
-    assert_eq!(program(&["listing"], b"").0, Some(2));
-    // No round, so no refusal is met.
-    assert_eq!(program(&["selfcheck", "0", "1"], b"").0, Some(1));
-    assert_eq!(program(&["selfcheck", "20", "1"], b"").0, Some(0));
 }
