@@ -1,6 +1,6 @@
 # shellcheck shell=bash
-# Sourced, after tools.sh, by the commands that link the engine: finds its libraries.
-# usage: find_libraries ROOT NAME ..     NAME is farzhudyl (the C call) or exported (the calls that have no C face, for tests)
+# Sourced, after tools.sh, by the commands that link the engine: finds its library.
+# usage: find_libraries ROOT NAME ..     NAME is farzhudyl, with every call of include/farzhudyl.h
 # FARZHUDYL_LIB_DIR is the folder of the libraries lib$NAME.a to take as they are. Without it they are target/staticlib's, made anew if
 # the crates have changed since; FARZHUDYL_LIB_DIR is then set.
 

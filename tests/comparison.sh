@@ -1,6 +1,6 @@
 #!/usr/bin/env bash
-# Holds the engine's C call, the calls that have no C face, and the plain C engine against the second engine, answer by answer, byte by
-# byte and slot by slot. The last line is `N passed, M failed`; the exit status is 1 if anything failed.
+# Holds every call of include/farzhudyl.h and the plain C engine against the second engine, answer by answer, byte by byte and slot by
+# slot. The last line is `N passed, M failed`; the exit status is 1 if anything failed.
 # usage: tests/comparison.sh [CASES [SEED]]     15,000 generated calls of each without CASES: about a minute
 set -u
 root=$(cd "$(dirname "$0")/.." && pwd) || exit 2
@@ -11,7 +11,7 @@ root=$(cd "$(dirname "$0")/.." && pwd) || exit 2
 need cargo cargo
 need gcc gcc
 need ar binutils
-find_libraries "$root" farzhudyl exported
+find_libraries "$root" farzhudyl
 cd "$root/tests/comparison" || exit 2
 cargo build --quiet --release --offline --locked || exit 2
 exec target/release/comparison "$@"

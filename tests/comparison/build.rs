@@ -1,4 +1,4 @@
-//! Links the engine's libraries, found in FARZHUDYL_LIB_DIR or else in
+//! Links the engine's library, found in FARZHUDYL_LIB_DIR or else in
 //! target/staticlib of the repository, and the plain C engine.
 
 use std::env;
@@ -23,17 +23,15 @@ fn link_engine(root: &Path) {
         Some(folder) => folder.into(),
         None => root.join("target/staticlib"),
     };
+    let library = folder.join("libfarzhudyl.a");
+    println!("cargo::rerun-if-changed={}", library.display());
+    assert!(
+        library.is_file(),
+        "no {}: `rt staticlib farzhudyl` makes it",
+        library.display()
+    );
     println!("cargo::rustc-link-search=native={}", folder.display());
-    for name in ["farzhudyl", "exported"] {
-        let library = folder.join(format!("lib{name}.a"));
-        println!("cargo::rerun-if-changed={}", library.display());
-        assert!(
-            library.is_file(),
-            "no {}: `rt staticlib {name}` makes it",
-            library.display()
-        );
-        println!("cargo::rustc-link-lib=static={name}");
-    }
+    println!("cargo::rustc-link-lib=static=farzhudyl");
 }
 
 fn link_plain(bench: &Path) {

@@ -15,7 +15,7 @@ macro_rules! slots {
         }
     })* };
 }
-slots!(u8 u32 i32 i64);
+slots!(u32 i32 i64 usize);
 
 const GUARD: usize = 16;
 

@@ -6,7 +6,7 @@
 //! * `reader_calls`: the calls on a sheet that write no listing.
 
 mod bench;
-mod exported;
+mod calls;
 mod lent;
 mod lists;
 mod number_calls;

@@ -1,13 +1,14 @@
-//! The calls on a pair list, by the exported entry points: numbers, linkage,
-//! anchored scores and the way back, the score of two entries. Generated calls,
-//! all small lists, slices of every length, reorderings, the bench.
+//! The calls on a pair list: numbers, linkage, anchored scores and the way back,
+//! the score of two entries. Generated calls, all small lists, slices of every
+//! length, reorderings, the bench.
 
 use crate::bench;
-use crate::exported::{self, MOST_PAIRS};
+use crate::calls::{self, MOST_PAIRS};
 use crate::lent::{Lent, FLIPS};
-use crate::lists::{self, pair_count, List};
+use crate::lists::{self, own, pair_count, List};
 use crate::parts::{Call, Parts};
 use crate::sheet_call::small_table;
+use second_engine::compare::Tally;
 use second_engine::engine::{self, Method};
 use second_engine::generate::{self, Random, Table};
 use second_engine::reordering::{image, parse_listing};
@@ -46,8 +47,9 @@ pub fn run(cases: usize, seed: u64, parts: &mut Parts) {
         parts.add_generated(&call, cases, seed);
     }
     let mut random = Random::new(!seed);
-    parts.add("score, generated calls", scores(&mut random, cases));
+    scores(&mut random, cases, parts);
     parts.add("all small lists", small_lists());
+    parts.add("score, every size", scores_of_every_size());
     parts.add("slices of every length", every_length());
     parts.add("way back of anchored", there_and_back(&mut random, cases));
     parts.add("lists reordered", reorderings(&mut random, cases / 10));
@@ -85,7 +87,7 @@ fn check_numbers(kind: i32, list: &List, rooms: (usize, usize)) -> Result<i64, S
     let check = |flip| {
         let mut lent = (Lent::new(rooms.0, flip), Lent::new(rooms.1, flip));
         call_on(list, wanted, |pairs| {
-            exported::numbers(kind, *n, pairs, lent.0.slice(), lent.1.slice())
+            calls::numbers(kind, *n, pairs, lent.0.slice(), lent.1.slice())
         })?;
         lent.0.check(&sets)?;
         lent.1.check(&indices)
@@ -99,8 +101,8 @@ fn check_numbers(kind: i32, list: &List, rooms: (usize, usize)) -> Result<i64, S
 
 fn linkage_call(method: Method) -> fn(usize, &[i32], &mut [u32]) -> i64 {
     match method {
-        Method::Single => exported::single_linkage,
-        Method::Average => exported::average_linkage,
+        Method::Single => calls::single_linkage,
+        Method::Average => calls::average_linkage,
     }
 }
 
@@ -131,11 +133,11 @@ fn check_linkage(method: Method, list: &List, room: usize) -> Result<i64, String
 }
 
 type Anchored = fn(usize, &[i32], usize, &mut [i32]) -> Result<usize, engine::Refusal>;
-type ExportedAnchored = fn(usize, usize, &[i32], &mut [i32]) -> i64;
+type AnchoredCall = fn(usize, usize, &[i32], &mut [i32]) -> i64;
 
 /// The anchored scores or the way back, whose slots have the same form.
 fn check_anchored(
-    (engine, exported): (Anchored, ExportedAnchored),
+    (engine, call): (Anchored, AnchoredCall),
     list: &List,
     anchor: usize,
     room: usize,
@@ -146,9 +148,7 @@ fn check_anchored(
     result.truncate(wanted.max(0) as usize);
     let check = |flip| {
         let mut lent = Lent::new(room, flip);
-        call_on(list, wanted, |pairs| {
-            exported(*n, anchor, pairs, lent.slice())
-        })?;
+        call_on(list, wanted, |pairs| call(*n, anchor, pairs, lent.slice()))?;
         lent.check(&result)
     };
     FLIPS
@@ -158,14 +158,28 @@ fn check_anchored(
     Ok(wanted)
 }
 
-const ANCHORED: (Anchored, ExportedAnchored) = (engine::anchored, exported::anchored_scores);
-const BACK: (Anchored, ExportedAnchored) = (engine::way_back, exported::distances_back);
+const ANCHORED: (Anchored, AnchoredCall) = (engine::anchored, calls::anchored_scores);
+const BACK: (Anchored, AnchoredCall) = (engine::way_back, calls::distances_back);
 
+/// The answer as the other calls give it: 0, or minus the refusal's number. A
+/// refused call leaves the slot as it was.
 fn check_score(list: &List, a: usize, b: usize) -> Result<i64, String> {
-    let wanted = engine::score(list.n, &list.pairs, a, b);
-    call_on(list, wanted, |pairs| exported::score(list.n, pairs, a, b))
+    let (answer, written) = match engine::score(list.n, &list.pairs, a, b) {
+        Ok(score) => (0, vec![score]),
+        Err(number) => (number, Vec::new()),
+    };
+    let check = |flip| {
+        let mut lent = Lent::new(1, flip);
+        call_on(list, answer, |pairs| {
+            calls::score(list.n, pairs, a, b, lent.slice()).into()
+        })?;
+        lent.check(&written)
+    };
+    FLIPS
+        .into_iter()
+        .try_for_each(check)
         .map_err(|message| format!("{message}; entries {a} and {b}, {list:?}"))?;
-    Ok(wanted)
+    Ok(-answer)
 }
 
 // ---------------------------------------------------------- Generated calls
@@ -212,19 +226,29 @@ fn way_back(random: &mut Random) -> Result<i64, String> {
     check_anchored(BACK, &list, anchor, room)
 }
 
-/// Scores of all sorts, and 0 where there is none.
-fn scores(random: &mut Random, calls: usize) -> Result<(), String> {
-    let mut met = [0; 3];
-    for _ in 0..calls {
+/// Scores below 0, 0 and above, and every refusal.
+fn scores(random: &mut Random, calls: usize, parts: &mut Parts) {
+    let mut tally = Tally::default();
+    let mut signs = [0; 3];
+    let outcome = (0..calls).try_for_each(|_| {
         let list = lists::any(random, lists::scores);
         let (a, b) = (lists::entry(random, list.n), lists::entry(random, list.n));
-        let score = check_score(&list, a, b)?;
-        met[(score.signum() + 1) as usize] += 1;
-    }
-    println!("scores below 0, 0, and above: {met:?}");
-    match met.contains(&0) {
-        true => Err("none of a kind was met".into()),
-        false => Ok(()),
+        tally.count(check_score(&list, a, b)?);
+        if let Ok(score) = engine::score(list.n, &list.pairs, a, b) {
+            signs[(score.signum() + 1) as usize] += 1;
+        }
+        Ok(())
+    });
+    let ended = outcome.is_ok();
+    parts.add("score, generated calls", outcome);
+    if ended {
+        println!("scores below 0, 0, and above: {signs:?}");
+        let outcome = match signs.contains(&0) {
+            true => Err("none of a sign was met".into()),
+            false => Ok(()),
+        };
+        parts.add("score, every sign is met", outcome);
+        parts.add_refusals("score", &tally, &[6, 10, 15]);
     }
 }
 
@@ -251,11 +275,42 @@ fn small_lists() -> Result<(), String> {
         }
     }
     for list in small(3, true, 0..=1).chain(small(1, true, -2..=2)) {
-        for a in 0..=list.n {
-            for b in 0..=list.n {
-                check_score(&list, a, b)?;
-            }
+        every_score(&list)?;
+    }
+    Ok(())
+}
+
+/// The scores of all entries, of numbers beyond them, and of numbers whose low
+/// bits alone would be entries.
+fn every_score(list: &List) -> Result<(), String> {
+    let far = [32, 33, 1 << 8, 1 << 16, 1 << 31, 1 << 32, 1 << 63];
+    let most = [usize::MAX - 1, usize::MAX, usize::MAX / 2];
+    let numbers = (0..=list.n + 2).chain(far).chain(most);
+    for a in numbers.clone() {
+        for b in numbers.clone() {
+            check_score(list, a, b)?;
         }
+    }
+    Ok(())
+}
+
+/// Each n, every value another, each sign and both ends of an i32 among them.
+fn scores_of_every_size() -> Result<(), String> {
+    for n in 0..=34 {
+        let mut pairs: Vec<i32> = (0..pair_count(n) as i32)
+            .map(|place| {
+                (place + 1)
+                    * if place % 2 == 0 {
+                        3_000_017
+                    } else {
+                        -2_000_003
+                    }
+            })
+            .collect();
+        if n > 2 {
+            (pairs[1], pairs[own(n - 1)]) = (i32::MIN, i32::MAX);
+        }
+        every_score(&List { n, pairs })?;
     }
     Ok(())
 }
@@ -302,7 +357,10 @@ fn every_length() -> Result<(), String> {
                 check_linkage(Method::Average, &other, few)?;
                 check_anchored(ANCHORED, &other, 0, MOST_PAIRS)?;
                 check_anchored(BACK, &other, 0, MOST_PAIRS)?;
-                check_score(&other, 0, 0)?;
+                for entry in [0, n.saturating_sub(1), n, usize::MAX] {
+                    check_score(&other, entry, 0)?;
+                    check_score(&other, 0, entry)?;
+                }
             }
         }
     }
@@ -328,13 +386,13 @@ fn there_and_back(random: &mut Random, lists: usize) -> Result<(), String> {
 fn back_again(list: &List, anchor: usize) -> Option<Vec<i32>> {
     let scores = anchored(list, anchor)?;
     let mut back = vec![0; scores.len()];
-    let count = exported::distances_back(list.n, anchor, &scores, &mut back);
+    let count = calls::distances_back(list.n, anchor, &scores, &mut back);
     (count == back.len() as i64).then_some(back)
 }
 
 fn anchored(list: &List, anchor: usize) -> Option<Vec<i32>> {
     let mut scores = vec![0; list.pairs.len()];
-    let count = exported::anchored_scores(list.n, anchor, &list.pairs, &mut scores);
+    let count = calls::anchored_scores(list.n, anchor, &list.pairs, &mut scores);
     (count == scores.len() as i64).then_some(scores)
 }
 
@@ -371,8 +429,8 @@ fn reordered(kind: i32, table: &Table, p: &[usize]) -> Result<(), String> {
     }
     for a in 0..old.n {
         for b in 0..old.n {
-            let there = exported::score(new.n, &new.pairs, p[a], p[b]);
-            if exported::score(old.n, &old.pairs, a, b) != there {
+            let there = score(&new, p[a], p[b]);
+            if there.is_none() || score(&old, a, b) != there {
                 return Err(format!("another score of {a} and {b}"));
             }
         }
@@ -381,6 +439,12 @@ fn reordered(kind: i32, table: &Table, p: &[usize]) -> Result<(), String> {
         }
     }
     Ok(())
+}
+
+fn score(list: &List, a: usize, b: usize) -> Option<i32> {
+    let mut score = [0];
+    let answer = calls::score(list.n, &list.pairs, a, b, &mut score);
+    (answer == 0).then_some(score[0])
 }
 
 fn same_anchored(old: &List, new: &List, anchor: usize, p: &[usize]) -> bool {
@@ -394,7 +458,7 @@ fn same_anchored(old: &List, new: &List, anchor: usize, p: &[usize]) -> bool {
 /// The groups and their indices, as the numbers call writes them.
 fn found(kind: i32, list: &List) -> Option<Vec<(u32, i64)>> {
     let (mut sets, mut indices) = (vec![0; 2 * list.n], vec![0; 2 * list.n]);
-    let count = exported::numbers(kind, list.n, &list.pairs, &mut sets, &mut indices);
+    let count = calls::numbers(kind, list.n, &list.pairs, &mut sets, &mut indices);
     let groups = sets.into_iter().zip(indices);
     Some(groups.take(usize::try_from(count).ok()?).collect())
 }
@@ -404,7 +468,7 @@ fn found(kind: i32, list: &List) -> Option<Vec<(u32, i64)>> {
 fn bench_cases() -> Result<(), String> {
     for (kind, sheet, answer) in bench::cases() {
         let mut pairs = vec![0; MOST_PAIRS];
-        let read = exported::read(sheet.as_bytes(), &mut pairs);
+        let read = calls::pair_list(sheet.as_bytes(), &mut pairs);
         let n = usize::try_from(read).unwrap_or(0);
         pairs.truncate(pair_count(n));
         let list = List { n, pairs };
@@ -415,7 +479,7 @@ fn bench_cases() -> Result<(), String> {
             }
             Err(number @ 11..=12) => {
                 let (mut sets, mut indices) = (vec![0; 2 * n], vec![0; 2 * n]);
-                -number == exported::numbers(kind, n, &list.pairs, &mut sets, &mut indices)
+                -number == calls::numbers(kind, n, &list.pairs, &mut sets, &mut indices)
             }
             Err(number) => -number == read,
         };

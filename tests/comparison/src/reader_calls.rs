@@ -1,16 +1,20 @@
-//! The calls on a sheet that write no listing, by the exported entry points:
-//! the pair list, the refusal, the name of an entry.
+//! The calls on a sheet that write no listing: the pair list, and the name of an
+//! entry.
 
-use crate::exported::{self, MOST_PAIRS};
+use crate::calls::{self, MOST_PAIRS};
 use crate::lent::{Lent, FLIPS};
 use crate::parts::{Call, Parts};
+use second_engine::compare::Tally;
 use second_engine::engine;
-use second_engine::generate::{self, Random};
+use second_engine::generate::{self, Random, Table};
 use std::hint::black_box;
+
+/// Checks 2 to 9.
+const REFUSALS: &[usize] = &[2, 3, 4, 5, 6, 7, 8, 9];
 
 const READER: Call = Call {
     name: "reader",
-    refusals: &[2, 3, 4, 5, 6, 7, 8, 9],
+    refusals: REFUSALS,
     generated: |random| match random.below(3) {
         0 => check_reader(&generate::flawed(random).0.sheet),
         _ => check_reader(&generate::case(random).sheet),
@@ -19,81 +23,172 @@ const READER: Call = Call {
 
 pub fn run(cases: usize, seed: u64, parts: &mut Parts) {
     parts.add_generated(&READER, cases, seed);
-    parts.add("names", names(cases, seed));
+    let mut random = Random::new(!seed);
+    let mut names = Names::default();
+    let outcome = names.generated(&mut random, cases);
+    let ended = outcome.is_ok();
+    parts.add("names", outcome);
+    if ended {
+        names.every_answer_is_met(parts);
+    }
+    let mut names = Names::default();
+    parts.add("names within names", names.within_names(&mut random, cases));
 }
+
+/// Calls on a copy of the sheet, which stays as it is.
+fn call_on<T>(sheet: &[u8], call: impl FnOnce(&[u8]) -> T) -> Result<T, String> {
+    let lent = sheet.to_vec();
+    let given = call(&lent);
+    match black_box(lent) == sheet {
+        true => Ok(given),
+        false => Err("the sheet itself was changed".into()),
+    }
+}
+
+// ------------------------------------------------------------ The pair list
 
 fn check_reader(sheet: &[u8]) -> Result<i64, String> {
     let mut pairs = vec![0; MOST_PAIRS];
     let read = engine::read(sheet, &mut pairs);
-    let written = read.map_or(0, |n| n * (n + 1) / 2);
+    pairs.truncate(read.map_or(0, |n| n * (n + 1) / 2));
     let wanted = read.map_or_else(|number| -number, |n| n as i64);
-    let describe = |message| format!("{message}; sheet: {}", sheet.escape_ascii());
-    for flip in FLIPS {
+    let check = |flip| {
         let mut lent = Lent::new(MOST_PAIRS, flip);
-        let given = exported::read(sheet, lent.slice());
+        let given = call_on(sheet, |sheet| calls::pair_list(sheet, lent.slice()))?;
         if given != wanted {
-            return Err(describe(format!("answers {given}, wanted {wanted}")));
+            return Err(format!("answers {given}, wanted {wanted}"));
         }
-        lent.check(&pairs[..written]).map_err(describe)?;
-    }
-    let refusal = exported::refusal(sheet) as i64;
-    if refusal != -wanted.min(0) {
-        return Err(describe(format!("refusal {refusal}, read {wanted}")));
-    }
+        lent.check(&pairs)
+    };
+    FLIPS
+        .into_iter()
+        .try_for_each(check)
+        .map_err(|message| format!("{message}; sheet: {}", sheet.escape_ascii()))?;
     Ok(wanted)
 }
 
-/// Names of good and damaged sheets, in buffers of every length up to 9; of
-/// numbers that are no entries too.
-fn names(cases: usize, seed: u64) -> Result<(), String> {
-    let mut random = Random::new(!seed);
-    let (mut named, mut none) = (0, 0);
-    for _ in 0..cases {
-        let n = generate::entries(&mut random);
-        let table = generate::good(&mut random, n).1;
-        let sheet = match random.below(3) {
-            0 => generate::damaged(&mut random, &table),
-            _ => table.sheet(),
-        };
-        for entry in (0..n + 2).chain([32, 33, 1 << 32, usize::MAX]) {
-            let name = engine::name(&sheet, entry);
-            match name {
-                [] => none += 1,
-                _ => named += 1,
-            }
-            let rooms = match random.one_in(8) {
-                true => 0..=9,
-                false => name.len().saturating_sub(1)..=name.len(),
+// -------------------------------------------------------------------- Names
+
+/// The names asked for.
+#[derive(Default)]
+struct Names {
+    /// By their length.
+    lengths: [u64; 9],
+    /// Entries of sheets that are read, and of sheets that are refused.
+    tally: Tally,
+    /// Numbers that are no entries of a sheet that is read.
+    no_entry: u64,
+    /// Names whose bytes stand in the sheet before their own place.
+    seen_before: u64,
+}
+
+impl Names {
+    /// Names of good and damaged sheets; of numbers that are no entries too.
+    fn generated(&mut self, random: &mut Random, cases: usize) -> Result<(), String> {
+        for _ in 0..cases {
+            let n = generate::entries(random);
+            let table = generate::good(random, n).1;
+            let sheet = match random.below(3) {
+                0 => generate::damaged(random, &table),
+                _ => table.sheet(),
             };
-            for room in rooms {
-                check_name(&sheet, entry, name, room)?;
+            self.check_all(&sheet, n)?;
+        }
+        let flawed = |random: &mut Random| generate::flawed(random).0.sheet;
+        (0..cases).try_for_each(|_| self.check_all(&flawed(random), 4))
+    }
+
+    /// Up to four of a few names in every order, and many names of two letters
+    /// only: most stand within others, before them or behind.
+    fn within_names(&mut self, random: &mut Random, cases: usize) -> Result<(), String> {
+        let few = ["A", "B", "AA", "AB", "BA", "AAA", "A1", "A11"];
+        for number in 0..few.len().pow(4) {
+            let places: Vec<usize> = (0..4).map(|digit| number >> (3 * digit) & 7).collect();
+            for n in 1..=4 {
+                let names: Vec<String> = places[..n].iter().map(|&at| few[at].into()).collect();
+                self.check_all(&sheet_of(names), n)?;
+            }
+        }
+        for _ in 0..cases / 10 {
+            let n = generate::entries(random);
+            let mut names: Vec<String> = Vec::new();
+            while names.len() < n {
+                let length = 1 + random.below(8);
+                let name = (0..length).map(|_| random.of(&['A', 'B'])).collect();
+                if !names.contains(&name) {
+                    names.push(name);
+                }
+            }
+            self.check_all(&sheet_of(names), n)?;
+        }
+        println!("names seen before their place: {}", self.seen_before);
+        match self.seen_before {
+            0 => Err("none was met".into()),
+            _ => Ok(()),
+        }
+    }
+
+    fn check_all(&mut self, sheet: &[u8], n: usize) -> Result<(), String> {
+        for entry in (0..n + 2).chain([32, 33, 1 << 32, usize::MAX]) {
+            self.check(sheet, entry)?;
+        }
+        Ok(())
+    }
+
+    /// The place, the length, and the bytes there.
+    fn check(&mut self, sheet: &[u8], entry: usize) -> Result<(), String> {
+        let (start, name) = engine::name(sheet, entry);
+        let describe = |message| {
+            let (name, sheet) = (name.escape_ascii(), sheet.escape_ascii());
+            format!("{message}; entry {entry} is {name} at {start}, sheet: {sheet}")
+        };
+        for flip in FLIPS {
+            let mut lent = Lent::new(1, flip);
+            let given = call_on(sheet, |sheet| calls::name(sheet, entry, lent.slice()));
+            let given = given.map_err(describe)?;
+            if given != name.len() {
+                return Err(describe(format!("answers {given}")));
+            }
+            lent.check(&[start]).map_err(describe)?;
+            let at = lent.slice()[0];
+            if sheet.get(at..at + given) != Some(name) {
+                return Err(describe("other bytes".into()));
+            }
+        }
+        self.count(sheet, start, name);
+        Ok(())
+    }
+
+    fn count(&mut self, sheet: &[u8], start: usize, name: &[u8]) {
+        self.lengths[name.len()] += 1;
+        match engine::read(sheet, &mut [0; MOST_PAIRS]) {
+            Err(number) => self.tally.count(-number),
+            Ok(_) if name.is_empty() => self.no_entry += 1,
+            Ok(n) => {
+                self.tally.count(n as i64);
+                let first = sheet.windows(name.len()).position(|part| part == name);
+                self.seen_before += u64::from(first != Some(start));
             }
         }
     }
-    println!("names: {named}, empty ones: {none}");
-    match named.min(none) {
-        0 => Err("none of a kind was met".into()),
-        _ => Ok(()),
+
+    /// Every length, the refusals behind an empty name, and numbers that are no
+    /// entries.
+    fn every_answer_is_met(&self, parts: &mut Parts) {
+        println!("names by length, from 0: {:?}", self.lengths);
+        println!("names of no entry: {}", self.no_entry);
+        let outcome = match self.lengths.contains(&0) || self.no_entry == 0 {
+            true => Err("none of a kind was met".into()),
+            false => Ok(()),
+        };
+        parts.add("names, every length is met", outcome);
+        parts.add_refusals("names", &self.tally, REFUSALS);
     }
 }
 
-fn check_name(sheet: &[u8], entry: usize, name: &[u8], room: usize) -> Result<(), String> {
-    let written = if name.len() <= room { name } else { &[] };
-    let lent_sheet = sheet.to_vec();
-    let describe = |message: String| {
-        let (name, sheet) = (name.escape_ascii(), sheet.escape_ascii());
-        format!("{message}; entry {entry} is {name}, {room} bytes, sheet: {sheet}")
-    };
-    for flip in FLIPS {
-        let mut lent = Lent::new(room, flip);
-        let given = exported::name(&lent_sheet, entry, lent.slice());
-        if given != name.len() {
-            return Err(describe(format!("answers {given}")));
-        }
-        lent.check(written).map_err(describe)?;
-    }
-    match black_box(lent_sheet) == sheet {
-        true => Ok(()),
-        false => Err(describe("the sheet itself was changed".into())),
-    }
+/// A sheet with these names, all values 0.
+fn sheet_of(names: Vec<String>) -> Vec<u8> {
+    let n = names.len();
+    let values = vec![vec![0; n]; n];
+    Table { names, values }.sheet()
 }

@@ -2,6 +2,7 @@
 //! reorderings.
 
 use crate::bench;
+use crate::calls::farzhudyl_listing;
 use crate::parts::Parts;
 use second_engine::compare::{check, Case, Expected, Tally, SHEET_REFUSALS};
 use second_engine::generate::{self, Random, Table};
@@ -10,13 +11,6 @@ use second_engine::{engine, reordering};
 type SheetCall = unsafe extern "C" fn(i32, *const u8, usize, *mut u8, usize) -> i64;
 
 extern "C" {
-    fn farzhudyl_listing(
-        kind: i32,
-        sheet: *const u8,
-        sheet_len: usize,
-        out: *mut u8,
-        out_len: usize,
-    ) -> i64;
     fn plain_listing(
         kind: i32,
         sheet: *const u8,
