@@ -1,0 +1,296 @@
+/* The calls on a pair list: numbers, the two linkages, anchored scores and the way back, the score of two entries. */
+#ifndef PAIR_CALLS_H
+#define PAIR_CALLS_H
+
+#include "lent.h"
+#include "sheets.h"
+
+/* A pair list as it is handed over; n and the length need not be right. */
+typedef struct {
+    const char *what;
+    size_t n;
+    const int32_t *pairs;
+    size_t length;
+} List;
+
+static int32_t *lend_list(const List *list, int pass) { return (int32_t *)lend(list->pairs, list->length * sizeof(int32_t), pass); }
+
+static bool list_unchanged(int32_t *lent, const List *list) { return unchanged(lent, list->pairs, list->length * sizeof(int32_t)); }
+
+/* Lists that checks 6 and 10 refuse, each with its number. */
+typedef void VisitList(const List *list, int number);
+
+static void refused_lists(VisitList *visit)
+{
+    static const int32_t zeros[FARZHUDYL_PAIRS(ENTRIES + 1)] = {0};
+    const struct {
+        List list;
+        int number;
+    } refused[] = {
+        {{"no entry, no list", 0, zeros, 0}, 6},
+        {{"no entry", 0, zeros, 1}, 6},
+        {{"33 entries", ENTRIES + 1, zeros, FARZHUDYL_PAIRS(ENTRIES + 1)}, 6},
+        {{"2^32 + 1 entries", (size_t)(UINT64_C(1) << 32) + 1, zeros, 1}, 6},
+        {{"the most entries", SIZE_MAX, zeros, 0}, 6},
+        {{"one entry, no list", 1, zeros, 0}, 10},
+        {{"32 entries, no list", ENTRIES, zeros, 0}, 10},
+        {{"32 entries, a pair too few", ENTRIES, zeros, PAIRS - 1}, 10},
+        {{"32 entries, a pair too many", ENTRIES, zeros, PAIRS + 1}, 10},
+    };
+    for (size_t i = 0; i < sizeof refused / sizeof refused[0]; i++)
+        visit(&refused[i].list, refused[i].number);
+}
+
+/* The ladder's list with one value changed. */
+static void ladder_but(int32_t pairs[PAIRS], Value *value, int place, int32_t other)
+{
+    put_pairs(pairs, value);
+    pairs[place] = other;
+}
+
+/* ---- numbers ---- */
+
+/* One call. Where it is answered, all slots are expected to hold the groups' or 0. */
+static void expect_numbers(int32_t kind, const List *list, size_t sets_len, size_t indices_len, int64_t answer, const Groups *groups)
+{
+    for (int pass = 0; pass < PASSES; pass++) {
+        int32_t *pairs = lend_list(list, pass);
+        uint32_t *sets = (uint32_t *)lend_room(sets_len * sizeof *sets, pass);
+        int64_t *indices = (int64_t *)lend_room(indices_len * sizeof *indices, pass);
+        int64_t given = farzhudyl_numbers(kind, list->n, pairs, list->length, sets, sets_len, indices, indices_len);
+        bool right = list_unchanged(pairs, list);
+        size_t sets_size = sets_len * sizeof *sets, indices_size = indices_len * sizeof *indices;
+        right = written_only(sets, sets_size, groups->sets, answer < 0 ? 0 : sets_size, pass) && right;
+        right = written_only(indices, indices_size, groups->indices, answer < 0 ? 0 : indices_size, pass) && right;
+        report("numbers", list->what, given, answer, right);
+    }
+}
+
+static const Groups no_groups = {0, {0}, {0}};
+
+static void refused_numbers(const List *list, int number)
+{
+    for (int32_t kind = 1; kind <= 3; kind++) {
+        expect_numbers(kind, list, FARZHUDYL_GROUPS_MAX, FARZHUDYL_GROUPS_MAX, -number, &no_groups);
+        expect_numbers(kind, list, 0, 0, -number, &no_groups);
+    }
+    expect_numbers(0, list, 0, 0, -1, &no_groups);
+}
+
+static void found(int32_t kind, const List *list, const Groups *groups)
+{
+    size_t needed = 2 * list->n;
+    const struct {
+        size_t sets_len, indices_len;
+        bool serves;
+    } rooms[] = {
+        {needed, needed, true},      {needed + 1, needed, true},  {needed, needed + 7, true}, {needed - 1, needed, false},
+        {needed, needed - 1, false}, {0, needed, false},          {needed, 0, false},         {0, 0, false},
+    };
+    for (size_t i = 0; i < sizeof rooms / sizeof rooms[0]; i++)
+        expect_numbers(kind, list, rooms[i].sets_len, rooms[i].indices_len, rooms[i].serves ? (int64_t)groups->count : -13, groups);
+}
+
+static void numbers(void)
+{
+    Groups groups = no_groups;
+    put_four_groups(&groups);
+    const List example = {"worked example", 4, four_pairs, 10};
+    found(FARZHUDYL_STRONG, &example, &groups);
+    expect_numbers(FARZHUDYL_SPLITS, &example, 0, 0, -12, &no_groups);
+
+    const int32_t zero = 0;
+    const List one = {"one entry", 1, &zero, 1};
+    for (int32_t kind = 1; kind <= 3; kind++) {
+        int32_t pairs[PAIRS];
+        const List large = {"32 entries", ENTRIES, pairs, PAIRS};
+        groups = no_groups;
+        put_pairs(pairs, ladder(kind));
+        put_ladder_groups(&groups, kind);
+        found(kind, &large, &groups);
+        ladder_but(pairs, ladder(kind), PAIRS - 1, 1000001);
+        expect_numbers(kind, &large, 0, 0, -11, &no_groups);
+        found(kind, &one, &no_groups);
+    }
+    refused_lists(refused_numbers);
+}
+
+/* ---- linkage ---- */
+
+typedef int64_t Linkage(size_t n, const int32_t *pairs, size_t pairs_len, uint32_t *blocks, size_t blocks_len);
+
+/* One call of each. The lists have no equal links where it matters, so there is one tree, and both have the same. */
+static void expect_linkages(const List *list, size_t room, int64_t answer, const uint32_t *blocks)
+{
+    Linkage *const calls[] = {farzhudyl_single_linkage, farzhudyl_average_linkage};
+    for (int i = 0; i < 2; i++)
+        for (int pass = 0; pass < PASSES; pass++) {
+            int32_t *pairs = lend_list(list, pass);
+            uint32_t *out = (uint32_t *)lend_room(room * sizeof *out, pass);
+            int64_t given = calls[i](list->n, pairs, list->length, out, room);
+            bool right = list_unchanged(pairs, list);
+            right = written_only(out, room * sizeof *out, blocks, answer > 0 ? (size_t)answer * sizeof *out : 0, pass) && right;
+            report(i == 0 ? "single linkage" : "average linkage", list->what, given, answer, right);
+        }
+}
+
+static void refused_linkages(const List *list, int number)
+{
+    expect_linkages(list, FARZHUDYL_BLOCKS_MAX, -number, NULL);
+    expect_linkages(list, 0, -number, NULL);
+}
+
+/* A list of 2 entries or more. */
+static void merged(const List *list, const uint32_t *blocks)
+{
+    const size_t count = list->n - 1;
+    for (size_t more = 0; more < 3; more++)
+        expect_linkages(list, count + more, (int64_t)count, blocks);
+    expect_linkages(list, count - 1, -15, NULL);
+    expect_linkages(list, 0, -15, NULL);
+}
+
+static void linkages(void)
+{
+    const uint32_t four_blocks[] = {0x3, 0x7, 0xf};
+    const List example = {"worked example", 4, four_pairs, 10};
+    merged(&example, four_blocks);
+
+    const int32_t own = -7;
+    const List one = {"one entry", 1, &own, 1};
+    expect_linkages(&one, 0, 0, NULL);
+    expect_linkages(&one, 3, 0, NULL);
+
+    int32_t pairs[PAIRS];
+    uint32_t blocks[ENTRIES - 1];
+    const List large = {"32 entries", ENTRIES, pairs, PAIRS};
+    for (int k = 2; k <= ENTRIES; k++)
+        blocks[k - 2] = first(k);
+    put_pairs(pairs, ladder_score);
+    merged(&large, blocks);
+    ladder_but(pairs, ladder_score, 0, -1000001);
+    refused_linkages(&large, 11);
+    refused_lists(refused_linkages);
+}
+
+/* ---- anchored scores and the way back ---- */
+
+typedef int64_t Anchored(size_t n, size_t anchor, const int32_t *list, size_t list_len, int32_t *out, size_t out_len);
+
+/* One call. Where it is answered, the result has as many slots as the list. */
+static void expect_anchored(Anchored *call, const List *list, size_t anchor, size_t room, int number, const int32_t *result)
+{
+    int64_t answer = number == 0 ? (int64_t)list->length : -number;
+    for (int pass = 0; pass < PASSES; pass++) {
+        int32_t *lent = lend_list(list, pass);
+        int32_t *out = (int32_t *)lend_room(room * sizeof *out, pass);
+        int64_t given = call(list->n, anchor, lent, list->length, out, room);
+        bool right = list_unchanged(lent, list);
+        right = written_only(out, room * sizeof *out, result, number == 0 ? list->length * sizeof *out : 0, pass) && right;
+        report(call == farzhudyl_anchored_scores ? "anchored scores" : "distances back", list->what, given, answer, right);
+    }
+}
+
+static void refused_anchored(const List *list, int number)
+{
+    Anchored *const calls[] = {farzhudyl_anchored_scores, farzhudyl_distances_back};
+    for (int i = 0; i < 2; i++) {
+        expect_anchored(calls[i], list, 0, PAIRS, number, NULL);
+        expect_anchored(calls[i], list, SIZE_MAX, 0, number, NULL);
+    }
+}
+
+static void transformed(Anchored *call, const List *list, size_t anchor, const int32_t *result)
+{
+    const size_t needed = list->length;
+    const size_t far[] = {list->n, list->n + 1, SIZE_MAX};
+    for (size_t more = 0; more < 3; more++)
+        expect_anchored(call, list, anchor, needed + more, 0, result);
+    expect_anchored(call, list, anchor, needed - 1, 15, NULL);
+    expect_anchored(call, list, anchor, 0, 15, NULL);
+    for (size_t i = 0; i < sizeof far / sizeof far[0]; i++)
+        expect_anchored(call, list, far[i], needed, 15, NULL);
+}
+
+static void anchored(void)
+{
+    int32_t distances[PAIRS], scores[PAIRS];
+    const List there = {"32 entries", ENTRIES, distances, PAIRS}, back = {"32 entries", ENTRIES, scores, PAIRS};
+    put_pairs(distances, ladder_distance);
+    for (int anchor = 0; anchor < ENTRIES; anchor += ENTRIES - 1) {
+        for (int a = 0; a < ENTRIES; a++)
+            for (int b = 0; b <= a; b++)
+                scores[FARZHUDYL_PAIRS(a) + b] = ladder_distance(a, anchor) + ladder_distance(b, anchor) - ladder_distance(a, b);
+        transformed(farzhudyl_anchored_scores, &there, (size_t)anchor, scores);
+        transformed(farzhudyl_distances_back, &back, (size_t)anchor, distances);
+        expect_anchored(farzhudyl_distances_back, &back, 15, PAIRS, 15, NULL);
+    }
+    scores[PAIRS - 2] = INT32_MIN;
+    expect_anchored(farzhudyl_distances_back, &back, ENTRIES - 1, PAIRS, 15, NULL);
+    ladder_but(distances, ladder_distance, PAIRS - 2, 1000001);
+    expect_anchored(farzhudyl_anchored_scores, &there, 0, 0, 11, NULL);
+    ladder_but(distances, ladder_distance, PAIRS - 2, -1);
+    expect_anchored(farzhudyl_anchored_scores, &there, 0, 0, 12, NULL);
+    ladder_but(distances, ladder_distance, PAIRS - 1, 1);
+    expect_anchored(farzhudyl_anchored_scores, &there, 0, 0, 12, NULL);
+
+    const int32_t zero = 0;
+    const List one = {"one entry", 1, &zero, 1};
+    transformed(farzhudyl_anchored_scores, &one, 0, &zero);
+    transformed(farzhudyl_distances_back, &one, 0, &zero);
+    refused_lists(refused_anchored);
+}
+
+/* ---- the score of two entries ---- */
+
+/* One call; a refused one leaves the slot. */
+static void expect_score(const List *list, size_t a, size_t b, int32_t answer, int32_t score)
+{
+    for (int pass = 0; pass < PASSES; pass++) {
+        int32_t *pairs = lend_list(list, pass);
+        int32_t *slot = (int32_t *)lend_room(sizeof *slot, pass);
+        int32_t given = farzhudyl_score(list->n, pairs, list->length, a, b, slot);
+        bool right = list_unchanged(pairs, list);
+        right = written_only(slot, sizeof *slot, &score, answer == 0 ? sizeof score : 0, pass) && right;
+        report("score", list->what, given, answer, right);
+    }
+}
+
+static void refused_score(const List *list, int number)
+{
+    expect_score(list, 0, 0, number, 0);
+    expect_score(list, SIZE_MAX, SIZE_MAX, number, 0);
+}
+
+static void all_scores(const List *list)
+{
+    const size_t n = list->n, far[] = {n, n + 1, (size_t)(UINT64_C(1) << 32), SIZE_MAX};
+    for (size_t a = 0; a < n; a++)
+        for (size_t b = 0; b < n; b++)
+            expect_score(list, a, b, 0, list->pairs[a > b ? FARZHUDYL_PAIRS(a) + b : FARZHUDYL_PAIRS(b) + a]);
+    for (size_t i = 0; i < sizeof far / sizeof far[0]; i++) {
+        expect_score(list, far[i], n - 1, 15, 0);
+        expect_score(list, 0, far[i], 15, 0);
+        expect_score(list, far[i], far[i], 15, 0);
+    }
+}
+
+static void scores(void)
+{
+    const List example = {"worked example", 4, four_pairs, 10};
+    all_scores(&example);
+
+    /* Whether values are in range is not asked. */
+    const int32_t least = INT32_MIN;
+    const List one = {"one entry", 1, &least, 1};
+    all_scores(&one);
+
+    int32_t pairs[PAIRS];
+    const List large = {"32 entries", ENTRIES, pairs, PAIRS};
+    for (int32_t i = 0; i < PAIRS; i++)
+        pairs[i] = 7 * i - 1000;
+    all_scores(&large);
+    refused_lists(refused_score);
+}
+
+#endif

@@ -1,0 +1,204 @@
+/* Sheets, pair lists and their groups to make the calls on; and sheets that are refused. */
+#ifndef SHEETS_H
+#define SHEETS_H
+
+#include <inttypes.h>
+#include <stdarg.h>
+#include <stdint.h>
+#include <stdio.h>
+#include <stdlib.h>
+#include <string.h>
+
+#include "farzhudyl.h"
+
+enum { ENTRIES = FARZHUDYL_ENTRIES_MAX, PAIRS = FARZHUDYL_PAIRS_MAX, MOST = FARZHUDYL_SHEET_MAX };
+
+/* Text that grows at its end. */
+typedef struct {
+    char bytes[MOST + 1];
+    size_t length;
+} Text;
+
+static void put(Text *text, const char *format, ...)
+{
+    size_t room = sizeof text->bytes - text->length;
+    va_list values;
+    va_start(values, format);
+    int length = vsnprintf(text->bytes + text->length, room, format, values);
+    va_end(values);
+    if (length < 0 || (size_t)length >= room)
+        abort();
+    text->length += (size_t)length;
+}
+
+/* The groups of a list, in the order of the listing, and 0 behind them. */
+typedef struct {
+    size_t count;
+    uint32_t sets[2 * FARZHUDYL_GROUPS_MAX];
+    int64_t indices[2 * FARZHUDYL_GROUPS_MAX];
+} Groups;
+
+static void add_group(Groups *groups, uint32_t set, int64_t index)
+{
+    groups->sets[groups->count] = set;
+    groups->indices[groups->count] = index;
+    groups->count++;
+}
+
+static void put_listing(Text *listing, const Groups *groups)
+{
+    put(listing, "set size index\n");
+    for (size_t i = 0; i < groups->count; i++) {
+        int size = 0;
+        for (uint32_t set = groups->sets[i]; set != 0; set >>= 1)
+            size += set & 1;
+        put(listing, "%08" PRIx32 " %d %" PRId64 "\n", groups->sets[i], size, groups->indices[i]);
+    }
+}
+
+/* ---- the header's example ---- */
+
+static const char four[] = "A B C D\n9 8 6 2\n8 9 5 3\n6 5 9 1\n2 3 1 9\n";
+static const int32_t four_pairs[] = {9, 8, 9, 6, 5, 9, 2, 3, 1, 9};
+
+static void put_four_groups(Groups *groups)
+{
+    const uint32_t sets[] = {1, 2, 4, 8, 3, 7};
+    const int64_t indices[] = {1, 1, 3, 6, 2, 2};
+    for (int i = 0; i < 6; i++)
+        add_group(groups, sets[i], indices[i]);
+}
+
+/* ---- 32 entries ---- */
+
+typedef int Value(int a, int b);
+
+static void put_sheet(Text *sheet, const char *name, Value *value)
+{
+    for (int a = 0; a < ENTRIES; a++)
+        put(sheet, "%s%02d%c", name, a, a < ENTRIES - 1 ? ' ' : '\n');
+    for (int a = 0; a < ENTRIES; a++)
+        for (int b = 0; b < ENTRIES; b++)
+            put(sheet, "%d%c", value(a, b), b < ENTRIES - 1 ? ' ' : '\n');
+}
+
+static void put_pairs(int32_t pairs[PAIRS], Value *value)
+{
+    for (int a = 0; a < ENTRIES; a++)
+        for (int b = 0; b <= a; b++)
+            *pairs++ = value(a, b);
+}
+
+/* Entries join one by one: 0 and 1, then 2, then 3 and so on. */
+static int ladder_score(int a, int b) { return a == b ? 1000000 : 100 * (ENTRIES - (a > b ? a : b)); }
+
+/* Each entry hangs by 3 from a path; the path's nodes are 5 apart. The first two share a node, and so do the last two. */
+static int ladder_node(int a) { return a == 0 ? 1 : a == ENTRIES - 1 ? ENTRIES - 2 : a; }
+static int ladder_distance(int a, int b) { return a == b ? 0 : 3 + 3 + 5 * abs(ladder_node(a) - ladder_node(b)); }
+
+static Value *ladder(int32_t kind) { return kind == FARZHUDYL_SPLITS ? ladder_distance : ladder_score; }
+
+static int least_score(int a, int b)
+{
+    (void)a, (void)b;
+    return -1000000;
+}
+
+/* The first k entries. */
+static uint32_t first(int k) { return UINT32_MAX >> (32 - k); }
+
+/* As many groups as there can be: 62 strong groups, 30 clean groups, 61 splits. */
+static void put_ladder_groups(Groups *groups, int32_t kind)
+{
+    if (kind == FARZHUDYL_STRONG) {
+        /* A single loses its greatest score from its own, and a step is 100. */
+        for (int a = 0; a < ENTRIES; a++)
+            add_group(groups, UINT32_C(1) << a, 1000000 - ladder_score(0, a == 0 ? 1 : a));
+        for (int k = 2; k < ENTRIES; k++)
+            add_group(groups, first(k), 100);
+    } else if (kind == FARZHUDYL_CLEAN) {
+        /* The k - 1 smallest weights are those of the newest entry, each one step. */
+        for (int k = 2; k < ENTRIES; k++)
+            add_group(groups, first(k), 100 * (k - 1));
+    } else {
+        /* Twice the length of the edge that is cut. */
+        for (int a = 1; a < ENTRIES; a++)
+            add_group(groups, UINT32_C(1) << a, 6);
+        for (int k = ENTRIES - 2; k >= 2; k--)
+            add_group(groups, ~first(k), 10);
+        add_group(groups, ~first(1), 6);
+    }
+}
+
+/* ---- refused sheets ---- */
+
+typedef void VisitSheet(const char *what, const char *sheet, size_t sheet_len, int number);
+
+/* The first line has 8 bytes. Cut within it, a sheet has no line feed; cut later, too few. */
+static void cut_sheets(VisitSheet *visit)
+{
+    for (size_t length = 0; length < sizeof four - 1; length++)
+        visit("cut sheet", four, length, length == 0 ? 2 : length < 8 ? 4 : 7);
+}
+
+static void flawed_sheets(VisitSheet *visit)
+{
+    const char *const ill_formed = "A B\n0 1\n1 -0\n", *const mirrored = "A B\n0 1\n2 0\n";
+    visit("ill-formed value", ill_formed, strlen(ill_formed), 8);
+    visit("mirrored values differ", mirrored, strlen(mirrored), 9);
+}
+
+/* Sheets of 12,288 bytes, and of one more. */
+static void long_sheets(VisitSheet *visit)
+{
+    static char bytes[MOST + 1];
+    const struct {
+        const char *what;
+        const char *start;
+        char rest;
+        int number;
+    } longest[] = {
+        {"line feeds", "", '\n', 4},
+        {"one name", "", 'A', 4},
+        {"names without an end", "A ", 'A', 4},
+        {"a sheet and spaces", four, ' ', 7},
+        {"a sheet and line feeds", four, '\n', 7},
+        {"digits without an end", "A\n", '1', 7},
+        {"minus signs", "A B\n-1", '-', 7},
+        {"a small letter", "a", '0', 3},
+    };
+    for (size_t i = 0; i < sizeof longest / sizeof longest[0]; i++) {
+        size_t length = strlen(longest[i].start);
+        memcpy(bytes, longest[i].start, length);
+        memset(bytes + length, longest[i].rest, MOST + 1 - length);
+        visit(longest[i].what, bytes, MOST, longest[i].number);
+        visit(longest[i].what, bytes, MOST + 1, 2);
+    }
+
+    /* A value of 12,285 digits. */
+    memset(bytes, '1', MOST);
+    memcpy(bytes, "A\n", 2);
+    bytes[MOST - 1] = '\n';
+    visit("one long value", bytes, MOST, 8);
+
+    /* 3072 different names of three bytes; then the last is the first again. */
+    const char signs[] = "ABCDEFGHIJKLMNOPQRSTUVWXYZ0123456789";
+    for (int i = 0; i < MOST / 4; i++) {
+        const char name[] = {signs[i / 36 / 36], signs[i / 36 % 36], signs[i % 36], ' '};
+        memcpy(bytes + 4 * i, name, sizeof name);
+    }
+    bytes[MOST - 1] = '\n';
+    visit("3072 names", bytes, MOST, 6);
+    memcpy(bytes + MOST - 4, bytes, 3);
+    visit("3072 names, two equal", bytes, MOST, 5);
+}
+
+/* Sheets that one of checks 2 to 9 refuses, each with its number. */
+static void refused_sheets(VisitSheet *visit)
+{
+    cut_sheets(visit);
+    flawed_sheets(visit);
+    long_sheets(visit);
+}
+
+#endif
