@@ -1,6 +1,6 @@
 /* What the calls are lent: heap blocks of exactly the lengths handed over, so that valgrind sees every access beyond them. */
-#ifndef LENT_H
-#define LENT_H
+#ifndef BUFFERS_LENT_H
+#define BUFFERS_LENT_H
 
 #include <inttypes.h>
 #include <stdbool.h>

@@ -1,6 +1,6 @@
 /* The calls on a pair list: numbers, the two linkages, anchored scores and the way back, the score of two entries. */
-#ifndef PAIR_CALLS_H
-#define PAIR_CALLS_H
+#ifndef BUFFERS_PAIR_CALLS_H
+#define BUFFERS_PAIR_CALLS_H
 
 #include "lent.h"
 #include "sheets.h"

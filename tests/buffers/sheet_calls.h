@@ -1,6 +1,6 @@
 /* The calls on a sheet: the listing, the pair list, the name of an entry. */
-#ifndef SHEET_CALLS_H
-#define SHEET_CALLS_H
+#ifndef BUFFERS_SHEET_CALLS_H
+#define BUFFERS_SHEET_CALLS_H
 
 #include "lent.h"
 #include "sheets.h"

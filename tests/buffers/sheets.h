@@ -1,6 +1,6 @@
 /* Sheets, pair lists and their groups to make the calls on; and sheets that are refused. */
-#ifndef SHEETS_H
-#define SHEETS_H
+#ifndef BUFFERS_SHEETS_H
+#define BUFFERS_SHEETS_H
 
 #include <inttypes.h>
 #include <stdarg.h>

@@ -1,7 +1,7 @@
 //! The programs: what they write, and how they end.
 
 use std::fs::{File, OpenOptions};
-use std::io::Write;
+use std::io::{Seek, Write};
 use std::os::unix::ffi::OsStrExt;
 use std::process::{Command, Output, Stdio};
 
@@ -99,6 +99,22 @@ fn a_sheet_without_end() {
         .unwrap();
     assert_eq!(found.stdout, b"refused 2\n");
     assert_eq!(found.status.code(), Some(0));
+}
+
+/// One byte more than a sheet may have is read, and no further one.
+#[test]
+fn bytes_that_are_not_read() {
+    let path = concat!(env!("CARGO_TARGET_TMPDIR"), "/long.sheet");
+    std::fs::write(path, vec![b'\n'; 200_000]).unwrap();
+    let mut sheet = File::open(path).unwrap();
+    // A copy of the open file has the same place in it.
+    let found = Command::new(SECOND)
+        .arg("strong")
+        .stdin(sheet.try_clone().unwrap())
+        .output()
+        .unwrap();
+    assert_eq!(found.stdout, b"refused 2\n");
+    assert_eq!(sheet.stream_position().unwrap(), 12_289);
 }
 
 #[test]
