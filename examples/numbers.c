@@ -36,12 +36,12 @@ static bool has(uint32_t set, size_t entry)
 }
 
 /* Finds the least value between two members of a set. There is none if the set has fewer than two. */
-static bool least_value(uint32_t set, size_t n, const int32_t *pairs, int32_t *least)
+static bool least_value(uint32_t set, size_t n, const int32_t *pairs, int64_t *least)
 {
     bool found = false;
     for (size_t a = 0; a < n; a++) {
         for (size_t b = 0; b < a; b++) {
-            int32_t score;
+            int64_t score;
             if (!has(set, a) || !has(set, b) || farzhudyl_score(n, pairs, FARZHUDYL_PAIRS(n), a, b, &score) != 0)
                 continue;
             if (!found || score < *least)
@@ -55,9 +55,9 @@ static bool least_value(uint32_t set, size_t n, const int32_t *pairs, int32_t *l
 int main(int argc, char **argv)
 {
     static uint8_t sheet[FARZHUDYL_SHEET_MAX + 1];
-    int32_t kind, least, pairs[FARZHUDYL_PAIRS_MAX];
+    int32_t kind, pairs[FARZHUDYL_PAIRS_MAX];
     uint32_t sets[FARZHUDYL_GROUPS_MAX];
-    int64_t indices[FARZHUDYL_GROUPS_MAX];
+    int64_t least, indices[FARZHUDYL_GROUPS_MAX];
 
     if (argc != 2 || !read_kind(argv[1], &kind)) {
         fprintf(stderr, "usage: numbers 1|2|3 < SHEET\n");
@@ -83,7 +83,7 @@ int main(int argc, char **argv)
             if (has(sets[g], i))
                 printf(" %zu", i);
         if (least_value(sets[g], n, pairs, &least))
-            printf(", least value between two of them %ld", (long)least);
+            printf(", least value between two of them %lld", (long long)least);
         printf("\n");
     }
     return finish(0);

@@ -3,12 +3,13 @@
    The first line says what is shown. Then each group has a line: its size, its index, its names in the order of the sheet. A group
    stands before the groups inside it; groups side by side stand in the order of their first names on the sheet. A split is shown by its
    side without the first entry.
-   A refused sheet: `refused N` on standard output, the reason on standard error, exit status 1. Bad usage, and input or output that
-   fails: 2. */
+   A refused sheet: `refused N` on standard output, the reason on standard error, exit status 1. Bad usage, input or output that fails,
+   and bytes that are no listing: 2. */
 #include <stdio.h>
 #include <string.h>
 
 #include "farzhudyl.h"
+#include "read_listing.h"
 
 typedef struct {
     const char *word, *title;
@@ -21,13 +22,12 @@ static const Kind kinds[] = {
     {"splits", "splits", FARZHUDYL_SPLITS},
 };
 
-/* What is shown: the sheet's bytes, where the names stand in them, and the groups in the order of the listing. */
+/* What is shown: the sheet's bytes, where the names stand in them, and the lines of the listing. */
 typedef struct {
     uint8_t sheet[FARZHUDYL_SHEET_MAX + 1];
     size_t entries, starts[FARZHUDYL_ENTRIES_MAX], lengths[FARZHUDYL_ENTRIES_MAX];
-    size_t groups;
-    uint32_t sets[FARZHUDYL_GROUPS_MAX];
-    int64_t indices[FARZHUDYL_GROUPS_MAX];
+    int groups;
+    Line lines[FARZHUDYL_GROUPS_MAX];
 } Shown;
 
 /* What a refusal says, of those that a sheet can meet here. */
@@ -53,15 +53,11 @@ static void print_name(const Shown *shown, size_t entry)
     printf("%.*s", (int)shown->lengths[entry], (const char *)shown->sheet + shown->starts[entry]);
 }
 
-static void print_group(const Shown *shown, size_t group, int depth)
+static void print_group(const Shown *shown, const Line *line, int depth)
 {
-    uint32_t set = shown->sets[group];
-    unsigned size = 0;
-    for (size_t i = 0; i < shown->entries; i++)
-        size += set >> i & 1;
-    printf("%4u %9lld %*s", size, (long long)shown->indices[group], 2 * depth, "");
+    printf("%4u %9lld %*s", line->size, (long long)line->index, 2 * depth, "");
     for (size_t i = 0; i < shown->entries; i++) {
-        if (set >> i & 1) {
+        if (line->set >> i & 1) {
             printf(" ");
             print_name(shown, i);
         }
@@ -71,45 +67,45 @@ static void print_group(const Shown *shown, size_t group, int depth)
 
 /* The smallest group that contains a group; the number of groups if there is none. The listing rises by size, so it comes later there,
    and the first that contains the group is the smallest. */
-static size_t parent(const Shown *shown, size_t group)
+static int parent(const Shown *shown, int group)
 {
-    size_t g = group + 1;
-    while (g < shown->groups && (shown->sets[group] & ~shown->sets[g]) != 0)
+    int g = group + 1;
+    while (g < shown->groups && (shown->lines[group].set & ~shown->lines[g].set) != 0)
         g++;
     return g;
 }
 
 /* Prints the groups directly inside a group, by their first entries, and each time what is inside them. Two groups are nested or
    disjoint, so of the groups with one parent no two have the same first entry. */
-static void print_inside(const Shown *shown, size_t outer, int depth)
+static void print_inside(const Shown *shown, int outer, int depth)
 {
     for (size_t first = 0; first < shown->entries; first++) {
         uint32_t bit = (uint32_t)1 << first;
-        for (size_t g = 0; g < shown->groups; g++) {
-            if ((shown->sets[g] & (bit | (bit - 1))) == bit && parent(shown, g) == outer) {
-                print_group(shown, g, depth);
+        for (int g = 0; g < shown->groups; g++) {
+            if ((shown->lines[g].set & (bit | (bit - 1))) == bit && parent(shown, g) == outer) {
+                print_group(shown, &shown->lines[g], depth);
                 print_inside(shown, g, depth + 1);
             }
         }
     }
 }
 
-/* Reads the groups and the names. Answers 0, or minus the refusal's number. */
+/* Reads the groups and the names of the sheet. Answers the listing's length, or minus the refusal's number. */
 static int64_t read_groups(Shown *shown, int32_t kind, size_t sheet_len)
 {
-    int32_t pairs[FARZHUDYL_PAIRS_MAX];
-    int64_t answer = farzhudyl_pair_list(shown->sheet, sheet_len, pairs);
-    if (answer < 0)
-        return answer;
-    shown->entries = (size_t)answer;
-    answer = farzhudyl_numbers(kind, shown->entries, pairs, FARZHUDYL_PAIRS(shown->entries), shown->sets, FARZHUDYL_GROUPS_MAX,
-                               shown->indices, FARZHUDYL_GROUPS_MAX);
-    if (answer < 0)
-        return answer;
-    shown->groups = (size_t)answer;
-    for (size_t i = 0; i < shown->entries; i++)
+    uint8_t listing[FARZHUDYL_LISTING_MAX];
+    int64_t length = farzhudyl_listing(kind, shown->sheet, sheet_len, listing, sizeof listing);
+    if (length < 0)
+        return length;
+    Bytes bytes = {listing, (size_t)length};
+    shown->groups = read_listing(bytes, shown->lines);
+    for (size_t i = 0; i < FARZHUDYL_ENTRIES_MAX; i++) {
         shown->lengths[i] = farzhudyl_name(shown->sheet, sheet_len, i, &shown->starts[i]);
-    return 0;
+        if (shown->lengths[i] == 0)
+            break;
+        shown->entries++;
+    }
+    return length;
 }
 
 static void print_all(const Shown *shown, const Kind *kind)
@@ -119,7 +115,7 @@ static void print_all(const Shown *shown, const Kind *kind)
         printf("none\n");
         return;
     }
-    printf("%zu\n", shown->groups);
+    printf("%d\n", shown->groups);
     if (kind->number == FARZHUDYL_SPLITS) {
         printf("each line names the side without ");
         print_name(shown, 0);
@@ -149,6 +145,10 @@ int main(int argc, char **argv)
         return 2;
     }
     int64_t answer = read_groups(&shown, kind->number, sheet_len);
+    if (shown.groups < 0) {
+        fprintf(stderr, "%s: these bytes are no listing\n", program);
+        return 2;
+    }
     if (answer < 0)
         printf("refused %lld\n", (long long)-answer);
     else

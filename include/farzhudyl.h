@@ -98,8 +98,8 @@ enum {
 #define FARZHUDYL_GROUPS_MAX 64
 #define FARZHUDYL_BLOCKS_MAX 31
 
-/* The most bytes of stack that a call takes. */
-#define FARZHUDYL_STACK_MAX 32768
+/* The most bytes of stack that a call takes; the listing and the groups take the most, some 20,000 with 32 entries. */
+#define FARZHUDYL_STACK_MAX 24576
 
 /* The listing of a sheet, as text.
 

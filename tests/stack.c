@@ -97,7 +97,7 @@ static void call_anchored(void) { answer = farzhudyl_anchored_scores(n, entry, p
 static void call_back(void) { answer = farzhudyl_distances_back(n, entry, anchored, pairs_len, result, FARZHUDYL_PAIRS_MAX); }
 static void call_pair_list(void) { answer = farzhudyl_pair_list(sheet, sheet_len, result); }
 static void call_name(void) { answer = (int64_t)farzhudyl_name(sheet, sheet_len, entry, &start); }
-static void call_score(void) { answer = farzhudyl_score(n, pairs, pairs_len, entry, 0, result); }
+static void call_score(void) { answer = farzhudyl_score(n, pairs, pairs_len, entry, 0, indices); }
 
 /* A call that is known to take so many bytes, and little more. */
 static void call_known(void)

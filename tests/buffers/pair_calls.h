@@ -244,11 +244,11 @@ static void anchored(void)
 /* ---- the score of two entries ---- */
 
 /* One call; a refused one leaves the slot. */
-static void expect_score(const List *list, size_t a, size_t b, int32_t answer, int32_t score)
+static void expect_score(const List *list, size_t a, size_t b, int32_t answer, int64_t score)
 {
     for (int pass = 0; pass < PASSES; pass++) {
         int32_t *pairs = lend_list(list, pass);
-        int32_t *slot = (int32_t *)lend_room(sizeof *slot, pass);
+        int64_t *slot = (int64_t *)lend_room(sizeof *slot, pass);
         int32_t given = farzhudyl_score(list->n, pairs, list->length, a, b, slot);
         bool right = list_unchanged(pairs, list);
         right = written_only(slot, sizeof *slot, &score, answer == 0 ? sizeof score : 0, pass) && right;

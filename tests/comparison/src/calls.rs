@@ -60,7 +60,7 @@ extern "C" {
         pairs_len: usize,
         a: usize,
         b: usize,
-        score: *mut i32,
+        score: *mut i64,
     ) -> i32;
 }
 
@@ -122,7 +122,7 @@ pub fn name(sheet: &[u8], entry: usize, start: &mut [usize]) -> usize {
 }
 
 /// 0, and the score is written to the one slot; or the refusal's number.
-pub fn score(n: usize, pairs: &[i32], a: usize, b: usize, score: &mut [i32]) -> i32 {
+pub fn score(n: usize, pairs: &[i32], a: usize, b: usize, score: &mut [i64]) -> i32 {
     assert_eq!(score.len(), 1);
     unsafe { farzhudyl_score(n, pairs.as_ptr(), pairs.len(), a, b, score.as_mut_ptr()) }
 }

@@ -441,7 +441,7 @@ fn reordered(kind: i32, table: &Table, p: &[usize]) -> Result<(), String> {
     Ok(())
 }
 
-fn score(list: &List, a: usize, b: usize) -> Option<i32> {
+fn score(list: &List, a: usize, b: usize) -> Option<i64> {
     let mut score = [0];
     let answer = calls::score(list.n, &list.pairs, a, b, &mut score);
     (answer == 0).then_some(score[0])

@@ -610,12 +610,11 @@ fn distances_behind(n: usize, scores: &[i32], anchor: usize) -> Option<Vec<i32>>
 }
 
 /// The score of two entries, counted from 0, in a pair list.
-pub fn score(n: usize, pairs: &[i32], a: usize, b: usize) -> Result<i32, Refusal> {
+pub fn score(n: usize, pairs: &[i32], a: usize, b: usize) -> Result<i64, Refusal> {
     check_entries(n)?;
     check_length(n, pairs)?;
     refuse_if(a >= n || b >= n, 15)?;
-    let score = Scores::new(n, pairs).at(a, b);
-    Ok(i32::try_from(score).expect("it is a value of the list"))
+    Ok(Scores::new(n, pairs).at(a, b))
 }
 
 #[cfg(test)]

@@ -47,8 +47,8 @@ fn scores_of_two_entries() {
     assert_eq!(score(2, &[1, 2, 3], 0, 1), Ok(2));
     assert_eq!(score(2, &[1, 2, 3], 1, 0), Ok(2));
     assert_eq!(score(2, &[1, 2, 3], 1, 1), Ok(3));
-    assert_eq!(score(2, &[1, i32::MIN, 3], 0, 1), Ok(i32::MIN));
-    assert_eq!(score(1, &[i32::MAX], 0, 0), Ok(i32::MAX));
+    assert_eq!(score(2, &[1, i32::MIN, 3], 0, 1), Ok(i32::MIN.into()));
+    assert_eq!(score(1, &[i32::MAX], 0, 0), Ok(i32::MAX.into()));
 }
 
 #[test]

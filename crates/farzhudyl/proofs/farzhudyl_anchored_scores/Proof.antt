@@ -11,7 +11,7 @@ anchored-scores-requires c κs = search needs
 
 as-number-requires : tie.Need-as-number-requires
 as-number-requires c κs = let a = c .before .before .before .args in
-    anchored-small (a .n) (a .pairs .now) (a .anchor) (length (a .out .now)) (c .before .anchored-scores .ensures .answered)
+    anchored-small (a .n) (a .pairs .now) _ (length (a .out .now)) (c .before .anchored-scores .ensures .answered)
 
 same-length : tie.Need-same-length
 same-length c = search needs

@@ -11,7 +11,7 @@ distances-back-requires c κs = search needs
 
 as-number-requires : tie.Need-as-number-requires
 as-number-requires c κs = let a = c .before .before .before .args in
-    back-small (a .n) (a .scores .now) (a .anchor) (length (a .out .now)) (c .before .distances-back .ensures .answered)
+    back-small (a .n) (a .scores .now) _ (length (a .out .now)) (c .before .distances-back .ensures .answered)
 
 same-length : tie.Need-same-length
 same-length c = search needs
