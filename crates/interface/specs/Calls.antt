@@ -134,7 +134,8 @@ isPair n l a b = leb n mostEntries && hasLength n l && ltb a n && ltb b n
 unfoldable pub scoreAmong : ℕ → List ℤ → Similarity
 scoreAmong n l a b = cond (isPair n l a b) (score l a b) (pos 0)
 
--- in C, where a score of 0 and no score must differ: 0 is answered, and the score goes to a slot; or the refusal's number
+-- in C, where no score must differ from a score of 0: 0 is answered, and the score goes to a slot; or the refusal's
+-- number is answered
 pub record ScoreInC (n : ℕ) (l : List ℤ) (a b : ℕ) (lent r after : ℤ) : Type 0 where
   pub answered : r ≡ pos (scoreRefusal n l a b)
   pub written : after ≡ cond (eqb (scoreRefusal n l a b) 0) (score l a b) lent
