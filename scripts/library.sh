@@ -3,6 +3,8 @@
 # usage: find_libraries ROOT NAME ..     NAME is farzhudyl, with every call of include/farzhudyl.h
 # FARZHUDYL_LIB_DIR is the folder of the libraries lib$NAME.a to take as they are. Without it they are target/staticlib's, made anew if
 # the crates have changed since; FARZHUDYL_LIB_DIR is then set.
+# shellcheck source=scripts/prove.sh
+. "$(dirname "${BASH_SOURCE[0]}")/prove.sh"
 
 find_libraries() {
     local root=$1 given=${FARZHUDYL_LIB_DIR:-} folder name library
@@ -13,7 +15,8 @@ find_libraries() {
         if [ -z "$given" ] && { [ ! -f "$library" ] ||
             [ -n "$(find "$root/crates" "$root/crates.txt" -newer "$library" -print -quit)" ]; }; then
             need_rattle
-            (cd "$root" && rt staticlib "$name") || exit 2
+            echo "proving and building the library $name, once" >&2
+            prove_quietly "$root" staticlib "$name" || exit 2
         fi
         if [ ! -f "$library" ]; then
             echo "missing: $library, which \`rt staticlib $name\` makes" >&2
