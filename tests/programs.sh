@@ -1,8 +1,17 @@
 #!/usr/bin/env bash
-# Runs the three programs through ./run on the sheets of examples/ and on refused ones. The last line is `N passed, M failed`.
+# Runs the three programs through ./run on the sheets of examples/ and on refused ones, the program of names, and both engines; and
+# compares files that differ. The last line is `N passed, M failed`.
 # usage: tests/programs.sh
 set -u
 cd "$(dirname "$0")/.." || exit 2
+# shellcheck source=scripts/tools.sh
+. scripts/tools.sh
+# shellcheck source=scripts/agree.sh
+. scripts/agree.sh
+need gcc gcc
+need cargo cargo
+room=$(mktemp -d) || exit 2
+trap 'rm -rf "$room"' EXIT
 passed=0
 failed=0
 
@@ -31,6 +40,83 @@ for kind in strong clean splits; do
     check "1000001, $kind" "$kind" 'refused 11' < <(printf 'A\n1000001\n')
 done
 check 'an own value that is not 0' splits 'refused 12' < <(printf 'A B\n1 5\n5 0\n')
+
+# Runs a command, which is to end with a status, to write exactly what the file $room/expected has, and to say on standard error exactly
+# the line SAID; with SAID - it may say anything.
+whole() { # NAME STATUS SAID COMMAND ..     the sheet on standard input
+    local name=$1 status=$2 said=$3 ended=0
+    shift 3
+    "$@" >"$room/out" 2>"$room/err" || ended=$?
+    if [ "$ended" = "$status" ] && cmp "$room/expected" "$room/out" && { [ "$said" = - ] || [ "$(cat "$room/err")" = "$said" ]; }; then
+        passed=$((passed + 1))
+    else
+        failed=$((failed + 1))
+        printf 'failed: %s\nstatus %s; on standard output:\n%s\non standard error:\n%s\n' "$name" "$ended" "$(cat "$room/out")" "$(cat "$room/err")"
+    fi
+}
+
+# A program that is up to date is started without a word, and nothing but the listing is on standard output; so too while one is made,
+# as rt finds anew that it is proved.
+kinds=(strong clean splits)
+for sheet in four copies; do
+    for k in 0 1 2; do
+        kind=${kinds[k]}
+        cp "tests/client/$sheet.$((k + 1))" "$room/expected"
+        whole "$kind of $sheet.sheet, every byte" 0 '' ./run "$kind" <"examples/$sheet.sheet"
+        whole "both engines, $kind of $sheet.sheet" 0 - ./run --second "$kind" <"examples/$sheet.sheet"
+    done
+done
+cp tests/client/four.1 "$room/expected"
+touch -d 2000-01-01 target/bin/strong
+whole 'a program that is looked at again' 0 'proving and building, once: strong' ./run strong <examples/four.sheet
+echo 'refused 2' >"$room/expected"
+whole 'both engines, no byte' 0 '' ./run --second strong </dev/null
+whole 'both engines, a longer sheet' 0 '' ./run --second splits < <(head -c 100000 /dev/zero | tr '\0' 'A')
+whole 'names of a refused sheet' 1 - ./run --names clean </dev/null
+
+names() { # NAME KIND LINES WORDS   the names of a sheet on standard input: so many lines have the words
+    local found
+    found=$(./run --names "$2" 2>/dev/null | grep -cE "$4")
+    if [ "$found" = "$3" ]; then
+        passed=$((passed + 1))
+    else
+        failed=$((failed + 1))
+        echo "failed: $1: $found lines, not $3"
+    fi
+}
+names 'names of the clean groups' clean 1 '\bA B$' <examples/four.sheet
+names 'names of the larger clean group' clean 1 '\bA B C$' <examples/four.sheet
+names 'names of the splits' splits 1 '\b4 +C D$' <examples/copies.sheet
+
+: >"$room/expected"
+usage='usage: ./run [--names|--second] strong|clean|splits < SHEET'
+whole 'no word' 2 "$usage" ./run </dev/null
+whole 'an unknown kind' 2 "$usage" ./run other </dev/null
+whole 'an unknown kind of names' 2 "$usage" ./run --names other </dev/null
+whole 'no kind for both engines' 2 "$usage" ./run --second </dev/null
+whole 'an unknown option' 2 "$usage" ./run --other strong </dev/null
+whole 'two kinds' 2 "$usage" ./run strong clean </dev/null
+mkdir "$room/few"
+for name in bash dirname; do ln -s "$(command -v "$name")" "$room/few/$name"; done
+whole 'no cargo' 2 'missing: the command cargo, which builds the second engine' env PATH="$room/few" ./run --second strong </dev/null
+
+# Two files that are equal or differ, as ./run --second compares them.
+printf 'a\nb\nc\n' >"$room/first"
+agrees() { # NAME STATUS SAID   the second file on standard input
+    cat >"$room/second"
+    whole "$1" "$2" "$3" agree "$room/first" "$room/second"
+}
+agrees 'equal files' 0 '' < <(printf 'a\nb\nc\n')
+agrees 'a line that differs' 1 "the engines differ at line 2: the engine has \`b\`, the second engine has \`bb\`" < <(printf 'a\nbb\nc\n')
+agrees 'a line less' 1 "the engines differ at line 3: the engine has \`c\`, the second engine has no such line" < <(printf 'a\nb\n')
+agrees 'a line more' 1 "the engines differ at line 4: the engine has no such line, the second engine has \`d\`" < <(printf 'a\nb\nc\nd\n')
+agrees 'no last byte' 1 "the engines differ at line 3: the engine has \`c\`, the second engine has \`c\` without a line feed" < <(printf 'a\nb\nc')
+agrees 'another last byte' 1 "the engines differ at line 3: the engine has \`c\`, the second engine has \`c \` without a line feed" \
+    < <(printf 'a\nb\nc ')
+agrees 'an empty file' 1 "the engines differ at line 1: the engine has \`a\`, the second engine has no such line" </dev/null
+: >"$room/first"
+agrees 'two empty files' 0 '' </dev/null
+agrees 'the first file is empty' 1 "the engines differ at line 1: the engine has no such line, the second engine has \`a\`" < <(printf 'a\n')
 
 echo "$passed passed, $failed failed"
 [ "$failed" = 0 ]
