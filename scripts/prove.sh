@@ -79,7 +79,7 @@ say_progress() { # MARKER ROOT COMMAND NAME ..     MARKER is a file made before 
                 ;;
         esac
         for k in "${!files[@]}"; do
-            if [ "${files[k]}" -nt "$marker" ]; then
+            if [ -e "${files[k]}" ] && [ ! "${files[k]}" -ot "$marker" ]; then
                 printf '%s\n' "${lines[k]}" >&"$descriptor"
                 unset "files[k]"
             fi
