@@ -43,12 +43,13 @@ progress_descriptor() {
 
 # Says what rt starts on, as long as it is told on standard input that rt is still at work. rt empties target/log/NAME.say when it starts
 # to prove a crate that has changed, and target/must-fail/NAME/LABEL.out when it starts on an edit. The first line of the input is rt's
-# process group, the second is `done`; an end before that means that the command which started rt was ended, and rt is then ended too.
+# process group, the second is `done`; an end before that means that the command which started rt was ended, and rt is then ended too,
+# so a signal to all of them does not end this one.
 say_progress() { # MARKER ROOT COMMAND NAME ..     MARKER is a file made before rt starts; it is removed
     local marker=$1 root=$2 command=$3 descriptor group='' ended='' line crate edit k
     local -a crates edits files lines
     shift 3
-    trap '' INT
+    trap '' HUP INT QUIT TERM
     trap 'rm -f "$marker"' EXIT
     descriptor=$(progress_descriptor)
     mapfile -t crates < <(crates_in_order "$root" "$@")

@@ -88,15 +88,19 @@ cat >"$room/starts" <<'END'
 . "$1/scripts/prove.sh"
 "$2" "$3" check top
 END
-for signal in TERM HUP KILL; do
+for signal in 'TERM ' 'HUP ' 'KILL ' 'TERM -- -' 'HUP -- -' 'INT -- -'; do
     for how in prove prove_quietly; do
         rm -f "$room/pids"
+        set -m
         PIDS=$room/pids bash "$room/starts" "$root" "$how" "$room/repo" >/dev/null 2>&1 </dev/null &
         command=$!
+        set +m
         until [ -f "$room/pids" ]; do sleep 0.1; done
         read -r rt child <"$room/pids"
         mapfile -t inside < <(ps -o pid= --ppid "$command" | tr -d ' ')
-        kill -"$signal" "$command"
+        # With a minus the signal goes to the whole process group of the command, as that of a terminal does.
+        # shellcheck disable=SC2086
+        kill -$signal"$command"
         wait "$command" 2>/dev/null
         [ "${#inside[@]}" = 2 ] && gone "$rt" "$child" "${inside[@]}" && [ -z "$(ls -A "$TMPDIR")" ]
         count $? "$how interrupted by $signal"
