@@ -51,7 +51,8 @@ whole() { # NAME STATUS SAID COMMAND ..     the sheet on standard input
         passed=$((passed + 1))
     else
         failed=$((failed + 1))
-        printf 'failed: %s\nstatus %s; on standard output:\n%s\non standard error:\n%s\n' "$name" "$ended" "$(cat "$room/out")" "$(cat "$room/err")"
+        printf 'failed: %s\nstatus %s; on standard output:\n%s\non standard error:\n%s\n' "$name" "$ended" \
+            "$(cat "$room/out")" "$(cat "$room/err")"
     fi
 }
 
@@ -110,13 +111,15 @@ agrees 'equal files' 0 '' < <(printf 'a\nb\nc\n')
 agrees 'a line that differs' 1 "the engines differ at line 2: the engine has \`b\`, the second engine has \`bb\`" < <(printf 'a\nbb\nc\n')
 agrees 'a line less' 1 "the engines differ at line 3: the engine has \`c\`, the second engine has no such line" < <(printf 'a\nb\n')
 agrees 'a line more' 1 "the engines differ at line 4: the engine has no such line, the second engine has \`d\`" < <(printf 'a\nb\nc\nd\n')
-agrees 'no last byte' 1 "the engines differ at line 3: the engine has \`c\`, the second engine has \`c\` without a line feed" < <(printf 'a\nb\nc')
+agrees 'no last byte' 1 "the engines differ at line 3: the engine has \`c\`, the second engine has \`c\` without a line feed" \
+    < <(printf 'a\nb\nc')
 agrees 'another last byte' 1 "the engines differ at line 3: the engine has \`c\`, the second engine has \`c \` without a line feed" \
     < <(printf 'a\nb\nc ')
 agrees 'an empty file' 1 "the engines differ at line 1: the engine has \`a\`, the second engine has no such line" </dev/null
 : >"$room/first"
 agrees 'two empty files' 0 '' </dev/null
-agrees 'the first file is empty' 1 "the engines differ at line 1: the engine has no such line, the second engine has \`a\`" < <(printf 'a\n')
+agrees 'the first file is empty' 1 "the engines differ at line 1: the engine has no such line, the second engine has \`a\`" \
+    < <(printf 'a\n')
 
 echo "$passed passed, $failed failed"
 [ "$failed" = 0 ]

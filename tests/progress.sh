@@ -26,7 +26,7 @@ count() { # STATUS NAME
 
 # A repository of five crates. rt takes c and a, in its own order, and with `ci` their edits; then it waits if it is to be interrupted.
 mkdir -p "$room/bin" "$room/tmp" "$room/repo/target/log" "$room/repo/crates/a/must-fail" "$room/repo/crates/c/must-fail"
-printf 'top: c b io\na:\nb: a\nc: a # libc\nother: b\n' >"$room/repo/crates.txt"
+printf 'top: c b io\na:\nb: a\nc: a # libc\nother:\n' >"$room/repo/crates.txt"
 touch "$room/repo/crates/a/must-fail/one.edit" "$room/repo/crates/c/must-fail/"{one,two}.edit
 touch -d 2000-01-01 "$room/repo/target/log/"{a,b,c,top,other}.say
 cat >"$room/bin/rt" <<'END'
@@ -61,8 +61,8 @@ said() { # NAME STATUS OUT ERR WORD ..     runs the words; OUT and ERR are what 
 said 'the crates that a program needs' 0 'words: check top\n' 'proving 1 of 4: a\nproving 2 of 4: c\nsaid on standard error\n' \
     prove "$room/repo" check top
 touch -d 2000-01-01 "$room/repo/target/log/"*.say
-said 'all crates, and the edits' 0 'words: ci\n' \
-    'proving 1 of 5: a\nproving 2 of 5: c\nsaid on standard error\ntrying must-fail edit 1 of 3: a/one\ntrying must-fail edit 2 of 3: c/one\ntrying must-fail edit 3 of 3: c/two\n' \
+tried='trying must-fail edit 1 of 3: a/one\ntrying must-fail edit 2 of 3: c/one\ntrying must-fail edit 3 of 3: c/two\n'
+said 'all crates, and the edits' 0 'words: ci\n' "proving 1 of 5: a\nproving 3 of 5: c\nsaid on standard error\n$tried" \
     prove "$room/repo" ci
 said 'quietly' 0 '' 'proving 1 of 2: a\nproving 2 of 2: c\n' prove_quietly "$room/repo" staticlib c
 ENDS=3 said 'the status is kept' 3 'words: check b\n' 'proving 1 of 2: a\nsaid on standard error\n' prove "$room/repo" check b
@@ -70,7 +70,8 @@ ENDS=3 said 'what failed is shown' 3 '' 'proving 1 of 2: a\nsaid on standard err
 FARZHUDYL_PROGRESS=7 said 'on another descriptor' 0 'words: check a\n' 'said on standard error\n' prove "$room/repo" check a 7>"$room/seven"
 [ "$(cat "$room/seven")" = 'proving 1 of 1: a' ]
 count $? "the other descriptor has the line"
-FARZHUDYL_PROGRESS=9 said 'a descriptor that is not open' 0 'words: check a\n' 'proving 1 of 1: a\nsaid on standard error\n' prove "$room/repo" check a
+FARZHUDYL_PROGRESS=9 said 'a descriptor that is not open' 0 'words: check a\n' \
+    'proving 1 of 1: a\nsaid on standard error\n' prove "$room/repo" check a
 
 # Interrupted, nothing goes on: not rt, not what rt started, not what says the progress; and no file is left.
 gone() { # PROCESS ..
