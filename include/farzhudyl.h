@@ -101,60 +101,63 @@ enum {
 /* The most bytes of stack that a call takes; the listing and the groups take the most, some 20,000 with 32 entries. */
 #define FARZHUDYL_STACK_MAX 24576
 
-/* The listing of a sheet, as text.
+/* The listing of a kind, as text, of the sheet of sheet_len bytes, to the buffer out of out_len bytes.
 
    Answers the listing's length in bytes, at least 15, and has then written that many bytes at the start of out and no other; or minus
-   the refusal's number. Checks 1 to 9, 11, 12 (kind 3 only), 14. */
+   the refusal's number. Checks 1 to 9, 11, 12 (kind 3 only), 14. Room that always serves: FARZHUDYL_LISTING_MAX bytes. */
 int64_t farzhudyl_listing(int32_t kind, const uint8_t *sheet, size_t sheet_len, uint8_t *out, size_t out_len);
 
-/* The groups of a pair list, as numbers.
+/* The groups of a kind, as numbers, of the pair list of n entries.
 
    Answers how many groups there are, and has then written their sets and their indices, in the order of the listing's lines, to the
    first slots of sets and indices, and 0 to all further slots of both; or minus the refusal's number. Checks 1, 6, 10, 11, 12 (kind 3
-   only), 13. */
+   only), 13. Room that always serves: FARZHUDYL_GROUPS_MAX slots each; 2n serve for n entries. */
 int64_t farzhudyl_numbers(int32_t kind, size_t n, const int32_t *pairs, size_t pairs_len, uint32_t *sets, size_t sets_len,
                           int64_t *indices, size_t indices_len);
 
-/* A single linkage tree and an average linkage tree of a pair list of scores: from the n single entries on, the two blocks whose link
-   is the greatest are merged, until one is left. The link is the greatest score between the two blocks (single), or the average
-   of all scores between them, compared exactly (average). Of equal links any may be taken.
+/* A single linkage tree and an average linkage tree of the pair list of n entries, of scores: from the n single entries on, the two
+   blocks whose link is the greatest are merged, until one is left. The link is the greatest score between the two blocks (single), or
+   the average of all scores between them, compared exactly (average). Of equal links any may be taken.
 
-   Answers n - 1, and has then written the n - 1 merged blocks, in the order of merging, to the first slots of blocks and no other; or
-   minus the refusal's number. Checks 6, 10, 11, 15 (blocks has fewer than n - 1 slots). */
+   Answers n - 1, and has then written the n - 1 merged blocks, as sets, in the order of merging, to the first slots of blocks and no
+   other; or minus the refusal's number. Checks 6, 10, 11, 15 (blocks has fewer than n - 1 slots). Room that always serves:
+   FARZHUDYL_BLOCKS_MAX slots. */
 int64_t farzhudyl_single_linkage(size_t n, const int32_t *pairs, size_t pairs_len, uint32_t *blocks, size_t blocks_len);
 int64_t farzhudyl_average_linkage(size_t n, const int32_t *pairs, size_t pairs_len, uint32_t *blocks, size_t blocks_len);
 
-/* The scores of a list of distances d, anchored at an entry x (the Farris transform, doubled): d(a,x) + d(b,x) - d(a,b) for each pair,
-   own pairs and the anchor's included.
+/* The scores of a pair list of distances d of n entries, anchored at the entry x that anchor counts from 0 (the Farris transform,
+   doubled): d(a,x) + d(b,x) - d(a,b) for each pair, own pairs and the anchor's included.
 
    Answers FARZHUDYL_PAIRS(n), and has then written the scores, in the order of a pair list, to the first slots of out and no other; or
-   minus the refusal's number. Checks 6, 10, 11, 12, 15 (anchor is n or more, or out has fewer slots than the result). */
+   minus the refusal's number. Checks 6, 10, 11, 12, 15 (anchor is n or more, or out has fewer slots than the result). Room that always
+   serves: FARZHUDYL_PAIRS_MAX slots. */
 int64_t farzhudyl_anchored_scores(size_t n, size_t anchor, const int32_t *pairs, size_t pairs_len, int32_t *out, size_t out_len);
 
-/* The way back, from anchored scores to the distances.
+/* The way back, from the anchored scores of n entries to the distances; any numbers may be handed over.
 
    Answers FARZHUDYL_PAIRS(n), and has then written the distances, in the order of a pair list, to the first slots of out and no other;
    or minus the refusal's number. Checks 6, 10, 15 (anchor is n or more, or out has fewer slots than the result, or the list is not the
-   anchored scores, at that anchor, of any distances passing 11 and 12). */
+   anchored scores, at that anchor, of any distances passing 11 and 12). Room that always serves: FARZHUDYL_PAIRS_MAX slots. */
 int64_t farzhudyl_distances_back(size_t n, size_t anchor, const int32_t *scores, size_t scores_len, int32_t *out, size_t out_len);
 
-/* The pair list of a sheet.
+/* The pair list of the sheet of sheet_len bytes.
 
-   Answers n, the number of entries, and has then written the pair list to the first FARZHUDYL_PAIRS(n) slots and no other; or minus the
-   refusal's number. Checks 2 to 9; whether the values are in range (11) or distances (12) the calls that are handed the list check. */
+   Answers n, the number of entries, and has then written the pair list to the first FARZHUDYL_PAIRS(n) slots of pairs and no other; or
+   minus the refusal's number. Checks 2 to 9; whether the values are in range (11) or distances (12) the calls that are handed the list
+   check. pairs has no length: it points to FARZHUDYL_PAIRS_MAX slots. */
 int64_t farzhudyl_pair_list(const uint8_t *sheet, size_t sheet_len, int32_t pairs[FARZHUDYL_PAIRS_MAX]);
 
-/* The name of an entry, counted from 0, as its own part of the sheet; nothing is copied.
+/* The name of an entry, counted from 0, as its own part of the sheet of sheet_len bytes; nothing is copied.
 
    Answers the name's length, 1 to 8, and has then written where the name starts to *start: its bytes are sheet[*start] to
    sheet[*start + length - 1]. If one of checks 2 to 9 refuses the sheet, or the sheet has no such entry, the length is 0 and *start
    is 0. */
 size_t farzhudyl_name(const uint8_t *sheet, size_t sheet_len, size_t entry, size_t *start);
 
-/* The score of two entries a and b, counted from 0, in a pair list.
+/* The score of two entries a and b, counted from 0, in the pair list of n entries; any values may stand in it.
 
-   Answers 0, and has then written the score to *score; or the refusal's number (not minus the number: a score may be negative, so it does
-   not come back as the answer). Checks 6, 10, 15 (a or b is n or more). */
+   Answers 0, and has then written the score to *score; or the refusal's number (not minus the number: a score may be negative, so it
+   does not come back as the answer). Checks 6, 10, 15 (a or b is n or more). */
 int32_t farzhudyl_score(size_t n, const int32_t *pairs, size_t pairs_len, size_t a, size_t b, int64_t *score);
 
 #ifdef __cplusplus

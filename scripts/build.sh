@@ -38,10 +38,10 @@ c_compiler() {
 # target/show.library says which library the program was linked with.
 build_show() {
     local root=$1 program=$1/target/show library
-    find_libraries "$root" farzhudyl
+    find_library "$root"
     library=$FARZHUDYL_LIB_DIR/libfarzhudyl.a
     if [ "$(cat "$program.library" 2>/dev/null)" = "$library" ] &&
-        ! stale "$program" "$root/examples/show.c" "$root/include/farzhudyl.h" "$library"; then
+        ! stale "$program" "$root"/{examples/show.c,examples/read_listing.h,include/farzhudyl.h} "$library"; then
         return 0
     fi
     c_compiler

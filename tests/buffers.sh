@@ -10,7 +10,7 @@ root=$(cd "$(dirname "$0")/.." && pwd) || exit 2
 . "$root/scripts/library.sh"
 need gcc gcc
 need valgrind valgrind
-find_libraries "$root" farzhudyl
+find_library "$root"
 cd "$root" || exit 2
 built=$(mktemp -d) || exit 2
 trap 'rm -rf "$built"' EXIT

@@ -11,7 +11,7 @@ root=$(cd "$(dirname "$0")/.." && pwd) || exit 2
 need cargo cargo
 need gcc gcc
 need ar binutils
-find_libraries "$root" farzhudyl
+find_library "$root"
 cd "$root/tests/comparison" || exit 2
 cargo build --quiet --release --offline --locked || exit 2
 exec target/release/comparison "$@"

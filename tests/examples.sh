@@ -29,7 +29,7 @@ if [ $# = 1 ]; then
     mapfile -t library < <(PKG_CONFIG_PATH=$prefix/lib/pkgconfig pkg-config --cflags --libs farzhudyl | xargs -r printf '%s\n')
     mapfile -t header < <(PKG_CONFIG_PATH=$prefix/lib/pkgconfig pkg-config --cflags farzhudyl | xargs -r printf '%s\n')
 else
-    find_libraries "$root" farzhudyl
+    find_library "$root"
     library=(-Iinclude "$FARZHUDYL_LIB_DIR/libfarzhudyl.a")
     header=(-Iinclude)
 fi

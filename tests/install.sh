@@ -116,12 +116,10 @@ else
 fi
 
 for sheet in four copies; do
-    number=0
     for kind in strong clean splits; do
-        number=$((number + 1))
-        "$prefix/bin/farzhudyl-$kind" <"examples/$sheet.sheet" | diff "tests/client/$sheet.$number" -
+        "$prefix/bin/farzhudyl-$kind" <"examples/$sheet.sheet" | diff "tests/examples/client/$sheet.$kind" -
         count $? "farzhudyl-$kind on $sheet.sheet"
-        "$prefix/bin/farzhudyl-second" "$kind" <"examples/$sheet.sheet" | diff "tests/client/$sheet.$number" -
+        "$prefix/bin/farzhudyl-second" "$kind" <"examples/$sheet.sheet" | diff "tests/examples/client/$sheet.$kind" -
         count $? "farzhudyl-second $kind on $sheet.sheet"
         ./run --names "$kind" <"examples/$sheet.sheet" >"$room/names" 2>/dev/null
         "$prefix/bin/farzhudyl-show" "$kind" <"examples/$sheet.sheet" 2>/dev/null | diff "$room/names" - && [ -s "$room/names" ]
@@ -153,15 +151,15 @@ block() { # SECTION NUMBER
     awk -v wanted="$2" '/^\.Bd -literal/ { number++; on = 1; next } /^\.Ed/ { on = 0 } on && number == wanted' \
         "$prefix/share/man/man$1/farzhudyl.$1" | sed 's/\\&//g; s/\\e/\\/g'
 }
-for case in '3 1 examples/four.sheet' '3 2 tests/client/four.1' '1 1 examples/four.sheet' '1 2 tests/client/four.2' \
-    '1 3 examples/copies.sheet' '1 4 tests/client/copies.3'; do
+for case in '3 1 examples/four.sheet' '3 2 tests/examples/client/four.strong' '1 1 examples/four.sheet' '1 2 tests/examples/client/four.clean' \
+    '1 3 examples/copies.sheet' '1 4 tests/examples/client/copies.splits'; do
     read -r section number file <<<"$case"
     block "$section" "$number" | diff "$file" -
     count $? "block $number of farzhudyl.$section"
 done
 (
     cd "$room" && block 3 3 >groups.c && cp "$root/examples/four.sheet" . &&
-        block 3 4 | PKG_CONFIG_PATH=$prefix/lib/pkgconfig bash -e | diff "$root/tests/client/four.1" -
+        block 3 4 | PKG_CONFIG_PATH=$prefix/lib/pkgconfig bash -e | diff "$root/tests/examples/client/four.strong" -
 )
 count $? "the program that farzhudyl.3 shows, compiled as it says"
 [ "$(printf 'A\n-0\n' | "$prefix/bin/farzhudyl-strong")" = 'refused 8' ]

@@ -9,7 +9,7 @@ root=$(cd "$(dirname "$0")/.." && pwd) || exit 2
 # shellcheck source=scripts/library.sh
 . "$root/scripts/library.sh"
 need gcc gcc
-find_libraries "$root" farzhudyl
+find_library "$root"
 cd "$root" || exit 2
 built=$(mktemp -d) || exit 2
 trap 'rm -rf "$built"' EXIT

@@ -1,7 +1,8 @@
 #!/usr/bin/env python3
 """What a reader is told of the statements is so: no line of a definition or of a contract is wider than 120 columns; the files that
 docs/PROMISES.md says to read have the lines that it says; every must-fail edit that it names is there; definitions that nobody need
-believe say so, and those that must be believed cite no others. The last line is `N passed, M failed`."""
+believe say so, and those that must be believed cite no others; the man page has the header's calls and numbers, and the refusals in its
+words. The last line is `N passed, M failed`."""
 import glob
 import os
 import re
@@ -54,6 +55,32 @@ functions = set(re.findall(r"fn (\w+)", "".join(text(p) for p in glob.glob("crat
 missing = [f"{c or '?'}/{label}" for c, label in named if ((c, label) not in edits if c else label not in labels | functions)]
 hold("every edit that docs/PROMISES.md names is there", missing)
 hold("it names edits", [] if len(named) > 40 else [f"only {len(named)} were found"])
+
+header, page = text("include/farzhudyl.h"), text("man/farzhudyl.3")
+code = re.sub(r"/\*.*?\*/", "", header, flags=re.S)
+declared = [" ".join(call.split()) for call in re.findall(r"^\w+ farzhudyl_\w+\([^;]*\);", code, re.M)]
+shown = [
+    answer + " " + name + "(" + ", ".join(re.findall(r'^[.]Fa "(.*)"$', words, re.M)) + ");"
+    for answer, name, words in re.findall(r"^\.Ft (\S+)\n\.Fo (\S+)\n(.*?)^\.Fc$", page, re.M | re.S)
+]
+hold("the man page has the header's calls", sorted(set(declared) ^ set(shown)) or ([] if len(declared) > 8 else ["few calls were found"]))
+numbers = set(re.findall(r"^#define (\w+) (\d+)$", code, re.M)) | set(re.findall(r"(FARZHUDYL_\w+) = (\d+)", code))
+told = set(re.findall(r"^(?:\.Dv|\.Pq Dv) (FARZHUDYL_\w+)\n\((\d+)\)", page, re.M))
+hold("the man page has the header's numbers", sorted(told - numbers) or ([] if len(told) > 8 else [f"only {sorted(told)} were found"]))
+
+
+def plain(words):
+    """A sentence without marks, macros and spaces."""
+    return re.sub(r"\W", "", re.sub(r"^\.(Fa|Fn) ", "", words, flags=re.M)).replace("()", "")
+
+
+table = re.findall(r"^ {5,6}(\d+)  (.*?)(?=^ {5,6}\d+  |^\n)", header[header.index("REFUSALS") :], re.M | re.S)
+listed = re.findall(r"^\.It (\d+)\n(.*?)(?=^\.It|^\.El)", page[page.index(".Ss Refusals") :], re.M | re.S)
+hold(
+    "the man page has the header's refusals",
+    [f"{a} {b!r}, {c} {d!r}" for (a, b), (c, d) in zip(table, listed) if (a, plain(b)) != (c, plain(d))]
+    or ([] if len(table) == len(listed) == 15 else [f"{len(table)} and {len(listed)} were found"]),
+)
 
 print(f"{passed} passed, {failed} failed")
 raise SystemExit(failed != 0)
