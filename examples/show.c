@@ -5,10 +5,7 @@
    side without the first entry.
    A refused sheet: `refused N` on standard output, the reason on standard error, exit status 1. Bad usage, input or output that fails,
    and bytes that are no listing: 2. */
-#include <stdio.h>
-#include <string.h>
-
-#include "farzhudyl.h"
+#include "common.h"
 #include "read_listing.h"
 
 typedef struct {
@@ -139,27 +136,20 @@ int main(int argc, char **argv)
         fprintf(stderr, "usage: %s strong|clean|splits < SHEET\n", program);
         return 2;
     }
-    size_t sheet_len = fread(shown.sheet, 1, sizeof shown.sheet, stdin);
-    if (ferror(stdin)) {
-        fprintf(stderr, "%s: cannot read standard input\n", program);
+    size_t sheet_len;
+    if (!read_sheet(program, shown.sheet, &sheet_len))
         return 2;
-    }
     int64_t answer = read_groups(&shown, kind->number, sheet_len);
     if (shown.groups < 0) {
         fprintf(stderr, "%s: these bytes are no listing\n", program);
         return 2;
     }
-    if (answer < 0)
-        printf("refused %lld\n", (long long)-answer);
-    else
-        print_all(&shown, kind);
-    if (fflush(stdout) != 0 || ferror(stdout)) {
-        fprintf(stderr, "%s: cannot write standard output\n", program);
-        return 2;
-    }
     if (answer < 0) {
-        fprintf(stderr, "%s: %s\n", program, reason(-answer));
-        return 1;
+        int status = refused(program, answer);
+        if (status == 1)
+            fprintf(stderr, "%s: %s\n", program, reason(-answer));
+        return status;
     }
-    return 0;
+    print_all(&shown, kind);
+    return finish(program, 0);
 }

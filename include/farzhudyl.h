@@ -42,6 +42,16 @@
        00000003 2 2
        00000007 3 2
 
+   THE INDEX
+   A group has an index, a whole number: by how much it stands out. s(a,b) is the score of two entries, d(a,b) their distance.
+     strong   Of a set of entries, neither empty nor all: the least s(a,b) - s(a,x), a and b in the set, which may be one entry, x
+              outside. It is above 0 exactly if each member scores more with every member than with any entry outside.
+     clean    Of a set of at least 2 entries, not all: of all s(a,b) - the larger of s(a,x) and s(b,x), a and b two different members,
+              x outside, the sum of the smallest, one fewer than the set has members.
+     splits   Of two sides into which all entries part, neither empty: the least d(a,b) + d(a',b') - d(a,a') - d(b,b'), a and a' on one
+              side, b and b' on the other; a and a' may be one entry, and so may b and b'. This is twice the usual isolation index.
+   Two groups of one kind are nested or share no entry.
+
    REFUSALS
    A call that can be refused makes its checks in the order of their numbers, and the first that fails is the answer. A refused call
    has written nothing. No call asks anything of the values it is handed: any bytes and any numbers get the answer described here.

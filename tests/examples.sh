@@ -9,6 +9,8 @@ set -u
 root=$(cd "$(dirname "$0")/.." && pwd) || exit 2
 # shellcheck source=scripts/tools.sh
 . "$root/scripts/tools.sh"
+# shellcheck source=tests/counts.sh
+. "$root/tests/counts.sh"
 # shellcheck source=scripts/library.sh
 . "$root/scripts/library.sh"
 if [ $# -gt 1 ]; then
@@ -51,18 +53,6 @@ reasons=(
     [11]='a value is below -1,000,000 or above 1,000,000'
     [12]='a distance is negative, or that of an entry to itself is not 0'
 )
-passed=0
-failed=0
-
-count() { # STATUS NAME
-    if [ "$1" = 0 ]; then
-        passed=$((passed + 1))
-    else
-        echo "failed: $2"
-        failed=$((failed + 1))
-    fi
-}
-
 # Compiles C files as C or as C++; the symbols are for valgrind's reports.
 compile() { # c|c++ WORD ..
     local language=$1
@@ -283,5 +273,4 @@ if [ "$status" = 0 ]; then
         < <(printf '%b' "${first}abcdef09 19 999999999999999999\\nffffffff 32 2\\n")
 fi
 
-echo "$passed passed, $failed failed"
-[ "$failed" = 0 ]
+counted

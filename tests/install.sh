@@ -6,12 +6,13 @@ set -u
 root=$(cd "$(dirname "$0")/.." && pwd) || exit 2
 # shellcheck source=scripts/tools.sh
 . "$root/scripts/tools.sh"
+# shellcheck source=tests/counts.sh
+. "$root/tests/counts.sh"
 need_rattle
 need gcc gcc
 need g++ g++
 need pkg-config pkg-config
 need groff groff
-need mandoc mandoc
 need man man-db
 need nm binutils
 need cargo cargo
@@ -20,18 +21,6 @@ unset DESTDIR
 room=$(mktemp -d) || exit 2
 trap 'rm -rf "$room"' EXIT
 chmod 755 "$room"
-
-passed=0
-failed=0
-
-count() { # STATUS NAME
-    if [ "$1" = 0 ]; then
-        passed=$((passed + 1))
-    else
-        echo "failed: $2"
-        failed=$((failed + 1))
-    fi
-}
 
 # Every file and directory below a folder, with its mode and what a link leads to.
 tree() { # FOLDER
@@ -133,8 +122,10 @@ for section in 1 3; do
     page=$prefix/share/man/man$section/farzhudyl.$section
     said=$(groff -mdoc -ww -Tutf8 -z "$page" 2>&1) && [ -z "$said" ]
     count $? "groff on farzhudyl.$section: $said"
-    said=$(mandoc -Tlint "$page" 2>&1) && [ -z "$said" ]
-    count $? "mandoc on farzhudyl.$section: $said"
+    if command -v mandoc >/dev/null 2>&1; then
+        said=$(mandoc -Tlint "$page" 2>&1) && [ -z "$said" ]
+        count $? "mandoc on farzhudyl.$section: $said"
+    fi
     grep -qF "version $(cat VERSION)." "$page" && ! grep -q '@[A-Z]*@' "$page"
     count $? "the version in farzhudyl.$section"
 done
@@ -288,5 +279,4 @@ chmod 555 "$room/bad/mine/lib"
 refused "no right to remove" 1 "no right to write" "${other[@]}" "$room/copy/install" --remove "$room/bad/mine"
 chmod 755 "$room/bad/closed" "$room/bad/mine/lib"
 
-echo "$passed passed, $failed failed"
-[ "$failed" = 0 ]
+counted

@@ -6,24 +6,19 @@ set -u
 cd "$(dirname "$0")/.." || exit 2
 # shellcheck source=scripts/tools.sh
 . scripts/tools.sh
+# shellcheck source=tests/counts.sh
+. tests/counts.sh
 # shellcheck source=scripts/agree.sh
 . scripts/agree.sh
 need gcc gcc
 need cargo cargo
 room=$(mktemp -d) || exit 2
 trap 'rm -rf "$room"' EXIT
-passed=0
-failed=0
-
 check() { # NAME KIND EXPECTED   the sheet on standard input
     local found
     found=$(./run "$2" 2>/dev/null)
-    if [ "$found" = "$3" ]; then
-        passed=$((passed + 1))
-    else
-        failed=$((failed + 1))
-        printf 'failed: %s\nexpected:\n%s\nfound:\n%s\n' "$1" "$3" "$found"
-    fi
+    [ "$found" = "$3" ]
+    count $? "$1"$'\n'"expected:"$'\n'"$3"$'\n'"found:"$'\n'"$found"
 }
 
 first='set size index'
@@ -47,27 +42,20 @@ whole() { # NAME STATUS SAID COMMAND ..     the sheet on standard input
     local name=$1 status=$2 said=$3 ended=0
     shift 3
     "$@" >"$room/out" 2>"$room/err" || ended=$?
-    if [ "$ended" = "$status" ] && cmp "$room/expected" "$room/out" && { [ "$said" = - ] || [ "$(cat "$room/err")" = "$said" ]; }; then
-        passed=$((passed + 1))
-    else
-        failed=$((failed + 1))
-        printf 'failed: %s\nstatus %s; on standard output:\n%s\non standard error:\n%s\n' "$name" "$ended" \
-            "$(cat "$room/out")" "$(cat "$room/err")"
-    fi
+    [ "$ended" = "$status" ] && cmp "$room/expected" "$room/out" && { [ "$said" = - ] || [ "$(cat "$room/err")" = "$said" ]; }
+    count $? "$name (status $ended): $(cat "$room/out" "$room/err")"
 }
 
 # A program that is up to date is started without a word, and nothing but the listing is on standard output; so too while one is made,
 # as rt finds anew that it is proved.
-kinds=(strong clean splits)
 for sheet in four copies; do
-    for k in 0 1 2; do
-        kind=${kinds[k]}
-        cp "tests/client/$sheet.$((k + 1))" "$room/expected"
+    for kind in strong clean splits; do
+        cp "tests/examples/client/$sheet.$kind" "$room/expected"
         whole "$kind of $sheet.sheet, every byte" 0 '' ./run "$kind" <"examples/$sheet.sheet"
         whole "both engines, $kind of $sheet.sheet" 0 - ./run --second "$kind" <"examples/$sheet.sheet"
     done
 done
-cp tests/client/four.1 "$room/expected"
+cp tests/examples/client/four.strong "$room/expected"
 touch -d 2000-01-01 target/bin/strong
 whole 'a program that is looked at again' 0 'proving and building, once: strong' ./run strong <examples/four.sheet
 echo 'refused 2' >"$room/expected"
@@ -78,12 +66,8 @@ whole 'names of a refused sheet' 1 - ./run --names clean </dev/null
 names() { # NAME KIND LINES WORDS   the names of a sheet on standard input: so many lines have the words
     local found
     found=$(./run --names "$2" 2>/dev/null | grep -cE "$4")
-    if [ "$found" = "$3" ]; then
-        passed=$((passed + 1))
-    else
-        failed=$((failed + 1))
-        echo "failed: $1: $found lines, not $3"
-    fi
+    [ "$found" = "$3" ]
+    count $? "$1: $found lines, not $3"
 }
 names 'names of the clean groups' clean 1 '\bA B$' <examples/four.sheet
 names 'names of the larger clean group' clean 1 '\bA B C$' <examples/four.sheet
@@ -100,6 +84,16 @@ whole 'two kinds' 2 "$usage" ./run strong clean </dev/null
 mkdir "$room/few"
 for name in bash dirname; do ln -s "$(command -v "$name")" "$room/few/$name"; done
 whole 'no cargo' 2 'missing: the command cargo, which builds the second engine' env PATH="$room/few" ./run --second strong </dev/null
+
+# Engines that differ: ./run with two stand-ins that are up to date.
+mkdir -p "$room/repo/crates" "$room/repo/target/bin" "$room/repo/tests/second-engine/"{src,target/release}
+cp -R run scripts "$room/repo"
+touch "$room/repo/crates.txt" "$room/repo/tests/second-engine/Cargo."{toml,lock}
+printf '#!/bin/sh\nprintf "set size index\\n00000001 1 1\\n"\n' >"$room/repo/target/bin/strong"
+printf '#!/bin/sh\nprintf "set size index\\n00000001 1 2\\n"\n' >"$room/repo/tests/second-engine/target/release/farzhudyl-second"
+chmod +x "$room/repo/target/bin/strong" "$room/repo/tests/second-engine/target/release/farzhudyl-second"
+whole 'engines that differ' 1 "the engines differ at line 2: the engine has \`00000001 1 1\`, the second engine has \`00000001 1 2\`" \
+    "$room/repo/run" --second strong </dev/null
 
 # Two files that are equal or differ, as ./run --second compares them.
 printf 'a\nb\nc\n' >"$room/first"
@@ -121,5 +115,4 @@ agrees 'two empty files' 0 '' </dev/null
 agrees 'the first file is empty' 1 "the engines differ at line 1: the engine has no such line, the second engine has \`a\`" \
     < <(printf 'a\n')
 
-echo "$passed passed, $failed failed"
-[ "$failed" = 0 ]
+counted

@@ -6,24 +6,14 @@ set -u
 root=$(cd "$(dirname "$0")/.." && pwd) || exit 2
 # shellcheck source=scripts/tools.sh
 . "$root/scripts/tools.sh"
+# shellcheck source=tests/counts.sh
+. "$root/tests/counts.sh"
 # shellcheck source=scripts/prove.sh
 . "$root/scripts/prove.sh"
 need ps procps
 unset FARZHUDYL_PROGRESS
 room=$(mktemp -d) || exit 2
 trap 'rm -rf "$room"' EXIT
-passed=0
-failed=0
-
-count() { # STATUS NAME
-    if [ "$1" = 0 ]; then
-        passed=$((passed + 1))
-    else
-        echo "failed: $2"
-        failed=$((failed + 1))
-    fi
-}
-
 # A repository of five crates. rt takes c and a, in its own order, and with `ci` their edits; then it waits if it is to be interrupted.
 mkdir -p "$room/bin" "$room/tmp" "$room/repo/target/log" "$room/repo/crates/a/must-fail" "$room/repo/crates/c/must-fail"
 printf 'top: c b io\na:\nb: a\nc: a # libc\nother:\n' >"$room/repo/crates.txt"
@@ -108,5 +98,4 @@ for signal in 'TERM ' 'HUP ' 'KILL ' 'TERM -- -' 'HUP -- -' 'INT -- -'; do
     done
 done
 
-echo "$passed passed, $failed failed"
-[ "$failed" = 0 ]
+counted

@@ -1,0 +1,50 @@
+/* What each client here does beside its calls: reads a kind's number strictly, reads the sheet, sees that its output is written. */
+#ifndef COMMON_H
+#define COMMON_H
+
+#include <stdbool.h>
+#include <stdio.h>
+#include <stdlib.h>
+#include <string.h>
+
+#include "farzhudyl.h"
+
+/* Reads a decimal number that fits the kind, written as printf writes it: not ` 1`, `+1`, `01` or `1x`. */
+static inline bool read_kind(const char *text, int32_t *kind)
+{
+    char again[24];
+    long long number = strtoll(text, NULL, 10);
+    snprintf(again, sizeof again, "%lld", number);
+    if (strcmp(text, again) != 0 || number < INT32_MIN || number > INT32_MAX)
+        return false;
+    *kind = (int32_t)number;
+    return true;
+}
+
+/* Reads standard input, up to one byte more than a sheet may have, so that a longer sheet is refused. */
+static inline bool read_sheet(const char *program, uint8_t sheet[FARZHUDYL_SHEET_MAX + 1], size_t *sheet_len)
+{
+    *sheet_len = fread(sheet, 1, FARZHUDYL_SHEET_MAX + 1, stdin);
+    if (!ferror(stdin))
+        return true;
+    fprintf(stderr, "%s: cannot read standard input\n", program);
+    return false;
+}
+
+/* The exit status, once all output is written. */
+static inline int finish(const char *program, int status)
+{
+    if (fflush(stdout) == 0 && !ferror(stdout))
+        return status;
+    fprintf(stderr, "%s: cannot write standard output\n", program);
+    return 2;
+}
+
+/* Writes the refusal that an answer below 0 is. */
+static inline int refused(const char *program, int64_t answer)
+{
+    printf("refused %lld\n", (long long)-answer);
+    return finish(program, 1);
+}
+
+#endif
