@@ -46,7 +46,8 @@ cited = [f"{p}: {c}" for p, _ in rows for c in re.findall(r"^use Rattle·([a-z]+
 hold("what must be believed cites nothing else", cited)
 
 named = []
-for section in re.findall(r"^\|.*$|^Further ones.*?(?=\n\n)", promises[promises.index("## Wrong versions") :], re.M | re.S):
+tables = promises[promises.index("| in C |") : promises.index("## The sheet")] + promises[promises.index("## Wrong versions") :]
+for section in re.findall(r"^\|.*$|^Further ones.*?(?=\n\n)", tables, re.M | re.S):
     for word in re.findall(r"(?<![\w/:`])(?:([a-z]+)/)?([a-z]+(?:_[a-zA-Z0-9]+)+)(?![\w(/])", section):
         named.append(word)
 edits = {tuple(p[:-5].split("/")[1::2]) for p in glob.glob("crates/*/must-fail/*.edit")}
