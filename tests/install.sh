@@ -153,6 +153,20 @@ done
         block 3 4 | PKG_CONFIG_PATH=$prefix/lib/pkgconfig bash -e | diff "$root/tests/examples/client/four.strong" -
 )
 count $? "the program that farzhudyl.3 shows, compiled as it says"
+# And what README.md shows: the sheet with its two listings side by side, and the program with the line that compiles it.
+diff examples/four.sheet <(sed -n '/^    A B C D$/,/^$/s/^    //p' README.md | head -n 5)
+count $? "the sheet of README.md"
+sed -n '/^    set size index /,/^$/s/^    //p' README.md >"$room/shown"
+diff tests/examples/client/four.strong <(cut -c 1-40 "$room/shown" | sed 's/ *$//; /^$/d')
+count $? "the listing of README.md"
+diff tests/examples/show/four.strong <(cut -c 45- "$room/shown")
+count $? "the names of README.md"
+(
+    cd "$room" && sed -n '/^    #include <stdio.h>$/,/^    }$/s/^    //p' "$root/README.md" >client.c &&
+        sed -n 's/^    \(cc -std=c11 client.c .*\)/\1/p' "$root/README.md" | PKG_CONFIG_PATH=$prefix/lib/pkgconfig bash -e &&
+        ./client | diff <(printf 'set size index\n00000001 1 1\n00000002 1 1\n') -
+)
+count $? "the program of README.md, compiled as it says"
 [ "$(printf 'A\n-0\n' | "$prefix/bin/farzhudyl-strong")" = 'refused 8' ]
 count $? "the refusal that farzhudyl.1 shows"
 
