@@ -1,7 +1,7 @@
 #!/usr/bin/env python3
 """What a reader is told of the statements is so: no line of a definition or of a contract is wider than 120 columns; the files that
 docs/PROMISES.md says to read have the lines that it says; every must-fail edit that it names is there; definitions that nobody need
-believe say so, and those that must be believed cite no others; the man page has the header's calls and numbers, and the refusals in its
+believe say so, and those that must be believed cite no others; each call has the contract that is named there; the man page has the header's calls and numbers, and the refusals in its
 words. The last line is `N passed, M failed`."""
 import glob
 import os
@@ -56,6 +56,22 @@ functions = set(re.findall(r"fn (\w+)", "".join(text(p) for p in glob.glob("crat
 missing = [f"{c or '?'}/{label}" for c, label in named if ((c, label) not in edits if c else label not in labels | functions)]
 hold("every edit that docs/PROMISES.md names is there", missing)
 hold("it names edits", [] if len(named) > 40 else [f"only {len(named)} were found"])
+
+sources = "".join(text(p) for p in sorted(glob.glob("crates/*/src/*.rt")))
+calls = promises[promises.index("| call | function | contract |") : promises.index("## The sheet")]
+unlike, seen = [], 0
+for row in re.findall(r"^\| .*`.*$", calls, re.M):
+    cells = row.strip("|").split(" | ")
+    place = 0 if "`farzhudyl_" in cells[0] else 1
+    functions = re.findall(r"`(?:\w+::)?(\w+)`", cells[place])
+    stated = re.findall(r"`(\w+)`", re.split(r": |, by| in ", cells[place + 1])[0])
+    pairs = zip(functions, [[word] for word in stated]) if len(functions) == len(stated) else [(f, stated) for f in functions]
+    for function, words in pairs:
+        contracts = re.findall(rf"fn {function}\(.*?\n(.*?)^\{{", sources, re.M | re.S)
+        seen += 1
+        if not any(all(re.search(rf"\b{word}\b", contract) for word in words) for contract in contracts):
+            unlike.append(f"{function}: {words}")
+hold("every call has the contract that docs/PROMISES.md names", unlike or ([] if seen > 18 else [f"only {seen} were found"]))
 
 header, page = text("include/farzhudyl.h"), text("man/farzhudyl.3")
 code = re.sub(r"/\*.*?\*/", "", header, flags=re.S)

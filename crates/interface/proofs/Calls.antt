@@ -92,8 +92,10 @@ pub record Examples : Type 0 where
       ∷ scoreRefusal 3 own 3 0
       ∷ scoreRefusal 3 own 0 3
       ∷ scoreRefusal 3 own 2 0
+      ∷ scoreRefusal 0 own 0 0
+      ∷ scoreRefusal 2 own 2 2
       ∷ []
-      ≡ 6 ∷ 10 ∷ 15 ∷ 15 ∷ 0 ∷ []
+      ≡ 6 ∷ 10 ∷ 15 ∷ 15 ∷ 0 ∷ 6 ∷ 10 ∷ []
 
 pub examples : Examples
 unfolding own below each keep all minZ maxZ eqZ least half even has members others size rowStart place score pairList scoreLimit hasLength inRange

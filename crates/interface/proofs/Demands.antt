@@ -19,7 +19,9 @@ use Rattle.integers.proofs.Linear.{zarith, up, dn}
 use Rattle.sets.specs.Sets.{size}
 use Rattle.clusters.specs.PairList.{Similarity, Symmetric, rowStart, score}
 use Rattle.clusters.specs.Farris.{unfarris, anchoredScores, distancesBack}
-use Rattle.clusters.specs.Linkage.{Tree, blocks}
+use Rattle.sets.specs.Sets.{_∪_}
+use Rattle.clusters.specs.Linkage.{Linkage, singles, Tree, mergedBlocks, blocks}
+use Rattle.clusters.proofs.Exists.{tree-length}
 use Rattle.clusters.specs.Groups.{Kind, kindOf, index, groupSets, groups, treeLinkage, treeScores}
 use Rattle.clusters.proofs.PairList.{score-symm, length-pairList}
 use Rattle.clusters.proofs.Groups.{in-groups, in-groupSets, groups-rise, rising-distinct, of-listed, listed-index, is-listed, groups-sets}
@@ -39,10 +41,11 @@ use Rattle.interface.specs.Refusals.{
   sheetCallChecks,
   sheetRefusal,
   numbersRefusal,
+  linkageRefusal,
   anchoredRefusal,
   backRefusal,
 }
-use Rattle.interface.specs.Calls.{SheetCall, cNumber, InC, CCall, NumbersCall, setsFound, indicesFound, groupsOf, AnchoredCall, BackCall}
+use Rattle.interface.specs.Calls.{SheetCall, cNumber, InC, CCall, NumbersCall, setsFound, indicesFound, groupsOf, LinkageCall, AnchoredCall, BackCall}
 use Rattle.interface.specs.Demands.{
   Demand1,
   Listed,
@@ -338,12 +341,33 @@ demand-2 = record {
       (b .number ∙ count-in-C (b .given) z′ ∙ ap pos count′, sym (ap (λ (j : ℕ). take j after′) count′) ∙ e);
 }
 
+-- the blocks that a linkage call writes are those of a tree, but for the single entries
+linked : {linkage : Linkage} {n : ℕ} {l : List ℤ} {lent after : List ℕ} {r : Answer} (c : LinkageCall linkage n l lent r after) → numberOf r ≡ 0
+    → (singles n ++ take (countOf r) after ≡ blocks n (c .merges)) × Tree linkage n (score l) (c .merges)
+unfolding blocks mergedBlocks
+linked {linkage} {n} {l} {lent} {r = r} c none =
+    let k = linkageRefusal n l (length lent) in
+    let z = not-refused k (n - 1) (c .answered) none in
+    let t = c .tree z in
+    let long = length-map (c .merges) (λ (U, W). U ∪ W) in
+    let count = counted k (n - 1) (c .answered) none in
+    let all = tree-length linkage n (score l) (c .merges) t in
+    let same : length (mergedBlocks (c .merges)) ≡ countOf r = omega (arith, long, count, all) in
+    (ap (λ (bs : List ℕ). singles n ++ bs) (taken z (mergedBlocks (c .merges)) lent (c .written) same), t)
+
+wrote-all : {kind : ℤ} {n : ℕ} {s : Similarity} {found : List (ℕ × ℤ)} → Wrote kind n s found → Complete kind n s found
+wrote-all {kind} {n} {s} w = let (e, symm) = wrote w in subst (λ (g : List (ℕ × ℤ)). Complete kind n s g) (sym e) (complete kind n s symm)
+
 -- demand 3
 pub demand-3 : (kind : ℤ) → Demand3 kind
 demand-3 kind = record {
   lines = λ l. (lines l, lines-read l, line-size l);
   slots = λ c. let (e, is) = slots-counted c in ap length e ∙ sym is;
-  complete = λ {n} {s} w. let (e, symm) = wrote w in subst (λ (g : List (ℕ × ℤ)). Complete kind n s g) (sym e) (complete kind n s symm);
+  complete = wrote-all;
+  strong-linked = λ e c none w A z m. let (b, t) = linked c none in
+      subst (λ (bs : List ℕ). A ∈ bs) (sym b) (wrote-all w .strong-in-trees e A z m (c .merges) t);
+  clean-linked = λ e c none w A z m. let (b, t) = linked c none in
+      subst (λ (bs : List ℕ). A ∈ bs) (sym b) (wrote-all w .clean-in-trees e A z m (c .merges) t);
   reordered = λ {n} {s} {s′} w w′ p m.
       let (e, symm) = wrote w in
       let (e′, symm′) = wrote w′ in

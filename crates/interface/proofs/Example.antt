@@ -14,6 +14,8 @@ use Rattle.sets.specs.Sets.{has, members, others, size}
 use Rattle.clusters.specs.PairList.{rowStart, place, score, pairList, scoreLimit, inRange, areDistances}
 use Rattle.clusters.specs.Indices.{strongValues, strongIndex}
 use Rattle.clusters.specs.Groups.{kindOf, index, proper, speaksOf, listed, sets, groupSets, groups}
+use Rattle.answers.specs.declared.Answer.{Answer}
+use Rattle.answers.specs.declared.Answer.the-variants.{Count}
 use Rattle.answers.specs.Answers.{answer, slots}
 use Rattle.answers.proofs.Answers.{slots-written}
 use Rattle.interface.specs.Sheet.{
@@ -84,7 +86,7 @@ use Rattle.interface.specs.Refusals.{
   readerChecks,
   readerRefusal,
 }
-use Rattle.interface.specs.Calls.{cNumber, CCall, hasName, nameOf, startOf, nameStart, NameInC}
+use Rattle.interface.specs.Calls.{cNumber, CCall, hasName, ReaderCall, nameOf, startOf, nameStart, NameInC}
 use Rattle.interface.proofs.Refusals.{first-iff}
 use Rattle.interface.proofs.Demands.{answered, demand-1}
 
@@ -176,6 +178,8 @@ record Computed : Type 0 where
   numbers : map (λ c. c .number) refused ≡ 1 ∷ 2 ∷ 3 ∷ 4 ∷ 5 ∷ 6 ∷ 7 ∷ 8 ∷ 9 ∷ 11 ∷ 12 ∷ 14 ∷ []
   positive : T (all (λ c. ltb 0 (c .number)) refused)
   signed-is : pairs signed ≡ pos 0 ∷ negsuc 4 ∷ pos 0 ∷ []
+  signed-passes : readerRefusal signed ≡ 0
+  signed-two : entries signed ≡ 2
   name : nameOf parted 1 ≡ 65 ∷ []
   start : nameStart parted 1 ≡ 3
 
@@ -195,6 +199,8 @@ computed = record {
   numbers = refl;
   positive = tt;
   signed-is = refl;
+  signed-passes = refl;
+  signed-two = refl;
   name = refl;
   start = refl;
 }
@@ -234,6 +240,16 @@ every-number = computed .numbers
 -- a negative value is read as one; a name is told by its place, though its bytes stand elsewhere too
 pub signed-pairs : pairs signed ≡ pos 0 ∷ negsuc 4 ∷ pos 0 ∷ []
 signed-pairs = computed .signed-is
+
+-- and so by the reader, which touches no further slot
+pub reader-example : (lent after : List ℤ) (r : Answer) → ReaderCall signed lent r after
+    → (r ≡ Count 2) × (after ≡ (pos 0 ∷ negsuc 4 ∷ pos 0 ∷ []) ++ drop 3 lent)
+unfolding answer
+reader-example lent after r c = (
+  c .answered ∙ ap₂ answer (computed .signed-passes) (computed .signed-two),
+  c .written ∙ ap₂ (λ (k : ℕ) (l : List ℤ). slots k l lent) (computed .signed-passes) (computed .signed-is)
+      ∙ slots-written (pos 0 ∷ negsuc 4 ∷ pos 0 ∷ []) lent,
+)
 
 pub name-place : (nameOf parted 1 ≡ 65 ∷ []) × (nameStart parted 1 ≡ 3)
 name-place = (computed .name, computed .start)

@@ -1,7 +1,7 @@
 -- The demands, said of what the calls answer and write.
 use mathlib.Core.Path.{_≡_}
 use mathlib.Core.Logic.{_⊎_, _↔_}
-use mathlib.Core.List.{List, [], _∷_, map}
+use mathlib.Core.List.{List, [], _∷_, _++_, map}
 use mathlib.Core.Option.{some}
 use Prim.Native.Nat.{ℕ, _^_, _<_, _≤_}
 use lib.IntN.{ℤ, pos, negℤ}
@@ -13,7 +13,7 @@ use Rattle.sets.specs.Sets.{size, Nested, Disjoint}
 use Rattle.clusters.specs.PairList.{Similarity, rowStart, score, hasLength, inRange, areDistances}
 use Rattle.clusters.specs.Indices.{strongIndex, cleanIndex, separationIndex}
 use Rattle.clusters.specs.Farris.{farris, anchoredScores}
-use Rattle.clusters.specs.Linkage.{single, average, Tree, blocks}
+use Rattle.clusters.specs.Linkage.{single, average, singles, Tree, blocks}
 use Rattle.clusters.specs.Groups.{Kind, kindOf, index, speaksOf, writtenSet, Rising, mostGroups}
 use Rattle.clusters.specs.Reordering.{Permutation, Reordered, image}
 use Rattle.answers.specs.declared.Answer.{Answer}
@@ -21,7 +21,8 @@ use Rattle.answers.specs.Answers.{numberOf, countOf}
 use Rattle.interface.specs.Sheet.{entries, pairs}
 use Rattle.interface.specs.Listing.{Line, sheetListing, listingRead}
 use Rattle.interface.specs.Refusals.{none, Given, check6, check10, sheetCallChecks, backRefusal}
-use Rattle.interface.specs.Calls.{SheetCall, InC, CCall, NumbersCall, groupsOf, AnchoredCall, BackCall}
+use Rattle.interface.specs.Calls.{SheetCall, InC, CCall, NumbersCall, groupsOf, LinkageCall}
+use Rattle.interface.specs.Calls.{AnchoredCall, BackCall}
 
 -- Demand 1, of the C call: "any kind number, any sheet, any buffer gets the complete listing or the one refusal that
 -- document 01 names; a refusal writes no byte, a listing only its own bytes".
@@ -122,6 +123,13 @@ pub record Demand3 (kind : ℤ) : Type 0 where
   pub slots : {n count : ℕ} {l indices : List ℤ} {sets : List ℕ} → Counted kind n l count sets indices
       → length (groupsOf count sets indices) ≡ count
   pub complete : {n : ℕ} {s : Similarity} {found : List (ℕ × ℤ)} → Wrote kind n s found → Complete kind n s found
+  -- every strong group is a single entry or a block that the single linkage call writes; clean ones likewise, average
+  pub strong-linked : kind ≡ pos 1 → {n : ℕ} {l : List ℤ} {lent after : List ℕ} {r : Answer}
+      → LinkageCall single n l lent r after → numberOf r ≡ 0 → {found : List (ℕ × ℤ)} → Wrote kind n (score l) found
+      → (A : ℕ) (z : ℤ) → found lists (A, z) → A ∈ (singles n ++ take (countOf r) after)
+  pub clean-linked : kind ≡ pos 2 → {n : ℕ} {l : List ℤ} {lent after : List ℕ} {r : Answer}
+      → LinkageCall average n l lent r after → numberOf r ≡ 0 → {found : List (ℕ × ℤ)} → Wrote kind n (score l) found
+      → (A : ℕ) (z : ℤ) → found lists (A, z) → A ∈ (singles n ++ take (countOf r) after)
   -- of any two calls on entries of which one order is a reordering of the other
   pub reordered : {n : ℕ} {s s′ : Similarity} {found found′ : List (ℕ × ℤ)}
       → Wrote kind n s found → Wrote kind n s′ found′
