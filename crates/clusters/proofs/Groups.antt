@@ -16,6 +16,7 @@ use mathlib.Core.List.{
   List·Memᴰ·cases-cons,
   List·Memᴰ·append-cases,
   List·Memᴰ·eq-of-singleton,
+  Memᴰ·append-right,
   Memᴰ·cast,
 }
 use Prim.Native.Nat.{ℕ, zero, suc, _^_, _≤_, _<_}
@@ -114,9 +115,13 @@ module _ (k : Kind) (n : ℕ) (s : Similarity) (A : ℕ) where
           (h, t, ap (λ (p : ℕ × ℤ). p .1) e ∙ ap (index k n s) (sym a))
 
 -- the written order
-before-apart : (n : ℕ) {A B : ℕ} → Before n A B → A ≢ B
+pub before-apart : (n : ℕ) {A B : ℕ} → Before n A B → A ≢ B
 before-apart n (inl h) e = omega (arith, ap (size n) e)
 before-apart n (inr h) e = omega arith
+
+pub before-size : (n : ℕ) {A B : ℕ} → Before n A B → size n A ≤ size n B
+before-size n (inl h) = omega arith
+before-size n (inr h) = omega arith
 
 before-asym : (n : ℕ) {A B : ℕ} → Before n A B → Before n B A → ⊥
 before-asym n (inl h) (inl k) = omega arith
@@ -131,6 +136,14 @@ append-rise n (A ∷ l) m rl rm f = (λ B b. go B (List·Memᴰ·append-cases l 
     go : (B : ℕ) → (B ∈ l) ⊎ (B ∈ m) → Before n A B
     go B (inl b) = rl .0 B b
     go B (inr b) = f A B (List·Memᴰ·head refl) b
+
+pub rising-append : (n : ℕ) (l m : List ℕ) → Rising n (l ++ m) → Rising n m × ((A B : ℕ) → A ∈ l → B ∈ m → Before n A B)
+rising-append n [] m r = (r, λ A B a. absurd (List·Memᴰ·not-nil a))
+rising-append n (C ∷ l) m r = let (s, f) = rising-append n l m (r .1) in (s, λ A B a b. go f A B b (List·Memᴰ·cases-cons a))
+  where
+    go : ((A B : ℕ) → A ∈ l → B ∈ m → Before n A B) → (A B : ℕ) → B ∈ m → (A ≡ C) ⊎ (A ∈ l) → Before n A B
+    go f A B b (inl e) = subst (λ (D : ℕ). Before n D B) (sym e) (r .0 B (Memᴰ·append-right l b))
+    go f A B b (inr a) = f A B a b
 
 pub keep-rise : (n : ℕ) (p : ℕ → Bool) (l : List ℕ) → Rising n l → Rising n (keep p l)
 unfolding keep

@@ -16,3 +16,4 @@ pub mod Average
 pub mod Theorems
 pub mod Reindex
 pub mod Reordering
+pub mod Hierarchies

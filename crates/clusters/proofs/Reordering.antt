@@ -41,7 +41,7 @@ size-image n p A =
     omega (zarith, reindex-members n p A (image n p A) (image-has n p A) (λ i. pos 1), sum-const (members n A) (pos 1), sum-const (members n (image n p A)) (pos 1))
 
 -- what a reordering does, its inverse undoes
-inverse : {n : ℕ} → Permutation n → Permutation n
+unfoldable pub inverse : {n : ℕ} → Permutation n → Permutation n
 inverse p = record { to = p .from; from = p .to; to-lt = p .from-lt; from-lt = p .to-lt; from-to = p .to-from; to-from = p .from-to }
 
 inverse-image : (n : ℕ) (p : Permutation n) (A B : ℕ) → Image n p A B → Image n (inverse p) B A

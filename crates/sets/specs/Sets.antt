@@ -1,7 +1,7 @@
 -- Sets of the entries 0 .. n − 1, written as numbers: "entry i, counted from 0, weighs 2 to the power i" (What is
 -- written). A set A of the n entries is a number A < 2 ^ n.
 use mathlib.Core.Path.{_≡_}
-use mathlib.Core.Bool.{Bool, not, cond, _&&_}
+use mathlib.Core.Bool.{Bool, true, not, cond, _&&_}
 use mathlib.Core.List.{List}
 use mathlib.Core.Logic.{_⊎_}
 use Prim.Native.Nat.{ℕ, zero, suc, _+_, _*_, _/_, _%_, _^_, _<_}
@@ -41,6 +41,10 @@ A ∪ B = bitOr A B
 unfoldable pub mask : ℕ → (ℕ → Bool) → ℕ
 mask zero p = 0
 mask (suc n) p = cond (p 0) 1 0 + 2 * mask n (λ i. p (suc i))
+
+-- X, all n entries
+unfoldable pub allEntries : ℕ → ℕ
+allEntries n = mask n (λ i. true)
 
 -- the entries outside A, and those of A that are not in B
 unfoldable pub complement : ℕ → ℕ → ℕ

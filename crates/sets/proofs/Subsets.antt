@@ -1,0 +1,78 @@
+-- Subsets by their sizes; the set without entries and the set of all.
+use mathlib.Core.Path.{_≡_, refl, ap, _∙_, subst}
+use mathlib.Core.Bool.{true}
+use mathlib.Core.Logic.{_⊎_, inl, inr, _≢_}
+use Prim.Native.Nat.{ℕ, zero, suc, _+_, _-_, _*_, _/_, _%_, _^_, _≤_, _<_}
+use native.Mathlib.Decide.{ℕ-discrete}
+use native.Mathlib.Nat.{zero-div}
+use native.Mathlib.Omega.{arith}
+use lib.Pow.{ones-split, ones-lt, high}
+use Rattle.sets.specs.Sets.{_∋_, _∌_, size, mask, allEntries, Subset}
+use Rattle.sets.proofs.Sets.{in-or-out, size-suc, size-le, left-out, mask-lt, in-mask}
+
+-- the same of one entry less
+fewer : {n A B : ℕ} → Subset (suc n) A B → Subset n A B
+fewer s = record { all = λ i h k. s .all i (omega arith) k }
+
+pub subset-size : (n : ℕ) {A B : ℕ} → Subset n A B → size n A ≤ size n B
+subset-size zero {A} {B} s = omega (arith, size-le 0 A)
+subset-size (suc n) {A} {B} s = go (subset-size n (fewer s)) (in-or-out A n)
+  where
+    go : size n A ≤ size n B → (A ∋ n) ⊎ (A ∌ n) → size (suc n) A ≤ size (suc n) B
+    go ih (inl k) = omega (arith, size-suc n A, size-suc n B, s .all n (omega arith) k .bit)
+    go ih (inr k) = omega (arith, size-suc n A, size-suc n B)
+
+-- an entry of B outside A makes B larger
+subset-larger : (n : ℕ) {A B : ℕ} → Subset n A B → (i : ℕ) → i < n → B ∋ i → A ∌ i → size n A < size n B
+subset-larger zero s i h b a = absurd (omega arith)
+subset-larger (suc n) {A} {B} s i h b a = go (λ l. subset-larger n (fewer s) i l b a) (ℕ-discrete i n) (in-or-out A n)
+  where
+    go : (i < n → size n A < size n B) → Dec (i ≡ n) → (A ∋ n) ⊎ (A ∌ n) → size (suc n) A < size (suc n) B
+    go ih (yes e) _ =
+        let b′ : B ∋ n = subst (λ (j : ℕ). B ∋ j) e b in
+        let a′ : A ∌ n = subst (λ (j : ℕ). A ∌ j) e a in
+        omega (arith, size-suc n A, size-suc n B, subset-size n (fewer s))
+    go ih (no f) (inl k) = omega (arith, size-suc n A, size-suc n B, s .all n (omega arith) k .bit, ih (omega arith))
+    go ih (no f) (inr k) = omega (arith, size-suc n A, size-suc n B, ih (omega arith))
+
+module _ (n : ℕ) {A B : ℕ} (low-a : A < 2 ^ n) (low-b : B < 2 ^ n) (sub : Subset n A B) where
+  pub strict-size : A ≢ B → size n A < size n B
+  strict-size d = let (i, h, b, a) = left-out n B A low-b low-a d sub in subset-larger n sub i h b a
+
+  pub subset-equal : size n B ≤ size n A → A ≡ B
+  subset-equal h = go (ℕ-discrete A B)
+    where
+      go : Dec (A ≡ B) → A ≡ B
+      go (yes e) = e
+      go (no d) = absurd (omega (arith, strict-size d))
+
+pub empty-out : (i : ℕ) → 0 ∌ i
+empty-out i = record { bit = ap (λ (x : ℕ). x % 2) (zero-div (2 ^ i)) }
+
+pub all-entries-in : (n : ℕ) {i : ℕ} → i < n → allEntries n ∋ i
+unfolding allEntries
+all-entries-in n h = in-mask n (λ i. true) h tt
+
+pub all-entries-lt : (n : ℕ) → allEntries n < 2 ^ n
+unfolding allEntries
+all-entries-lt n = mask-lt n (λ i. true)
+
+-- as a number it is 2 to the power n, less 1
+pub all-entries-number : (n : ℕ) → suc (allEntries n) ≡ 2 ^ n
+unfolding allEntries mask
+all-entries-number zero = refl
+all-entries-number (suc n) = let e = all-entries-number n in omega arith
+
+-- of the w binary digits 1 the upper n, moved down
+pub all-entries-shift : (n w : ℕ) → n ≤ w → (2 ^ w - 1) / 2 ^ (w - n) ≡ allEntries n
+all-entries-shift n w h =
+    ap (λ (k : ℕ). (2 ^ k - 1) / 2 ^ (w - n)) whole
+    ∙ ap (λ (a : ℕ). a / 2 ^ (w - n)) (ones-split n (w - n))
+    ∙ high (2 ^ n - 1) (w - n) (ones-lt (w - n))
+    ∙ number
+  where
+    whole : w ≡ n + (w - n)
+    whole = omega arith
+
+    number : 2 ^ n - 1 ≡ allEntries n
+    number = omega (arith, all-entries-number n)
