@@ -17,3 +17,6 @@ pub mod Theorems
 pub mod Reindex
 pub mod Reordering
 pub mod Hierarchies
+pub mod Searches
+pub mod Shared
+pub mod Images

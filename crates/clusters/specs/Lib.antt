@@ -6,3 +6,4 @@ pub mod Groups
 pub mod Reordering
 pub mod Stability
 pub mod Bench
+pub mod Nesting
