@@ -24,6 +24,7 @@ use Rattle.interface.specs.Refusals.{
   wrongDistances,
   fewSlots,
   wrongAnchor,
+  wrongEntries,
   shortSlice,
   notAnchored,
   numbersChecks,
@@ -100,7 +101,7 @@ pub record Examples : Type 0 where
 pub examples : Examples
 unfolding own below each keep all minZ maxZ eqZ least half even has members others size rowStart place score pairList scoreLimit hasLength inRange
     areDistances strongValues strongIndex unfarris distancesBack isAnchored kindOf index proper speaksOf listed sets groupSets groups groupsFound firstOf
-    mostEntries wrongKind wrongCount wrongDistances fewSlots wrongAnchor shortSlice notAnchored numbersChecks numbersRefusal linkageChecks
+    mostEntries wrongKind wrongCount wrongDistances fewSlots wrongAnchor wrongEntries shortSlice notAnchored numbersChecks numbersRefusal linkageChecks
     linkageRefusal anchoredChecks anchoredRefusal backChecks backRefusal scoreChecks scoreRefusal setsFound indicesFound isPair scoreAmong
 examples = record {
   passes = refl;
@@ -138,9 +139,9 @@ numbers-refused lentSets sets lentIndices indices r c = (c .answered, c .setsWri
 
 -- a score looked up in C: put in the slot, or nothing is written; a score below 0 is no refusal
 pub score-example : (lent r after : ℤ) → ScoreInC 2 (pos 0 ∷ negsuc 4 ∷ pos 0 ∷ []) 0 1 lent r after → (r ≡ pos 0) × (after ≡ negsuc 4)
-unfolding rowStart place score hasLength firstOf mostEntries wrongCount wrongAnchor scoreChecks scoreRefusal
+unfolding rowStart place score hasLength firstOf mostEntries wrongCount wrongAnchor wrongEntries scoreChecks scoreRefusal
 score-example lent r after c = (c .answered, c .written)
 
 pub score-refused : (lent r after : ℤ) → ScoreInC 3 own 0 3 lent r after → (r ≡ pos 15) × (after ≡ lent)
-unfolding own rowStart place score hasLength firstOf mostEntries wrongCount wrongAnchor scoreChecks scoreRefusal
+unfolding own rowStart place score hasLength firstOf mostEntries wrongCount wrongAnchor wrongEntries scoreChecks scoreRefusal
 score-refused lent r after c = (c .answered, c .written)

@@ -5,7 +5,7 @@ use mathlib.Core.Logic.{_↔_}
 use mathlib.Core.List.{List, [], _∷_, _++_}
 use Prim.Native.Nat.{ℕ, _≤_, _<_}
 use native.Mathlib.Omega.{arith}
-use borrow.Author.Tests.{eqb-true, eqb-false, ltb-false, eq-eqb, ne-eqb, not-false}
+use borrow.Author.Tests.{eqb-true, eqb-false, leb-false, ltb-false, eq-eqb, ne-eqb, not-false}
 use lib.Dec.{T, eqb, leb, ltb, leb→le}
 use lib.IntN.{ℤ}
 use lib.ListN.{length, getD}
@@ -13,7 +13,7 @@ use Rattle.lists.specs.Lists.{all}
 use Rattle.lists.proofs.Lists.{all-in, getD-in}
 use Rattle.lists.proofs.Tests.{and-T, cond-elim, eqb-no, or-none}
 use Rattle.clusters.specs.PairList.{rowStart, hasLength}
-use Rattle.interface.specs.Refusals.{firstOf, none, Given, mostEntries, wrongCount}
+use Rattle.interface.specs.Refusals.{firstOf, none, Given, mostEntries, wrongCount, wrongAnchor, wrongEntries}
 
 -- down the table l, which gives r
 pub record Gives (l : List (ℕ × Bool)) (r : ℕ) : Type 0 where
@@ -65,6 +65,11 @@ right-count n e = few-count n e
 pub right-length : (n : ℕ) (l : List ℤ) → not (hasLength n l) ≡ false → length l ≡ rowStart n
 unfolding hasLength
 right-length n l e = eqb-true (length l) (rowStart n) (not-false (hasLength n l) e)
+
+-- and what check 15 leaves of two entry numbers
+pub right-entries : (n i j : ℕ) → wrongEntries n i j ≡ false → (i < n) × (j < n)
+unfolding wrongEntries wrongAnchor
+right-entries n i j e = let (p, q) = or-none (leb n i) (leb n j) e in (leb-false n i p, leb-false n j q)
 
 given-first : (before after : List (ℕ × Bool)) (k : ℕ) → T (none before) → firstOf (before ++ ((k, true) ∷ after)) ≡ k
 unfolding firstOf all

@@ -164,6 +164,10 @@ shortSlice slots result = ltb slots result
 unfoldable pub notAnchored : ℕ → (anchor : ℕ) → List ℤ → Bool
 notAnchored n x l = not (isAnchored n x l)
 
+-- an entry number of n or more, of two entries
+unfoldable pub wrongEntries : ℕ → (i j : ℕ) → Bool
+wrongEntries n i j = wrongAnchor n i || wrongAnchor n j
+
 abbrev pub check15 : Bool → Check
 check15 holds = (15, holds)
 
@@ -240,7 +244,7 @@ unfoldable pub scoreChecks : ℕ → List ℤ → (a b : ℕ) → List Check
 scoreChecks n l a b =
     check6 n
     ∷ check10 n l
-    ∷ check15 (wrongAnchor n a || wrongAnchor n b)
+    ∷ check15 (wrongEntries n a b)
     ∷ []
 
 -- the number of the refusal that each call gives, 0 if none

@@ -9,7 +9,7 @@ ghost use lib.Signed.{leZ};
 ghost use Rattle.lists.specs.Lists.{all, below};
 ghost use Rattle.integers.specs.Integers.{eqZ};
 ghost use Rattle.clusters.specs.PairList.{rowStart, place, score, scoreLimit, hasLength, inRange, areDistances};
-ghost use Rattle.interface.specs.Refusals.{firstOf, wrongCount};
+ghost use Rattle.interface.specs.Refusals.{firstOf, wrongCount, wrongEntries};
 ghost use Rattle.matrix.specs.Checks.{lengthChecks, pairChecks};
 
 // The row starts: row i of the lower triangle starts at i(i+1)/2.
@@ -201,4 +201,11 @@ pub fn are_distances(n: usize, pairs: &[i32]) -> bool
     ensures { λ r. ⌜ r ≡ areDistances n (now (pairs .entry)) ⌝ }
 {
     are_not_negative(pairs) && are_own_zero(n, pairs)
+}
+
+// Check 15 of two entry numbers.
+pub fn are_wrong_entries(n: usize, a: usize, b: usize) -> bool
+    ensures { λ r. ⌜ r ≡ wrongEntries n a b ⌝ }
+{
+    (n <= a) | (n <= b)
 }

@@ -64,10 +64,7 @@ pub fn score_refusal(n: usize, pairs: &[i32], a: usize, b: usize) -> usize
     if refused != 0 {
         return refused;
     }
-    if n <= a {
-        return 15;
-    }
-    if n <= b {
+    if matrix::are_wrong_entries(n, a, b) {
         return 15;
     }
     0

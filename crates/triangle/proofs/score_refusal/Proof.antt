@@ -1,8 +1,8 @@
+use mathlib.Core.Path.{sym, _∙_}
 use borrow.Author.Needs.{needs}
 use Rattle.interface.specs.Refusals.{scoreChecks, scoreRefusal}
 use Rattle.interface.proofs.Refusals.{gives, first-yes, first-no, no-more}
 use Rattle.matrix.proofs.Checks.{length-refused, length-passed}
-use Rattle.triangle.proofs.Among.{first-past, second-past, none-past}
 use Rattle.triangle.proofs.score_refusal.Statement.{statement}
 use Rattle.triangle.proofs.score_refusal.Tie as tie
 
@@ -13,21 +13,20 @@ returns : tie.Need-returns
 unfolding scoreRefusal scoreChecks
 returns c = gives (length-refused _ _ (c .before .length-refusal .ensures) (c .if1 .taken))
 
+are-wrong-entries-requires : tie.Need-are-wrong-entries-requires
+are-wrong-entries-requires c κs = search needs
+
 returns-2 : tie.Need-returns-2
 unfolding scoreRefusal scoreChecks
-returns-2 c = let p = c .before in
-    gives (length-passed _ _ (p .before .length-refusal .ensures) (p .if1 .left) (first-yes (first-past _ _ _ (c .if2 .taken))))
+returns-2 c = let p = c .before .before in
+    gives (length-passed _ _ (p .before .length-refusal .ensures) (p .if1 .left)
+    (first-yes (sym (c .before .are-wrong-entries .ensures) ∙ c .if2 .taken)))
 
 returns-3 : tie.Need-returns-3
 unfolding scoreRefusal scoreChecks
 returns-3 c = let p = c .before .before in
-    gives (length-passed _ _ (p .before .length-refusal .ensures) (p .if1 .left) (first-yes (second-past _ _ _ (c .before .if2 .left) (c .if3 .taken))))
-
-returns-4 : tie.Need-returns-4
-unfolding scoreRefusal scoreChecks
-returns-4 c = let p = c .before .before in
     gives (length-passed _ _ (p .before .length-refusal .ensures) (p .if1 .left)
-    (first-no (none-past _ _ _ (c .before .if2 .left) (c .if3 .left)) no-more))
+    (first-no (sym (c .before .are-wrong-entries .ensures) ∙ c .if2 .left) no-more))
 
 pub score-refusal-spec : {M : Type 1} → statement M
-score-refusal-spec = tie.close (tie.spec length-refusal-requires returns returns-2 returns-3 returns-4)
+score-refusal-spec = tie.close (tie.spec length-refusal-requires returns are-wrong-entries-requires returns-2 returns-3)
