@@ -1,7 +1,13 @@
-// The answer of the calls on numbers, and what it says.
+// The answers of the calls on numbers, and what they say.
 
 // How many slots were written, or the number of the refusal.
 pub enum Answer {
     Count(usize),
+    Refused(usize),
+}
+
+// The smallest set that two entries share and its line, or the number of the refusal.
+pub enum Shared {
+    Set(u32, usize),
     Refused(usize),
 }

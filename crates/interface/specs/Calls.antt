@@ -10,9 +10,12 @@ use lib.ListN.{length, getD, take, drop}
 use Rattle.clusters.specs.PairList.{Similarity, rowStart, score, hasLength}
 use Rattle.clusters.specs.Farris.{anchoredScores, distancesBack}
 use Rattle.clusters.specs.Linkage.{Linkage, Tree, mergedBlocks}
+use Rattle.clusters.specs.Nesting.{Hit, smallestShared}
 use Rattle.answers.specs.declared.Answer.{Answer}
 use Rattle.answers.specs.declared.Answer.the-variants.{Count, Refused}
 use Rattle.answers.specs.Answers.{answer, slots, filled}
+use Rattle.answers.specs.declared.Shared.{Shared}
+use Rattle.answers.specs.Shared.{sharedNumber, sharedSet, sharedLine, sharedAnswer}
 use Rattle.interface.specs.Sheet.{names, entries, pairs}
 use Rattle.interface.specs.Listing.{groupsFound, sheetListing}
 use Rattle.interface.specs.Refusals.{
@@ -24,6 +27,7 @@ use Rattle.interface.specs.Refusals.{
   backRefusal,
   readerRefusal,
   scoreRefusal,
+  sharedRefusal,
 }
 
 -- The sheet call: the listing's length, and the listing in the first bytes.
@@ -139,3 +143,20 @@ scoreAmong n l a b = cond (isPair n l a b) (score l a b) (pos 0)
 pub record ScoreInC (n : ℕ) (l : List ℤ) (a b : ℕ) (lent r after : ℤ) : Type 0 where
   pub answered : r ≡ pos (scoreRefusal n l a b)
   pub written : after ≡ cond (eqb (scoreRefusal n l a b) 0) (score l a b) lent
+
+-- The smallest group that two entries share (document 02, 2.1): the search goes down the sets that the numbers call
+-- puts, "in its written order", and "Its answer is the set and its line".
+unfoldable pub sharedFound : ℤ → ℕ → List ℤ → (i j : ℕ) → Hit
+sharedFound kind n l i j = smallestShared n i j (setsFound kind n l)
+
+pub record SharedCall (kind : ℤ) (n : ℕ) (l : List ℤ) (i j : ℕ) (r : Shared) : Type 0 where
+  pub answered :
+      r
+      ≡ sharedAnswer (sharedRefusal kind n l i j) (sharedFound kind n l i j .set) (sharedFound kind n l i j .line)
+
+-- in C: the line is answered as a count is, a refusal as minus its number; the set goes to a slot, on refusal too
+pub record SharedInC (kind : ℤ) (n : ℕ) (l : List ℤ) (i j : ℕ) (r : ℤ) (set : ℕ) : Type 0 where
+  pub given : Shared
+  pub outcome : SharedCall kind n l i j given
+  pub answered : r ≡ cNumber (answer (sharedNumber given) (sharedLine given))
+  pub written : set ≡ sharedSet given

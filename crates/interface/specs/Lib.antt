@@ -3,3 +3,4 @@ pub mod Listing
 pub mod Refusals
 pub mod Calls
 pub mod Demands
+pub mod Requests

@@ -64,6 +64,13 @@ wrongKind kind = not (eqZ kind (pos 1) || eqZ kind (pos 2) || eqZ kind (pos 3))
 abbrev pub check1 : ℤ → Check
 check1 kind = (1, wrongKind kind)
 
+-- "Kind 3 gets 1 here" (document 02, 2.1)
+unfoldable pub wrongGroupKind : ℤ → Bool
+wrongGroupKind kind = wrongKind kind || eqZ kind (pos 3)
+
+abbrev pub check1Groups : ℤ → Check
+check1Groups kind = (1, wrongGroupKind kind)
+
 -- whole sheet | 2 | "0 bytes, or over 12,288"
 unfoldable pub wrongLength : List ℕ → Bool
 wrongLength s = eqb (length s) 0 || ltb mostBytes (length s)
@@ -164,7 +171,7 @@ shortSlice slots result = ltb slots result
 unfoldable pub notAnchored : ℕ → (anchor : ℕ) → List ℤ → Bool
 notAnchored n x l = not (isAnchored n x l)
 
--- an entry number of n or more, of two entries
+-- "an entry number of n or more" (document 02, 2.1), of two entries
 unfoldable pub wrongEntries : ℕ → (i j : ℕ) → Bool
 wrongEntries n i j = wrongAnchor n i || wrongAnchor n j
 
@@ -247,6 +254,18 @@ scoreChecks n l a b =
     ∷ check15 (wrongEntries n a b)
     ∷ []
 
+-- of the smallest group that two entries share: "after the numbers call's checks, 13 left out, an entry number of n or
+-- more gets 15" (document 02, 2.1)
+unfoldable pub sharedChecks : ℤ → ℕ → List ℤ → (i j : ℕ) → List Check
+sharedChecks kind n l i j =
+    check1Groups kind
+    ∷ check6 n
+    ∷ check10 n l
+    ∷ check11 l
+    ∷ check12 kind n l
+    ∷ check15 (wrongEntries n i j)
+    ∷ []
+
 -- the number of the refusal that each call gives, 0 if none
 unfoldable pub sheetRefusal : ℤ → List ℕ → (buffer : ℕ) → ℕ
 sheetRefusal kind s buffer = firstOf (sheetCallChecks kind s buffer)
@@ -268,3 +287,6 @@ readerRefusal s = firstOf (readerChecks s)
 
 unfoldable pub scoreRefusal : ℕ → List ℤ → (a b : ℕ) → ℕ
 scoreRefusal n l a b = firstOf (scoreChecks n l a b)
+
+unfoldable pub sharedRefusal : ℤ → ℕ → List ℤ → (i j : ℕ) → ℕ
+sharedRefusal kind n l i j = firstOf (sharedChecks kind n l i j)

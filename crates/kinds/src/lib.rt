@@ -8,7 +8,7 @@ ghost use Rattle.integers.specs.Integers.{eqZ};
 ghost use Rattle.sets.specs.Sets.{size};
 ghost use Rattle.clusters.specs.PairList.{rowStart, score};
 ghost use Rattle.clusters.specs.Groups.{index, proper, speaksOf, kindOf};
-ghost use Rattle.interface.specs.Refusals.{wrongKind, wrongDistances};
+ghost use Rattle.interface.specs.Refusals.{wrongKind, wrongGroupKind, wrongDistances};
 ghost use Rattle.kinds.specs.Kinds.{kindFor};
 ghost use Rattle.matrix.specs.Checks.{Checked};
 
@@ -37,6 +37,16 @@ pub fn is_wrong(kind: i32) -> bool
         return false;
     }
     !is_number(kind, 3)
+}
+
+// Check 1 of a call that only kinds of groups are for.
+pub fn is_wrong_for_groups(kind: i32) -> bool
+    ensures { λ r. ⌜ r ≡ wrongGroupKind kind ⌝ }
+{
+    if is_wrong(kind) {
+        return true;
+    }
+    is_number(kind, 3)
 }
 
 pub fn kind_of(kind: i32) -> Kind

@@ -1,0 +1,56 @@
+use mathlib.Core.Path.{_≡_, sym, _∙_}
+use mathlib.Core.Bool.{Bool}
+use borrow.Author.Needs.{needs}
+use Rattle.interface.specs.Refusals.{wrongGroupKind, sharedChecks, sharedRefusal}
+use Rattle.interface.proofs.Refusals.{gives, first-yes, first-no, no-more}
+use Rattle.matrix.proofs.Checks.{pairs-refused, pairs-passed}
+use Rattle.kinds.proofs.Listed.{told}
+use Rattle.shared.proofs.Answers.{no-distances}
+use Rattle.shared.proofs.shared_refusal.Statement.{statement}
+use Rattle.shared.proofs.shared_refusal.Tie as tie
+
+-- check 1 as the code makes it
+check-1 : {t : Bool} (c : tie.After-is-wrong-for-groups) → c .is-wrong-for-groups .result ≡ t → wrongGroupKind (c .before .args .kind) ≡ t
+check-1 c = told wrongGroupKind (c .before .fits .kind) (c .is-wrong-for-groups .ensures)
+
+is-wrong-for-groups-requires : tie.Need-is-wrong-for-groups-requires
+is-wrong-for-groups-requires c κs = search needs
+
+returns : tie.Need-returns
+unfolding sharedRefusal sharedChecks
+returns c = gives (first-yes (check-1 (c .before) (c .if1 .taken)))
+
+refusal-requires : tie.Need-refusal-requires
+refusal-requires c κs = search needs
+
+returns-2 : tie.Need-returns-2
+unfolding sharedRefusal sharedChecks
+returns-2 c = let p = c .before .before in
+    gives (first-no (check-1 (p .before) (p .if1 .left)) (pairs-refused _ _ (c .before .refusal .ensures) (c .if2 .taken)))
+
+are-wrong-entries-requires : tie.Need-are-wrong-entries-requires
+are-wrong-entries-requires c κs = search needs
+
+returns-3 : tie.Need-returns-3
+unfolding sharedRefusal sharedChecks
+returns-3 c = let q = c .before .before in let p = q .before .before in let one = check-1 (p .before) (p .if1 .left) in
+    gives (first-no one (pairs-passed _ _ (q .before .refusal .ensures) (q .if2 .left)
+    (first-no (no-distances _ _ _ one) (first-yes (sym (c .before .are-wrong-entries .ensures) ∙ c .if3 .taken)))))
+
+returns-4 : tie.Need-returns-4
+unfolding sharedRefusal sharedChecks
+returns-4 c = let q = c .before .before in let p = q .before .before in let one = check-1 (p .before) (p .if1 .left) in
+    gives (first-no one (pairs-passed _ _ (q .before .refusal .ensures) (q .if2 .left)
+    (first-no (no-distances _ _ _ one) (first-no (sym (c .before .are-wrong-entries .ensures) ∙ c .if3 .left) no-more))))
+
+pub shared-refusal-spec : {M : Type 1} → statement M
+shared-refusal-spec =
+    tie.close
+    (tie.spec
+    is-wrong-for-groups-requires
+    returns
+    refusal-requires
+    returns-2
+    are-wrong-entries-requires
+    returns-3
+    returns-4)
