@@ -1,5 +1,6 @@
 -- What an answer says, read back.
 use mathlib.Core.Path.{_≡_, refl}
+use mathlib.Core.Logic.{_≢_}
 use mathlib.Core.List.{List, _++_}
 use Prim.Native.Nat.{ℕ, zero, suc, _-_, _<_}
 use native.Mathlib.Omega.{arith}
@@ -7,6 +8,7 @@ use lib.Dec.{eqb·suc-zero}
 use lib.ListN.{length, take, drop, replicate}
 use lib.Seq.{take-append-seam}
 use Rattle.answers.specs.Answers.{numberOf, countOf, answer, slots, filled}
+use Rattle.answers.specs.Shared.{sharedNumber, sharedSet, sharedLine, sharedAnswer}
 
 pub number-answer : (k c : ℕ) → numberOf (answer k c) ≡ k
 unfolding numberOf answer
@@ -36,3 +38,19 @@ slots-written result lent = refl
 pub filled-written {ℓ} : {A : Type ℓ} (nil : A) (result lent : List A) → take (length result) (filled nil 0 result lent) ≡ result
 unfolding filled
 filled-written nil result lent = take-append-seam result (replicate (length lent - length result) nil)
+
+-- the set and the line that two entries share: the answer of a call whose checks give k
+module _ (A line : ℕ) where
+  pub shared-number : (k : ℕ) → sharedNumber (sharedAnswer k A line) ≡ k
+  unfolding sharedNumber sharedAnswer
+  shared-number zero = refl
+  shared-number (suc k) = refl
+
+  pub shared-nothing : (k : ℕ) → k ≢ 0 → (sharedSet (sharedAnswer k A line) ≡ 0) × (sharedLine (sharedAnswer k A line) ≡ 0)
+  unfolding sharedSet sharedLine sharedAnswer
+  shared-nothing zero f = absurd (f refl)
+  shared-nothing (suc k) f = (refl, refl)
+
+  pub shared-found : (sharedSet (sharedAnswer 0 A line) ≡ A) × (sharedLine (sharedAnswer 0 A line) ≡ line)
+  unfolding sharedSet sharedLine sharedAnswer
+  shared-found = (refl, refl)

@@ -6,6 +6,7 @@ use mathlib.Core.List.{List, [], _∷_, Memᴰ·cast}
 use Prim.Native.Nat.{ℕ, suc, _^_, _≤_, _<_}
 use native.Mathlib.Omega.{arith}
 use lib.Dec.{T, T-not}
+use lib.ListN.{length, length-append}
 use Rattle.lists.specs.Lists.{_∈_}
 use Rattle.lists.proofs.Tests.{and-T, T-and}
 use Rattle.lists.proofs.Lists.{all-in}
@@ -76,6 +77,13 @@ module _ (n i j : ℕ) (l : List ℕ) where
 
   pub shared-in : smallestShared n i j l .line ≢ 0 → smallestShared n i j l .set ∈ l
   shared-in d = first-in (found (smallestShared n i j l) answer d)
+
+  pub shared-line-le : smallestShared n i j l .line ≤ length l
+  shared-line-le = go (smallestShared n i j l) answer
+    where
+      go : (hit : Hit) → Answer hit → hit .line ≤ length l
+      go hit (inl r) = omega (arith, r .place, ap length (r .parts), length-append (r .before) (hit .set ∷ r .after))
+      go hit (inr (e, _)) = omega (arith, ap (λ (h : Hit). h .line) e)
 
   -- line 0 exactly if no line holds both
   pub shared-none : (smallestShared n i j l .line ≡ 0) ↔ ((C : ℕ) → C ∈ l → C ∋ i → C ∋ j → ⊥)

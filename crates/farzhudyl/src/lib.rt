@@ -7,9 +7,10 @@ ghost use Rattle.clusters.specs.PairList.{rowStart};
 ghost use Rattle.clusters.specs.Linkage.{single, average};
 ghost use Rattle.answers.specs.Answers.{numberOf, countOf};
 ghost use Rattle.interface.specs.Calls.{SheetCall, cNumber, InC, CCall, NumbersCall, LinkageCall};
-ghost use Rattle.interface.specs.Calls.{AnchoredCall, BackCall, ReaderCall, NameInC, ScoreInC};
+ghost use Rattle.interface.specs.Calls.{AnchoredCall, BackCall, ReaderCall, NameInC, ScoreInC, SharedInC};
 ghost use Rattle.farzhudyl.specs.Pairs.{PairsListed};
 use answers::Answer;
+use answers::Shared;
 
 // The listing of a pair list, or the first of checks 11, 12 and 14 that refuses.
 fn list_pairs(kind: i32, n: usize, pairs: &[i32], out: &mut [u8]) -> Answer
@@ -186,4 +187,29 @@ pub extern "C" fn farzhudyl_score(
     }
     *score = triangle::score_of(pairs, n, a, b);
     0
+}
+
+// The line is answered, and the set goes to a slot; on refusal 0 does.
+#[no_mangle]
+pub extern "C" fn farzhudyl_smallest_shared(
+    kind: i32,
+    n: usize,
+    pairs: &[i32],
+    a: usize,
+    b: usize,
+    set: &mut u32,
+) -> i64
+    ensures { λ r. ⌜ SharedInC kind n (now (pairs .entry)) a b r (now (set .exit)) ⌝ }
+{
+    let answer = shared::smallest_shared(kind, n, pairs, a, b);
+    match answer {
+        Shared::Set(found, line) => {
+            *set = found;
+            plus(line)
+        }
+        Shared::Refused(number) => {
+            *set = 0;
+            minus(number)
+        }
+    }
 }

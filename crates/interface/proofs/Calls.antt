@@ -37,8 +37,11 @@ use Rattle.interface.specs.Refusals.{
   backRefusal,
   scoreChecks,
   scoreRefusal,
+  wrongGroupKind,
+  sharedChecks,
+  sharedRefusal,
 }
-use Rattle.interface.specs.Calls.{NumbersCall, setsFound, indicesFound, isPair, scoreAmong, ScoreInC}
+use Rattle.interface.specs.Calls.{NumbersCall, setsFound, indicesFound, isPair, scoreAmong, ScoreInC, sharedFound, SharedCall, SharedInC}
 
 -- Of the bench's three entries, own 6, others 5, and of one entry: what the numbers call finds; each number of each call's table, and 0 where no
 -- line holds; scores of two entries, and of what is no pair.
@@ -97,12 +100,25 @@ pub record Examples : Type 0 where
       ∷ scoreRefusal 2 own 2 2
       ∷ []
       ≡ 6 ∷ 10 ∷ 15 ∷ 15 ∷ 0 ∷ 6 ∷ 10 ∷ []
+  pub shared :
+      sharedRefusal (pos 0) 3 own 0 1
+      ∷ sharedRefusal (pos 3) 1 (pos 0 ∷ []) 0 0
+      ∷ sharedRefusal (pos 1) 0 [] 0 0
+      ∷ sharedRefusal (pos 1) 2 own 2 2
+      ∷ sharedRefusal (pos 2) 1 (pos 1000001 ∷ []) 1 1
+      ∷ sharedRefusal (pos 1) 3 own 3 0
+      ∷ sharedRefusal (pos 1) 3 own 0 3
+      ∷ sharedRefusal (pos 1) 3 own 2 2
+      ∷ sharedRefusal (pos 2) 3 own 2 0
+      ∷ []
+      ≡ 1 ∷ 1 ∷ 6 ∷ 10 ∷ 11 ∷ 15 ∷ 15 ∷ 0 ∷ 0 ∷ []
 
 pub examples : Examples
 unfolding own below each keep all minZ maxZ eqZ least half even has members others size rowStart place score pairList scoreLimit hasLength inRange
     areDistances strongValues strongIndex unfarris distancesBack isAnchored kindOf index proper speaksOf listed sets groupSets groups groupsFound firstOf
     mostEntries wrongKind wrongCount wrongDistances fewSlots wrongAnchor wrongEntries shortSlice notAnchored numbersChecks numbersRefusal linkageChecks
-    linkageRefusal anchoredChecks anchoredRefusal backChecks backRefusal scoreChecks scoreRefusal setsFound indicesFound isPair scoreAmong
+    linkageRefusal anchoredChecks anchoredRefusal backChecks backRefusal scoreChecks scoreRefusal wrongGroupKind sharedChecks sharedRefusal
+    setsFound indicesFound isPair scoreAmong
 examples = record {
   passes = refl;
   these = refl;
@@ -114,6 +130,7 @@ examples = record {
   back = refl;
   scores = refl;
   scored = refl;
+  shared = refl;
 }
 
 -- the numbers call, given 7 and 6 slots, counts 3, puts the three singles, and "fills all further slots with 0"

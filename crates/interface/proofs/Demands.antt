@@ -69,12 +69,12 @@ use Rattle.interface.proofs.Slots.{groups-slots}
 use Rattle.interface.proofs.Anchored.{length-anchored, way-back}
 
 -- what a number in C says of the answer: a length, if nothing is refused; minus the number of the refusal
-c-count : (k c count : ℕ) → cNumber (answer k c) ≡ pos count → (k ≡ 0) × (c ≡ count)
+pub c-count : (k c count : ℕ) → cNumber (answer k c) ≡ pos count → (k ≡ 0) × (c ≡ count)
 unfolding cNumber answer
 c-count zero c count e = (refl, cc)
 c-count (suc k) c count e = let z : _≡_ {A = ℕ} 0 1 = cc in absurd (omega arith)
 
-c-refused : (k c j : ℕ) → 0 < j → (cNumber (answer k c) ≡ negℤ (pos j)) ↔ (k ≡ j)
+pub c-refused : (k c j : ℕ) → 0 < j → (cNumber (answer k c) ≡ negℤ (pos j)) ↔ (k ≡ j)
 unfolding cNumber answer
 c-refused k c zero h = absurd (omega arith)
 c-refused zero c (suc j) h = (λ e. let z : _≡_ {A = ℕ} 0 1 = cc in absurd (omega arith), λ e. absurd (omega arith))
@@ -257,7 +257,7 @@ slots-counted {kind} {n} {l = l} {indices = indices} {sets = sets} (by-numbers-i
     (sym (ap (λ (j : ℕ). groupsOf j sets indices) is) ∙ slots-found (c .outcome) z, sym is ∙ count-found (c .outcome) z)
 
 -- what a call wrote is the groups
-wrote : {kind : ℤ} {n : ℕ} {s : Similarity} {found : List (ℕ × ℤ)} → Wrote kind n s found → (found ≡ groups (kindOf kind) n s) × Symmetric s
+pub wrote : {kind : ℤ} {n : ℕ} {s : Similarity} {found : List (ℕ × ℤ)} → Wrote kind n s found → (found ≡ groups (kindOf kind) n s) × Symmetric s
 unfolding groupsFound
 wrote (in-lines {sheet} {ls = ls} l e) =
     let same = Option·some-injective ls (lines l) (sym e ∙ lines-read l) in

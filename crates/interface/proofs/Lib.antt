@@ -9,3 +9,5 @@ pub mod Demands
 pub mod Example
 pub mod Calls
 pub mod Unique
+pub mod Requests
+pub mod SharedExample
