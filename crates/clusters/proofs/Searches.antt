@@ -27,7 +27,7 @@ use Rattle.lists.proofs.Lists.{all-in, getD-in}
 use Rattle.sets.specs.Sets.{_∋_, size, Subset}
 use Rattle.sets.proofs.Subsets.{subset-size}
 use Rattle.clusters.specs.Groups.{Before, Rising}
-use Rattle.clusters.specs.Nesting.{Hit, firstFrom, smallestFrom, OnLine}
+use Rattle.clusters.specs.Nesting.{Hit, firstFrom, replaces, smallestFrom, OnLine}
 use Rattle.clusters.proofs.Groups.{before-size, rising-append}
 use Rattle.clusters.proofs.Hierarchies.{Hierarchy, common-nested, chain}
 
@@ -114,26 +114,23 @@ first-before n {test} {line} {l} {hit} r up C c t = go (List·Memᴰ·append-cas
 module _ (n : ℕ) (test : ℕ → Bool) where
   -- a hit that is no larger than what follows is kept
   kept : (hit : Hit) → hit .line ≢ 0 → (line : ℕ) (l : List ℕ) → ((C : ℕ) → C ∈ l → size n (hit .set) ≤ size n C) → smallestFrom n test hit line l ≡ hit
-  unfolding smallestFrom
+  unfolding smallestFrom replaces
   kept hit some line [] f = refl
   kept hit some line (A ∷ l) f =
       ap (λ h. smallestFrom n test h (suc line) l) same
       ∙ kept hit some (suc line) l (λ C c. f C (List·Memᴰ·tail c))
     where
-      replaced : Bool
-      replaced = eqb (hit .line) 0 || ltb (size n A) (size n (hit .set))
-
       neither : T (eqb (hit .line) 0) ⊎ T (ltb (size n A) (size n (hit .set))) → ⊥
       neither (inl t) = some (eqb→eq (hit .line) 0 t)
       neither (inr t) = omega (arith, f A (List·Memᴰ·head refl), ltb→lt (size n A) (size n (hit .set)) t)
 
-      same : cond (test A && replaced) (record { set = A; line = line }) hit ≡ hit
-      same = cond-elim (test A && replaced) (record { set = A; line = line }) hit (λ h. h ≡ hit)
-          (λ t. absurd (neither (or-T (eqb (hit .line) 0) (ltb (size n A) (size n (hit .set))) (and-T (test A) replaced t .1)))) (λ _. refl)
+      same : cond (test A && replaces n hit A) (record { set = A; line = line }) hit ≡ hit
+      same = cond-elim (test A && replaces n hit A) (record { set = A; line = line }) hit (λ h. h ≡ hit)
+          (λ t. absurd (neither (or-T (eqb (hit .line) 0) (ltb (size n A) (size n (hit .set))) (and-T (test A) (replaces n hit A) t .1)))) (λ _. refl)
 
   pub searches-agree : (other line : ℕ) (l : List ℕ) → Rising n l
       → smallestFrom n test (record { set = other; line = 0 }) (suc line) l ≡ firstFrom test other (suc line) l
-  unfolding smallestFrom firstFrom
+  unfolding smallestFrom firstFrom replaces
   searches-agree other line [] up = refl
   searches-agree other line (A ∷ l) up = go (test A) (searches-agree other (suc line) l (up .1))
     where
@@ -141,7 +138,7 @@ module _ (n : ℕ) (test : ℕ → Bool) where
       none = record { set = other; line = 0 }
 
       go : (b : Bool) → smallestFrom n test none (suc (suc line)) l ≡ firstFrom test other (suc (suc line)) l
-          → smallestFrom n test (cond (b && (eqb 0 0 || ltb (size n A) (size n other))) (record { set = A; line = suc line }) none) (suc (suc line)) l
+          → smallestFrom n test (cond (b && replaces n none A) (record { set = A; line = suc line }) none) (suc (suc line)) l
           ≡ cond b (record { set = A; line = suc line }) (firstFrom test other (suc (suc line)) l)
       go true ih = kept (record { set = A; line = suc line }) (λ e. omega arith) (suc (suc line)) l (λ C c. before-size n (up .0 C c))
       go false ih = ih

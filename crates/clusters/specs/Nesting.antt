@@ -29,11 +29,14 @@ smallestShared n i j result = firstFrom (holdsBoth i j) (allEntries n) 1 result
 
 -- "the smallest found by reading all lines": a set that passes the test takes the place of what was found before, if
 -- that was nothing or is larger
+unfoldable pub replaces : (n : ℕ) (found : Hit) (A : ℕ) → Bool
+replaces n found A = eqb (found .line) 0 || ltb (size n A) (size n (found .set))
+
 unfoldable pub smallestFrom : (n : ℕ) (test : ℕ → Bool) (found : Hit) (line : ℕ) → List ℕ → Hit
 smallestFrom n test found line [] = found
 smallestFrom n test found line (A ∷ result) =
     smallestFrom n test
-    (cond (test A && (eqb (found .line) 0 || ltb (size n A) (size n (found .set)))) (record { set = A; line = line }) found)
+    (cond (test A && replaces n found A) (record { set = A; line = line }) found)
     (suc line) result
 
 unfoldable pub smallestOfAll : (n i j : ℕ) (result : List ℕ) → Hit

@@ -60,8 +60,12 @@ module _ (kind : ℤ) (n : ℕ) (l : List ℤ) (i j : ℕ) where
   unfolding sharedFound setsFound groupsFound
   line-le z =
       let sets = map (λ (g : ℕ × ℤ). g .0) (groups (kindOf kind) n (score l)) in
-      omega (arith, shared-line-le n i j sets, length-map (groups (kindOf kind) n (score l)) (λ (g : ℕ × ℤ). g .0),
-      groups-few (kindOf kind) n l (shared-pass kind n l i j z .0 .few))
+      omega (
+        arith,
+        shared-line-le n i j sets,
+        length-map (groups (kindOf kind) n (score l)) (λ (g : ℕ × ℤ). g .0),
+        groups-few (kindOf kind) n l (shared-pass kind n l i j z .0 .few),
+      )
 
   pub shared-small : {r : Shared} → SharedCall kind n l i j r → (sharedNumber r < 2 ^ 63) × (sharedLine r < 2 ^ 63)
   unfolding sharedNumber sharedLine sharedAnswer

@@ -207,8 +207,8 @@ request-2-1 kind = record {
       let line-is′ = ap (λ (hit : Hit). hit .line) (a′ .hit) in
       let (to, from) = shared-image-none k (a .groups-kind) n p (score l) (score l′) r s s′ i j (a .first) (a .second) in (
         ap (λ (hit : Hit). hit .set) (a′ .hit)
-        ∙ shared-image k (a .groups-kind) n p (score l) (score l′) r s s′ i j (a .first) (a .second)
-        ∙ sym (ap (image n p) set-is),
+            ∙ shared-image k (a .groups-kind) n p (score l) (score l′) r s s′ i j (a .first) (a .second)
+            ∙ sym (ap (image n p) set-is),
         (λ e. line-is′ ∙ to (sym line-is ∙ e), λ e. line-is ∙ from (sym line-is′ ∙ e)),
       );
 }

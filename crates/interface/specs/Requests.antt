@@ -15,8 +15,8 @@ use Rattle.interface.specs.Refusals.{Given, sharedChecks}
 use Rattle.interface.specs.Calls.{SharedCall, SharedInC}
 use Rattle.interface.specs.Demands.{Wrote}
 
--- 2.1, the smallest group two entries share: the number, the set and the line that the call answers, here or in C, where
--- minus the number or the line is answered
+-- 2.1, the smallest group two entries share: the refusal's number, 0 for none, the set and the line that the call
+-- answers, here or in C
 pub data SharedAnswered (kind : ℤ) (n : ℕ) (l : List ℤ) (i j : ℕ) : (number set line : ℕ) → Type 0 where
   by-shared-call : {r : Shared} → SharedCall kind n l i j r
       → SharedAnswered kind n l i j (sharedNumber r) (sharedSet r) (sharedLine r)
@@ -25,8 +25,8 @@ pub data SharedAnswered (kind : ℤ) (n : ℕ) (l : List ℤ) (i j : ℕ) : (num
   refused-in-C : {r : ℤ} {set : ℕ} → SharedInC kind n l i j r set
       → (number : ℕ) → 0 < number → r ≡ negℤ (pos number) → SharedAnswered kind n l i j number set 0
 
--- of a set and a line, and of all that a call wrote for the same kind number and entries: "the smallest group that holds
--- both"
+-- of a set and its line, and of all that a call wrote for the same kind number and entries: "the smallest group that
+-- holds both"
 pub record SmallestFound (n i j : ℕ) (found : List (ℕ × ℤ)) (set line : ℕ) : Type 0 where
   -- "the set and its line, counted from 1 after the first line"
   pub on-line : line ≢ 0 → OnLine (map (λ (A, z). A) found) line set
