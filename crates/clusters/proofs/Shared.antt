@@ -37,7 +37,7 @@ first-cong p q f other line (A ∷ l) =
 -- in which order the two are named makes no difference
 pub shared-swapped : (n i j : ℕ) (l : List ℕ) → smallestShared n i j l ≡ smallestShared n j i l
 unfolding smallestShared holdsBoth
-shared-swapped n i j l = first-cong (holdsBoth i j) (holdsBoth j i) (λ A. swapped (has A i) (has A j)) (allEntries n) 1 l
+shared-swapped n i j l = first-cong (holdsBoth i j) (holdsBoth j i) (λ A. swapped (has A i) (has A j)) (allEntries n) _ l
   where
     swapped : (a b : Bool) → a && b ≡ b && a
     swapped true true = refl
