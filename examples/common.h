@@ -1,4 +1,5 @@
-/* What each client here does beside its calls: reads a kind's number strictly, reads the sheet, sees that its output is written. */
+/* What the clients here do beside their calls: read a kind's number strictly, read the sheet, look into a set, see that the output is
+   written. */
 #ifndef COMMON_H
 #define COMMON_H
 
@@ -29,6 +30,12 @@ static inline bool read_sheet(const char *program, uint8_t sheet[FARZHUDYL_SHEET
         return true;
     fprintf(stderr, "%s: cannot read standard input\n", program);
     return false;
+}
+
+/* Whether an entry, counted from 0, is in a set. */
+static inline bool has(uint32_t set, size_t entry)
+{
+    return (set >> entry & 1) != 0;
 }
 
 /* The exit status, once all output is written. */

@@ -4,11 +4,6 @@
    and the exit status is 1. The sheet's checks come first here, the kind's after them. Bad usage, and input or output that fails: 2. */
 #include "common.h"
 
-static bool has(uint32_t set, size_t entry)
-{
-    return (set >> entry & 1) != 0;
-}
-
 /* Finds the least value between two members of a set. There is none if the set has fewer than two. */
 static bool least_value(uint32_t set, size_t n, const int32_t *pairs, int64_t *least)
 {

@@ -6,6 +6,7 @@
    A refused sheet: `refused N` on standard output, the reason on standard error, exit status 1. Bad usage, input or output that fails,
    and bytes that are no listing: 2. */
 #include "common.h"
+#include "names.h"
 #include "read_listing.h"
 
 typedef struct {
@@ -19,10 +20,11 @@ static const Kind kinds[] = {
     {"splits", "splits", FARZHUDYL_SPLITS},
 };
 
-/* What is shown: the sheet's bytes, where the names stand in them, and the lines of the listing. */
+/* What is shown: the sheet's bytes, the names in them, and the lines of the listing. */
 typedef struct {
     uint8_t sheet[FARZHUDYL_SHEET_MAX + 1];
-    size_t entries, starts[FARZHUDYL_ENTRIES_MAX], lengths[FARZHUDYL_ENTRIES_MAX];
+    size_t entries;
+    Name names[FARZHUDYL_ENTRIES_MAX];
     int groups;
     Line lines[FARZHUDYL_GROUPS_MAX];
 } Shown;
@@ -45,20 +47,10 @@ static const char *reason(int64_t number)
     }
 }
 
-static void print_name(const Shown *shown, size_t entry)
-{
-    printf("%.*s", (int)shown->lengths[entry], (const char *)shown->sheet + shown->starts[entry]);
-}
-
 static void print_group(const Shown *shown, const Line *line, int depth)
 {
     printf("%4u %9lld %*s", line->size, (long long)line->index, 2 * depth, "");
-    for (size_t i = 0; i < shown->entries; i++) {
-        if (line->set >> i & 1) {
-            printf(" ");
-            print_name(shown, i);
-        }
-    }
+    print_names(line->set, shown->entries, shown->names);
     printf("\n");
 }
 
@@ -96,12 +88,7 @@ static int64_t read_groups(Shown *shown, int32_t kind, size_t sheet_len)
         return length;
     Bytes bytes = {listing, (size_t)length};
     shown->groups = read_listing(bytes, shown->lines);
-    for (size_t i = 0; i < FARZHUDYL_ENTRIES_MAX; i++) {
-        shown->lengths[i] = farzhudyl_name(shown->sheet, sheet_len, i, &shown->starts[i]);
-        if (shown->lengths[i] == 0)
-            break;
-        shown->entries++;
-    }
+    shown->entries = read_names(shown->sheet, sheet_len, shown->names);
     return length;
 }
 
@@ -114,8 +101,8 @@ static void print_all(const Shown *shown, const Kind *kind)
     }
     printf("%d\n", shown->groups);
     if (kind->number == FARZHUDYL_SPLITS) {
-        printf("each line names the side without ");
-        print_name(shown, 0);
+        printf("each line names the side without");
+        print_names(1, shown->entries, shown->names);
         printf("; the other side is all other entries\n");
     }
     printf("\nsize     index  names\n");

@@ -54,8 +54,9 @@
 
    REFUSALS
    A call that can be refused makes its checks in the order of their numbers, and the first that fails is the answer. A refused call
-   has written nothing. No call asks anything of the values it is handed: any bytes and any numbers get the answer described here.
-      1  kind is not 1, 2 or 3
+   has written nothing, but for the set that farzhudyl_smallest_shared answers, which is then 0. No call asks anything of the values it
+   is handed: any bytes and any numbers get the answer described here.
+      1  kind is not 1, 2 or 3; in farzhudyl_smallest_shared, not 1 or 2
       2  the sheet has 0 bytes, or over 12,288
       3  a byte of the sheet is not A to Z, 0 to 9, minus, space or line feed
       4  line 1 has no line feed, or is not one or more names, single spaces between
@@ -124,6 +125,15 @@ int64_t farzhudyl_listing(int32_t kind, const uint8_t *sheet, size_t sheet_len, 
    only), 13. Room that always serves: FARZHUDYL_GROUPS_MAX slots each; 2n serve for n entries. */
 int64_t farzhudyl_numbers(int32_t kind, size_t n, const int32_t *pairs, size_t pairs_len, uint32_t *sets, size_t sets_len,
                           int64_t *indices, size_t indices_len);
+
+/* The smallest group, of kind 1 or 2, that holds both of two entries a and b, counted from 0, of the pair list of n entries; a and b may
+   be the same.
+
+   Answers the group's line in the listing, counted from 1 after the first line, and has then written its set to *set; farzhudyl_numbers
+   has that group in its slots of number line - 1. Every other group that holds both holds this one and is larger. Answers 0 if no group
+   holds both, and *set is then the set of all n entries. Or answers minus the refusal's number, and *set is then 0. Checks 1 (kind 3
+   too), 6, 10, 11, 15 (a or b is n or more). */
+int64_t farzhudyl_smallest_shared(int32_t kind, size_t n, const int32_t *pairs, size_t pairs_len, size_t a, size_t b, uint32_t *set);
 
 /* A single linkage tree and an average linkage tree of the pair list of n entries, of scores: from the n single entries on, the two
    blocks whose link is the greatest are merged, until one is left. The link is the greatest score between the two blocks (single), or

@@ -41,7 +41,7 @@ build_show() {
     find_library "$root"
     library=$FARZHUDYL_LIB_DIR/libfarzhudyl.a
     if [ "$(cat "$program.library" 2>/dev/null)" = "$library" ] &&
-        ! stale "$program" "$root"/{examples/show.c,examples/common.h,examples/read_listing.h,include/farzhudyl.h} "$library"; then
+        ! stale "$program" "$root"/{examples/{show.c,common.h,names.h,read_listing.h},include/farzhudyl.h} "$library"; then
         return 0
     fi
     c_compiler

@@ -1,9 +1,9 @@
 #!/usr/bin/env bash
 # Compiles the header alone and every program of examples/, as C11 and as C++17. Runs each program on every sheet of examples/ and of
 # tests/examples/ under each kind, and compares what it writes with tests/examples/PROGRAM/SHEET.KIND, or with the file beside the sheet
-# (examples/SHEET.KIND for client, examples/SHEET.KIND.names for show). Tries bad usage, refused sheets, input and output that fail, and
-# for lines damaged listings. Runs the C builds under valgrind. The last line is `N passed, M failed`; the exit status is 1 if anything
-# failed.
+# (examples/SHEET.KIND for client, examples/SHEET.KIND.names for show). For shared each line of SHEET.KIND has two names and what is to be
+# written of them. Tries bad usage, refused sheets, input and output that fail, for shared names that are not there, and for lines damaged
+# listings. Runs the C builds under valgrind. The last line is `N passed, M failed`; the exit status is 1 if anything failed.
 # usage: tests/examples.sh [PREFIX]     PREFIX is where the library is installed; without it, this folder's header and library are taken
 set -u
 root=$(cd "$(dirname "$0")/.." && pwd) || exit 2
@@ -93,6 +93,11 @@ word() { # PROGRAM KIND
     if [ "$1" = show ]; then echo "${words[$2]}"; else echo "$2"; fi
 }
 
+# What follows the word for a kind: two names for shared, here of four.sheet and of the sheets that are refused for their values.
+set_names() { # PROGRAM
+    if [ "$1" = shared ]; then names=(A B); else names=(); fi
+}
+
 # The file that says what a program writes.
 wanted() { # PROGRAM SHEET KIND
     local beside=examples/$2.${words[$3]}
@@ -105,23 +110,40 @@ wanted() { # PROGRAM SHEET KIND
     fi
 }
 
-# Runs a program on a sheet.
-on_sheet() { # PROGRAM SHEET-FILE KIND COMMAND ..
-    local program=$1 sheet=$2 kind=$3 file
+# A command writes the bytes of this file, which may be a refusal.
+expect_file() { # NAME FILE PROGRAM COMMAND ..   the sheet on standard input
+    local name=$1 file=$2 program=$3
     shift 3
-    file=$(wanted "$program" "$(basename "$sheet" .sheet)" "$kind")
     if [ "$(head -c 8 "$file")" = 'refused ' ]; then
-        expect_refusal "$* ${words[$kind]}, $sheet" "$(cut -d ' ' -f 2 "$file")" "$program" "$@" "$(word "$program" "$kind")" <"$sheet"
+        expect_refusal "$name" "$(cut -d ' ' -f 2 "$file")" "$program" "$@"
     else
-        expect "$* ${words[$kind]}, $sheet" 0 "$file" '' "$@" "$(word "$program" "$kind")" <"$sheet"
+        expect "$name" 0 "$file" '' "$@"
     fi
 }
 
-# Runs a program on a refused sheet.
-on_refused() { # PROGRAM NUMBER.WHAT KIND COMMAND ..
-    local program=$1 sheet=$2 kind=$3
+# Runs a program on a sheet; shared once for each two names.
+on_sheet() { # PROGRAM SHEET-FILE KIND COMMAND ..
+    local program=$1 sheet=$2 kind=$3 file first second line
     shift 3
-    expect_refusal "$* ${words[$kind]}, $sheet" "${sheet%%.*}" "$program" "$@" "$(word "$program" "$kind")" <"$built/refused/$sheet"
+    file=$(wanted "$program" "$(basename "$sheet" .sheet)" "$kind")
+    if [ "$program" != shared ]; then
+        expect_file "$* ${words[$kind]}, $sheet" "$file" "$program" "$@" "$(word "$program" "$kind")" <"$sheet"
+        return
+    fi
+    if [ ! -s "$file" ]; then count 1 "$file has no line"; fi
+    while read -r first second line; do
+        echo "$line" >"$built/pair"
+        expect_file "$* ${words[$kind]} $first $second, $sheet" "$built/pair" shared "$@" "$kind" "$first" "$second" <"$sheet"
+    done <"$file"
+}
+
+# Runs a program on a refused sheet. A sheet that passes 9 gets 1 from shared for kind 3.
+on_refused() { # PROGRAM NUMBER.WHAT KIND COMMAND ..
+    local program=$1 sheet=$2 kind=$3 number=${2%%.*}
+    shift 3
+    if [ "$program$kind" = shared3 ] && [ "$number" -gt 9 ]; then number=1; fi
+    expect_refusal "$* ${words[$kind]}, $sheet" "$number" "$program" "$@" "$(word "$program" "$kind")" "${names[@]}" \
+        <"$built/refused/$sheet"
 }
 
 # Bad arguments: one line about usage. Numbers that are no kind go to the library.
@@ -134,16 +156,40 @@ on_arguments() { # PROGRAM FILE
         no_kinds=('' ' strong' 'strong ' Strong stron strongx groups 1 2 3 0 $'clean\n')
     else
         usage="usage: $program 1|2|3 < SHEET"
+        if [ "$program" = shared ]; then usage='usage: shared 1|2 NAME NAME < SHEET'; fi
         for argument in 0 4 -1 -7 255 257 65537 2147483647 -2147483648; do
-            expect_refusal "$file $argument" 1 "$program" "$file" "$argument" <examples/four.sheet
+            expect_refusal "$file $argument" 1 "$program" "$file" "$argument" "${names[@]}" <examples/four.sheet
         done
     fi
     for argument in "${no_kinds[@]}"; do
-        expect "$file '$argument'" 2 /dev/null "$usage" "$file" "$argument" <examples/four.sheet
+        expect "$file '$argument'" 2 /dev/null "$usage" "$file" "$argument" "${names[@]}" <examples/four.sheet
     done
     expect "$file without an argument" 2 /dev/null "$usage" "$file" <examples/four.sheet
     argument=$(word "$program" 1)
-    expect "$file with two arguments" 2 /dev/null "$usage" "$file" "$argument" "$argument" <examples/four.sheet
+    expect "$file with an argument too many" 2 /dev/null "$usage" "$file" "$argument" "${names[@]}" "$argument" <examples/four.sheet
+    if [ "$program" = shared ]; then
+        expect "$file without names" 2 /dev/null "$usage" "$file" 1 <examples/four.sheet
+        expect "$file with one name" 2 /dev/null "$usage" "$file" 1 A <examples/four.sheet
+        expect "$file with names only" 2 /dev/null "$usage" "$file" A B <examples/four.sheet
+    fi
+}
+
+# A name that is not on the sheet, as the first and as the second name of shared.
+on_missing() { # NAME COMMAND ..
+    local name=$1 line="shared: no entry of the sheet has the name '$1'"
+    shift
+    expect "$* 1 '$name' A" 2 /dev/null "$line" "$@" 1 "$name" A <tests/examples/mixed.sheet
+    expect "$* 2 A '$name'" 2 /dev/null "$line" "$@" 2 A "$name" <tests/examples/mixed.sheet
+}
+
+# Names that shared does not find. The first that is missing is told, before a kind or a value is looked at.
+on_names() { # FILE
+    local file=$1 name kind
+    for name in '' ' ' 'A ' ' A' $'A\n' a AA 'A LONGNAME' LONGNAM LONGNAMEX NAME C 3 90 0; do on_missing "$name" "$file"; done
+    for kind in 1 3; do
+        expect "$file $kind E F, 11.over" 2 /dev/null "shared: no entry of the sheet has the name 'E'" "$file" "$kind" E F \
+            <"$built/refused/11.over"
+    done
 }
 
 from_folder() { "$@" </; }
@@ -156,11 +202,12 @@ on_failures() { # PROGRAM FILE
     local program=$1 file=$2 kind way
     for kind in 1 3; do # a listing, and a refusal
         for way in from_folder from_closed; do
-            expect "$way $file $kind" 2 /dev/null "$program: cannot read standard input" "$way" "$file" "$(word "$program" "$kind")"
+            expect "$way $file $kind" 2 /dev/null "$program: cannot read standard input" "$way" "$file" \
+                "$(word "$program" "$kind")" "${names[@]}"
         done
         for way in to_full to_closed; do
             expect "$way $file $kind" 2 /dev/null "$program: cannot write standard output" "$way" "$file" \
-                "$(word "$program" "$kind")" <examples/four.sheet
+                "$(word "$program" "$kind")" "${names[@]}" <examples/four.sheet
         done
     done
 }
@@ -201,6 +248,7 @@ for language in c c++; do
     for source in examples/*.c; do
         program=$(basename "$source" .c)
         file=$built/$language/$program
+        set_names "$program"
         compile "$language" "$source" -x none "${library[@]}" -o "$file"
         status=$?
         count "$status" "compiling $source as $language"
@@ -216,6 +264,7 @@ for language in c c++; do
         done
         on_arguments "$program" "$file"
         on_failures "$program" "$file"
+        if [ "$program" = shared ]; then on_names "$file"; fi
     done
 done
 
@@ -224,12 +273,22 @@ for source in examples/*.c; do
     program=$(basename "$source" .c)
     file=$built/c/$program
     if [ ! -x "$file" ]; then continue; fi
+    set_names "$program"
     on_sheet "$program" examples/burials.sheet 1 "${memory[@]}" "$file"
     on_sheet "$program" examples/burials.sheet 2 "${memory[@]}" "$file"
     on_sheet "$program" examples/registers.sheet 3 "${memory[@]}" "$file"
     on_sheet "$program" tests/examples/full.sheet 1 "${memory[@]}" "$file"
     for sheet in 2.no-bytes 2.12289-bytes 9.mirrored 12.own; do on_refused "$program" "$sheet" 3 "${memory[@]}" "$file"; done
 done
+on_missing LONGNAMEX "${memory[@]}" "$built/c/shared"
+
+# What examples/README.md shows of shared: each command, and the line behind it.
+mkdir "$built/shown" && ln -s "$root/examples" "$built/c/shared" "$built/shown" || exit 2
+sed -n 's/^    \$ \(\.\/shared .*\)/\1/p' examples/README.md >"$built/commands"
+sed -n '/^    \$ \.\/shared /{n;s/^    //p}' examples/README.md >"$built/wanted"
+[ -s "$built/wanted" ]
+count $? "examples/README.md shows what shared writes"
+expect "the commands of examples/README.md" 0 "$built/wanted" '' env -C "$built/shown" bash -e "$built/commands"
 
 # How lines reads a listing: each case is a listing, in which printf's escapes stand for bytes.
 first='set size index\n'

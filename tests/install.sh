@@ -37,7 +37,7 @@ expected() {
         printf -- '-rwxr-xr-x ./bin/farzhudyl-%s \n' "$name"
         printf 'lrwxrwxrwx ./share/man/man1/farzhudyl-%s.1 farzhudyl.1\n' "$name"
     done
-    for name in listing numbers single_linkage average_linkage anchored_scores distances_back pair_list name score; do
+    for name in listing numbers smallest_shared single_linkage average_linkage anchored_scores distances_back pair_list name score; do
         printf 'lrwxrwxrwx ./share/man/man3/farzhudyl_%s.3 farzhudyl.3\n' "$name"
     done
 }
