@@ -1,8 +1,10 @@
-/* Microseconds of the whole C call, by the engine and by the plain engine, in
-   turns on the same sheets.  Writes a line for each sort of sheets, kind and
-   number of entries, with tabs between: the three, the bytes of a sheet, the
-   lines of a listing after the first, and the best and the median of each
-   engine. */
+/* Microseconds of two C calls, by the engine and by the plain engine, in turns
+   on the same sheets.  Writes a line for each call, sort of sheets, kind and
+   number of entries, with tabs between: `listing` or `shared`, the other three,
+   what is told of the sheets, and the best and the median of each engine.
+   Of a listing the bytes of a sheet are told, and the lines after the first; of
+   the smallest group that the first and the last entry share, the share of the
+   sheets that have one. */
 
 #define _POSIX_C_SOURCE 199309L
 
@@ -27,6 +29,8 @@ typedef void MakePairs(bool distances, int n, int32_t *pairs);
 static SheetCall *const engines[] = {farzhudyl_listing, plain_listing};
 enum { ENGINES = sizeof engines / sizeof engines[0] };
 
+static size_t entries;
+static int32_t pairs[SHEETS][MAX_PAIRS];
 static struct {
     uint8_t text[MAX_SHEET + 1];
     size_t length;
@@ -34,11 +38,18 @@ static struct {
 
 static void make_sheets(MakePairs *make, int32_t kind, int n)
 {
+    entries = (size_t)n;
     for (int t = 0; t < SHEETS; t++) {
-        int32_t pairs[MAX_PAIRS];
-        make(kind == FARZHUDYL_SPLITS, n, pairs);
-        sheets[t].length = write_sheet(n, pairs, sheets[t].text);
+        make(kind == FARZHUDYL_SPLITS, n, pairs[t]);
+        sheets[t].length = write_sheet(n, pairs[t], sheets[t].text);
     }
+}
+
+static void differ(const char *call, int32_t kind, int t)
+{
+    fprintf(stderr, "the engines differ: %s, kind %d\n%.*s", call, (int)kind,
+            (int)sheets[t].length, (const char *)sheets[t].text);
+    exit(1);
 }
 
 /* Both listings of each sheet are the same; answers all their lines after the
@@ -53,16 +64,65 @@ static int count_lines(int32_t kind)
             length[e] = engines[e](kind, sheets[t].text, sheets[t].length, out[e],
                                    sizeof out[e]);
         if (length[0] < 0 || length[0] != length[1] ||
-            memcmp(out[0], out[1], (size_t)length[0]) != 0) {
-            fprintf(stderr, "the engines differ: kind %d\n%.*s", (int)kind,
-                    (int)sheets[t].length, (const char *)sheets[t].text);
-            exit(1);
-        }
+            memcmp(out[0], out[1], (size_t)length[0]) != 0)
+            differ("listing", kind, t);
         for (int64_t i = 0; i < length[0]; i++)
             lines += out[0][i] == '\n';
         lines--;
     }
     return lines;
+}
+
+/* The line and the set of the smallest group that holds a sheet's first and
+   last entry, by an engine; the plain one checks nothing. */
+static int64_t find_shared(int e, int32_t kind, int t, uint32_t *set)
+{
+    uint32_t sets[2 * MAX_ENTRIES], both = 1 | (uint32_t)1 << (entries - 1);
+    int64_t indices[2 * MAX_ENTRIES];
+    if (e == 0)
+        return farzhudyl_smallest_shared(kind, entries, pairs[t],
+                                         FARZHUDYL_PAIRS(entries), 0, entries - 1,
+                                         set);
+    int64_t count = plain_numbers(kind, (int32_t)entries, pairs[t], sets, indices);
+    for (int64_t i = 0; i < count; i++) {
+        *set = sets[i];
+        if ((*set & both) == both)
+            return i + 1;
+    }
+    *set = UINT32_MAX >> (MAX_ENTRIES - entries);
+    return 0;
+}
+
+/* Both engines find the same; answers how many sheets have such a group. */
+static int count_shared(int32_t kind)
+{
+    int found = 0;
+    for (int t = 0; t < SHEETS; t++) {
+        uint32_t set[ENGINES];
+        int64_t line = find_shared(0, kind, t, &set[0]);
+        if (line < 0 || line != find_shared(1, kind, t, &set[1]) ||
+            set[0] != set[1])
+            differ("shared", kind, t);
+        found += line > 0;
+    }
+    return found;
+}
+
+/* A round through the sheets, by an engine. */
+typedef void Round(int e, int32_t kind);
+
+static void list_all(int e, int32_t kind)
+{
+    uint8_t out[FARZHUDYL_LISTING_MAX];
+    for (int t = 0; t < SHEETS; t++)
+        engines[e](kind, sheets[t].text, sheets[t].length, out, sizeof out);
+}
+
+static void share_all(int e, int32_t kind)
+{
+    uint32_t set;
+    for (int t = 0; t < SHEETS; t++)
+        find_shared(e, kind, t, &set);
 }
 
 /* The time that this process has had. */
@@ -73,14 +133,12 @@ static double now_us(void)
     return (double)t.tv_sec * 1e6 + (double)t.tv_nsec / 1e3;
 }
 
-/* Microseconds per call of some rounds through the sheets. */
-static double time_rounds(SheetCall *call, int32_t kind, int rounds)
+/* Microseconds per call of some rounds. */
+static double time_rounds(Round *round, int e, int32_t kind, int rounds)
 {
-    uint8_t out[FARZHUDYL_LISTING_MAX];
     double start = now_us();
     for (int r = 0; r < rounds; r++)
-        for (int t = 0; t < SHEETS; t++)
-            call(kind, sheets[t].text, sheets[t].length, out, sizeof out);
+        round(e, kind);
     return (now_us() - start) / rounds / SHEETS;
 }
 
@@ -90,26 +148,26 @@ static int compare_times(const void *u, const void *v)
     return (a > b) - (a < b);
 }
 
-/* The engines take turns, and in who is first. */
-static void measure(int32_t kind, double *best, double *median)
+/* The engines take turns, and in who is first.  Ends the line. */
+static void measure(Round *round, int32_t kind)
 {
     static double times[ENGINES][REPEATS];
     int rounds[ENGINES], repeats = 0;
     for (int e = 0; e < ENGINES; e++)
         rounds[e] =
-            1 + (int)(repeat_us / (time_rounds(engines[e], kind, 1) * SHEETS));
+            1 + (int)(repeat_us / (time_rounds(round, e, kind, 1) * SHEETS));
     double start = now_us();
     for (; repeats < REPEATS && (repeats < FEWEST || now_us() - start < most_us);
          repeats++)
         for (int turn = 0; turn < ENGINES; turn++) {
             int e = (turn + repeats) % ENGINES;
-            times[e][repeats] = time_rounds(engines[e], kind, rounds[e]);
+            times[e][repeats] = time_rounds(round, e, kind, rounds[e]);
         }
     for (int e = 0; e < ENGINES; e++) {
         qsort(times[e], (size_t)repeats, sizeof times[e][0], compare_times);
-        best[e] = times[e][0];
-        median[e] = times[e][repeats / 2];
+        printf("\t%.4f\t%.4f", times[e][0], times[e][repeats / 2]);
     }
+    printf("\n");
 }
 
 static int most_lines(int32_t kind, int n)
@@ -130,7 +188,7 @@ int main(void)
     for (size_t s = 0; s < sizeof sorts / sizeof sorts[0]; s++)
         for (int32_t kind = 1; kind <= 3; kind++)
             for (int n = 4; n <= MAX_ENTRIES; n *= 2) {
-                double bytes = 0, best[ENGINES], median[ENGINES];
+                double bytes = 0;
                 make_sheets(sorts[s].make, kind, n);
                 for (int t = 0; t < SHEETS; t++)
                     bytes += (double)sheets[t].length / SHEETS;
@@ -140,12 +198,14 @@ int main(void)
                     fprintf(stderr, "near-tree sheets with too few groups\n");
                     return 1;
                 }
-                measure(kind, best, median);
-                printf("%s\t%s\t%d\t%.0f\t%.1f", sorts[s].name, kinds[kind], n,
-                       bytes, (double)lines / SHEETS);
-                for (int e = 0; e < ENGINES; e++)
-                    printf("\t%.4f\t%.4f", best[e], median[e]);
-                printf("\n");
+                printf("listing\t%s\t%s\t%d\t%.0f\t%.1f", sorts[s].name,
+                       kinds[kind], n, bytes, (double)lines / SHEETS);
+                measure(list_all, kind);
+                if (kind == FARZHUDYL_SPLITS)
+                    continue;
+                printf("shared\t%s\t%s\t%d\t%.2f", sorts[s].name, kinds[kind], n,
+                       (double)count_shared(kind) / SHEETS);
+                measure(share_all, kind);
             }
     return 0;
 }

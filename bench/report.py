@@ -26,22 +26,30 @@ searches are.
 
 The ratio is that of the best times. Bytes and lines (after the first) are means over the sheets."""
 
+SHARED = """\
+Microseconds of `farzhudyl_smallest_shared` on the same sheets' pair lists, for the first and the last entry; beside it, the plain engine's
+groups as numbers, and a search through their sets. The engine makes its checks, plain C makes none here. In a group: the share of the
+lists in which a group holds both."""
+
+# What is told of the sheets beside the times of a call.
+FACTS = {"listing": ["bytes", "lines"], "shared": ["in a group"]}
+
 
 class Cell(NamedTuple):
     """The sheets of one sort, kind and number of entries."""
 
-    bytes: str
-    lines: str
+    facts: list[str]
     best: list[float]
     median: list[float]
 
 
 def read_times(path):
-    cells = {}
+    cells = {call: {} for call in FACTS}
     for line in Path(path).read_text().splitlines():
-        sort, kind, n, length, lines, *times = line.split("\t")
-        times = [float(time) for time in times]
-        cells[sort, kind, int(n)] = Cell(length, lines, times[0::2], times[1::2])
+        call, sort, kind, n, *words = line.split("\t")
+        facts = len(FACTS[call])
+        times = [float(time) for time in words[facts:]]
+        cells[call][sort, kind, int(n)] = Cell(words[:facts], times[0::2], times[1::2])
     return cells
 
 
@@ -62,16 +70,15 @@ def table(head, rows):
     return "\n".join("| " + " | ".join(row) + " |" for row in [head, rule, *rows])
 
 
-def times_table(cells, sort):
-    head = ["kind", "entries", "bytes", "lines"]
+def times_table(cells, call, sort):
+    head = ["kind", "entries", *FACTS[call]]
     head += [f"{engine}, {what}" for engine in ENGINES for what in ("best", "median")]
     rows = []
-    for kind in KINDS:
-        for n in entries(cells):
-            cell = cells[sort, kind, n]
-            times = [shown(t) for pair in zip(cell.best, cell.median) for t in pair]
-            ratio = f"{cell.best[0] / cell.best[1]:.2f}"
-            rows.append([kind, str(n), cell.bytes, cell.lines, *times, ratio])
+    for kind, n in [(kind, n) for of, kind, n in cells if of == sort]:
+        cell = cells[sort, kind, n]
+        times = [shown(t) for pair in zip(cell.best, cell.median) for t in pair]
+        ratio = f"{cell.best[0] / cell.best[1]:.2f}"
+        rows.append([kind, str(n), *cell.facts, *times, ratio])
     return table([*head, "ratio"], rows)
 
 
@@ -85,10 +92,13 @@ def growth_table(cells, sort):
     return table(["growth of the best time", *(f"{a} to {b} entries" for a, b in steps)], rows)
 
 
-def results(cells, machine):
+def results(cells, shared, machine):
     parts = ["# The engine beside plain C", METHOD, "![Times by number of entries](chart.svg)"]
     for sort, title in SORTS.items():
-        parts += [f"## {title}", times_table(cells, sort), growth_table(cells, sort)]
+        parts += [f"## {title}", times_table(cells, "listing", sort), growth_table(cells, sort)]
+    parts += ["## The smallest group that two entries share", SHARED]
+    for sort in SORTS:
+        parts += [f"{sort.capitalize()} lists:", times_table(shared, "shared", sort)]
     parts += ["## Measured on", "\n".join(f"- {fact}" for fact in machine)]
     return "\n\n".join(parts) + "\n"
 
@@ -172,9 +182,9 @@ def text(x, y, words, anchor, more=""):
 def main():
     times, folder = sys.argv[1:]
     cells = read_times(times)
-    page = results(cells, sys.stdin.read().splitlines())
+    page = results(cells["listing"], cells["shared"], sys.stdin.read().splitlines())
     Path(folder, "RESULTS.md").write_text(page)
-    Path(folder, "chart.svg").write_text(chart(cells))
+    Path(folder, "chart.svg").write_text(chart(cells["listing"]))
     print(page, end="")
 
 
