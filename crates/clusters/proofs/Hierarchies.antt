@@ -1,5 +1,5 @@
 -- Sets of n entries in written order, none of them empty or all entries, any two nested or disjoint: a hierarchy. The groups of a kind are one.
-use mathlib.Core.Path.{_≡_, sym}
+use mathlib.Core.Path.{sym}
 use mathlib.Core.Logic.{_⊎_, inl, inr}
 use mathlib.Core.List.{List}
 use Prim.Native.Nat.{ℕ, _^_, _<_}

@@ -10,7 +10,6 @@ use lib.Seq.{length-take-le}
 use Rattle.lists.specs.Lists.{all}
 use Rattle.clusters.specs.PairList.{score}
 use Rattle.clusters.specs.Groups.{kindOf, groups}
-use Rattle.clusters.specs.Nesting.{Hit}
 use Rattle.clusters.proofs.Shared.{shared-line-le}
 use Rattle.answers.specs.Answers.{answer}
 use Rattle.answers.specs.declared.Shared.{Shared}

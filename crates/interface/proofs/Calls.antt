@@ -41,7 +41,7 @@ use Rattle.interface.specs.Refusals.{
   sharedChecks,
   sharedRefusal,
 }
-use Rattle.interface.specs.Calls.{NumbersCall, setsFound, indicesFound, isPair, scoreAmong, ScoreInC, sharedFound, SharedCall, SharedInC}
+use Rattle.interface.specs.Calls.{NumbersCall, setsFound, indicesFound, isPair, scoreAmong, ScoreInC}
 
 -- Of the bench's three entries, own 6, others 5, and of one entry: what the numbers call finds; each number of each call's table, and 0 where no
 -- line holds; scores of two entries, and of what is no pair.

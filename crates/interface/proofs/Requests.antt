@@ -1,44 +1,31 @@
 -- The requests of document 02, from the outcomes of the calls and the theorems about groups.
 use mathlib.Core.Path.{_≡_, refl, sym, ap, ap₂, _∙_, subst, subst₂}
 use mathlib.Core.Bool.{Bool, true, false, not, cond, _||_}
-use mathlib.Core.Logic.{_⊎_, inl, inr, _≢_, _↔_}
-use mathlib.Core.List.{List, map}
-use Prim.Native.Nat.{ℕ, _^_, _<_, _≤_}
+use mathlib.Core.List.{List}
+use Prim.Native.Nat.{ℕ, _^_, _<_}
 use native.Mathlib.Omega.{arith}
 use lib.Dec.{T, T-not, lit<}
 use lib.IntN.{ℤ, pos}
-use Rattle.lists.specs.Lists.{_∈_, _lists_}
-use Rattle.lists.proofs.Tests.{false-T}
+use Rattle.lists.specs.Lists.{_∈_, _lists_, all}
+use Rattle.lists.proofs.Tests.{T-false, false-T}
 use Rattle.integers.specs.Integers.{eqZ}
-use Rattle.sets.specs.Sets.{_∋_, size}
-use Rattle.clusters.specs.PairList.{Similarity, Symmetric, score, hasLength, inRange}
+use Rattle.clusters.specs.PairList.{Similarity, Symmetric, score}
 use Rattle.clusters.specs.Groups.{Kind, strong, clean, splits, kindOf, index, groupSets, groups}
 use Rattle.clusters.specs.Reordering.{image}
-use Rattle.clusters.specs.Nesting.{Hit, smallestShared, smallestOfAll}
+use Rattle.clusters.specs.Nesting.{Hit, smallestShared}
 use Rattle.clusters.proofs.PairList.{score-symm}
 use Rattle.clusters.proofs.Groups.{in-groups, in-groupSets, groups-rise, groups-sets}
 use Rattle.clusters.proofs.Hierarchies.{Hierarchy, groups-hierarchy}
 use Rattle.clusters.proofs.Shared.{shared-swapped, shared-of-all, shared-line, shared-none, shared-holds, shared-all}
 use Rattle.clusters.proofs.Shared.{shared-inside, shared-only, shared-single}
 use Rattle.clusters.proofs.Images.{ofGroups, shared-image, shared-image-none}
-use Rattle.answers.specs.Answers.{answer}
 use Rattle.answers.specs.Shared.{sharedNumber, sharedSet, sharedLine, sharedAnswer}
 use Rattle.answers.proofs.Answers.{shared-number, shared-nothing, shared-found}
 use Rattle.interface.specs.Listing.{groupsFound}
-use Rattle.interface.specs.Refusals.{
-  wrongKind,
-  wrongGroupKind,
-  wrongCount,
-  wrongDistances,
-  wrongAnchor,
-  wrongEntries,
-  sharedChecks,
-  sharedRefusal,
-}
-use Rattle.interface.specs.Calls.{cNumber, setsFound, sharedFound, SharedCall, SharedInC}
-use Rattle.interface.specs.Demands.{Wrote}
+use Rattle.interface.specs.Refusals.{wrongKind, wrongGroupKind, wrongAnchor, wrongEntries, sharedChecks, sharedRefusal}
+use Rattle.interface.specs.Calls.{setsFound, sharedFound}
 use Rattle.interface.specs.Requests.{SharedAnswered, by-shared-call, by-shared-in-C, refused-in-C, SmallestFound, Request-2-1}
-use Rattle.interface.proofs.Refusals.{no-first, first-iff, right-entries}
+use Rattle.interface.proofs.Refusals.{first-iff, passes, right-entries}
 use Rattle.interface.proofs.Demands.{c-count, c-refused, wrote}
 
 -- 2.1: what was answered, by the checks and by what was found
@@ -94,22 +81,25 @@ kind-left kind e = go (eqZ kind (pos 1)) (eqZ kind (pos 2)) (eqZ kind (pos 3)) e
     go false false true e = absurd (T-not true (false-T e) tt)
     go false false false e = absurd (T-not true (false-T e) tt)
 
+-- what the checks leave, beside those of the pair list
+pub shared-left : (kind : ℤ) (n : ℕ) (l : List ℤ) (i j : ℕ) → sharedRefusal kind n l i j ≡ 0 → (wrongGroupKind kind ≡ false) × (i < n) × (j < n)
+unfolding sharedRefusal sharedChecks all
+shared-left kind n l i j e =
+    let checks = sharedChecks kind n l i j in
+    let one : T (not (wrongGroupKind kind)) = passes checks tt e 0 (lit< tt) in
+    let fifteen : T (not (wrongEntries n i j)) = passes checks tt e 5 (lit< tt) in
+    let (hi, hj) = right-entries n i j (T-false {b = wrongEntries n i j} fifteen) in
+    (T-false {b = wrongGroupKind kind} one, hi, hj)
+
 found : {kind : ℤ} {n : ℕ} {l : List ℤ} {i j set line : ℕ} → SharedAnswered kind n l i j 0 set line → Found kind n l i j set line
-unfolding sharedRefusal sharedChecks
 found {kind} {n} {l} {i} {j} {set} {line} c =
     let a = answered c in
     let hit = sharedFound kind n l i j in
     let zero : sharedRefusal kind n l i j ≡ 0 = sym (a .is-number) in
-    let (c₁, e₁) = no-first 1 (wrongGroupKind kind) _ (lit< tt) zero in
-    let (c₆, e₆) = no-first 6 (wrongCount n) _ (lit< tt) e₁ in
-    let (c₁₀, e₁₀) = no-first 10 (not (hasLength n l)) _ (lit< tt) e₆ in
-    let (c₁₁, e₁₁) = no-first 11 (not (inRange l)) _ (lit< tt) e₁₀ in
-    let (c₁₂, e₁₂) = no-first 12 (wrongDistances kind n l) _ (lit< tt) e₁₁ in
-    let (c₁₅, _) = no-first 15 (wrongEntries n i j) _ (lit< tt) e₁₂ in
-    let (hi, hj) = right-entries n i j c₁₅ in
+    let (one, hi, hj) = shared-left kind n l i j zero in
     let (s, t) = shared-found (hit .set) (hit .line) in
     record {
-      groups-kind = kind-left kind c₁;
+      groups-kind = kind-left kind one;
       first = hi;
       second = hj;
       hit = ap₂ {C = Hit} (λ A k. record { set = A; line = k })

@@ -30,7 +30,7 @@ use Rattle.interface.specs.Refusals.{
   sharedChecks,
   sharedRefusal,
 }
-use Rattle.interface.specs.Calls.{cNumber, setsFound, sharedFound, SharedCall, SharedInC}
+use Rattle.interface.specs.Calls.{cNumber, setsFound, sharedFound, SharedInC}
 
 abbrev outcome : ℤ → (i j : ℕ) → Shared
 outcome kind i j = sharedAnswer (sharedRefusal kind 4 four i j) (sharedFound kind 4 four i j .set) (sharedFound kind 4 four i j .line)

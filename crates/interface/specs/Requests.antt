@@ -8,7 +8,7 @@ use Rattle.lists.specs.Lists.{_lists_}
 use Rattle.sets.specs.Sets.{_∋_, size, allEntries, Subset}
 use Rattle.clusters.specs.PairList.{score}
 use Rattle.clusters.specs.Reordering.{Permutation, Reordered, image}
-use Rattle.clusters.specs.Nesting.{Hit, smallestOfAll, OnLine}
+use Rattle.clusters.specs.Nesting.{smallestOfAll, OnLine}
 use Rattle.answers.specs.declared.Shared.{Shared}
 use Rattle.answers.specs.Shared.{sharedNumber, sharedSet, sharedLine}
 use Rattle.interface.specs.Refusals.{Given, sharedChecks}

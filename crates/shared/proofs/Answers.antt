@@ -1,6 +1,6 @@
 -- What the search answers where it stops, what the checks leave, and the two ways out of the call.
-use mathlib.Core.Path.{_≡_, refl, sym, ap, ap₂, _∙_}
-use mathlib.Core.Bool.{Bool, true, false, _&&_}
+use mathlib.Core.Path.{_≡_, refl, sym, ap, _∙_}
+use mathlib.Core.Bool.{true, false}
 use mathlib.Core.List.{List}
 use Prim.Native.Nat.{ℕ, zero, suc, _+_, _≤_, _<_}
 use lib.Dec.{lit<}
@@ -18,9 +18,10 @@ use Rattle.answers.specs.declared.Shared.{Shared}
 use Rattle.answers.specs.declared.Shared.the-variants.{Set, Refused}
 use Rattle.answers.specs.Shared.{sharedAnswer}
 use Rattle.interface.specs.Listing.{groupsFound}
-use Rattle.interface.specs.Refusals.{wrongKind, wrongGroupKind, wrongDistances, wrongEntries, sharedChecks, sharedRefusal}
+use Rattle.interface.specs.Refusals.{wrongKind, wrongGroupKind, wrongDistances, sharedChecks, sharedRefusal}
 use Rattle.interface.specs.Calls.{setsFound, sharedFound, SharedCall}
-use Rattle.interface.proofs.Refusals.{no-first, right-entries}
+use Rattle.interface.proofs.Refusals.{no-first}
+use Rattle.interface.proofs.Requests.{shared-left}
 use Rattle.matrix.specs.Checks.{Checked}
 use Rattle.matrix.proofs.Checks.{pairs-none}
 
@@ -57,10 +58,8 @@ pub shared-pass : (kind : ℤ) (n : ℕ) (l : List ℤ) (i j : ℕ) → sharedRe
 unfolding sharedRefusal sharedChecks
 shared-pass kind n l i j e =
     let (c₁, e₁) = no-first 1 (wrongGroupKind kind) _ (lit< tt) e in
-    let (checked, e₁₁) = pairs-none n l _ e₁ in
-    let (c₁₂, e₁₂) = no-first 12 (wrongDistances kind n l) _ (lit< tt) e₁₁ in
-    let (c₁₅, _) = no-first 15 (wrongEntries n i j) _ (lit< tt) e₁₂ in
-    let (hi, hj) = right-entries n i j c₁₅ in
+    let (checked, _) = pairs-none n l _ e₁ in
+    let (_, hi, hj) = shared-left kind n l i j e in
     (checked, hi, hj)
 
 module _ {kind : ℤ} {n : ℕ} {l : List ℤ} {i j r : ℕ} (e : r ≡ sharedRefusal kind n l i j) where
