@@ -9,6 +9,7 @@ int main(void)
     pair_lists();
     names();
     numbers();
+    shared();
     linkages();
     anchored();
     scores();

@@ -82,6 +82,7 @@ static uint32_t sets[FARZHUDYL_GROUPS_MAX];
 static int64_t indices[FARZHUDYL_GROUPS_MAX];
 static uint32_t blocks[FARZHUDYL_BLOCKS_MAX];
 static int32_t result[FARZHUDYL_PAIRS_MAX];
+static uint32_t set;
 static size_t start;
 static int64_t answer;
 
@@ -91,6 +92,7 @@ static void call_numbers(void)
 {
     answer = farzhudyl_numbers(kind, n, pairs, pairs_len, sets, FARZHUDYL_GROUPS_MAX, indices, FARZHUDYL_GROUPS_MAX);
 }
+static void call_shared(void) { answer = farzhudyl_smallest_shared(kind, n, pairs, pairs_len, entry, 0, &set); }
 static void call_single(void) { answer = farzhudyl_single_linkage(n, pairs, pairs_len, blocks, FARZHUDYL_BLOCKS_MAX); }
 static void call_average(void) { answer = farzhudyl_average_linkage(n, pairs, pairs_len, blocks, FARZHUDYL_BLOCKS_MAX); }
 static void call_anchored(void) { answer = farzhudyl_anchored_scores(n, entry, pairs, pairs_len, result, FARZHUDYL_PAIRS_MAX); }
@@ -117,6 +119,7 @@ static struct {
 } calls[] = {
     {"farzhudyl_listing", call_listing, 0, {0, 0}},
     {"farzhudyl_numbers", call_numbers, 0, {0, 0}},
+    {"farzhudyl_smallest_shared", call_shared, 0, {0, 0}},
     {"farzhudyl_single_linkage", call_single, 0, {0, 0}},
     {"farzhudyl_average_linkage", call_average, 0, {0, 0}},
     {"farzhudyl_anchored_scores", call_anchored, 0, {0, 0}},

@@ -1,4 +1,5 @@
-/* The calls on a pair list: numbers, the two linkages, anchored scores and the way back, the score of two entries. */
+/* The calls on a pair list: numbers, the smallest group two entries share, the two linkages, anchored scores and the way back, the
+   score of two entries. */
 #ifndef BUFFERS_PAIR_CALLS_H
 #define BUFFERS_PAIR_CALLS_H
 
@@ -113,6 +114,120 @@ static void numbers(void)
         found(kind, &one, &no_groups);
     }
     refused_lists(refused_numbers);
+}
+
+/* ---- the smallest group two entries share ---- */
+
+/* One call; the set is written to its slot in any case, on refusal as 0. */
+static void expect_shared(int32_t kind, const List *list, size_t a, size_t b, int64_t answer, uint32_t set)
+{
+    for (int pass = 0; pass < PASSES; pass++) {
+        int32_t *pairs = lend_list(list, pass);
+        uint32_t *slot = (uint32_t *)lend_room(sizeof *slot, pass);
+        int64_t given = farzhudyl_smallest_shared(kind, list->n, pairs, list->length, a, b, slot);
+        bool right = list_unchanged(pairs, list);
+        right = written_only(slot, sizeof *slot, &set, sizeof set, pass) && right;
+        report("smallest shared", list->what, given, answer, right);
+    }
+}
+
+/* The kinds that are refused, whatever else is handed over. */
+static void wrong_kinds_shared(const List *list)
+{
+    const int32_t kinds[] = {FARZHUDYL_SPLITS, 0, 4, -1, 256 + FARZHUDYL_STRONG, 65536 + FARZHUDYL_CLEAN, INT32_MIN, INT32_MAX};
+    for (size_t i = 0; i < sizeof kinds / sizeof kinds[0]; i++) {
+        expect_shared(kinds[i], list, 0, 0, -1, 0);
+        expect_shared(kinds[i], list, SIZE_MAX, list->n, -1, 0);
+    }
+}
+
+static void refused_shared(const List *list, int number)
+{
+    for (int32_t kind = FARZHUDYL_STRONG; kind <= FARZHUDYL_CLEAN; kind++) {
+        expect_shared(kind, list, 0, 0, -number, 0);
+        expect_shared(kind, list, SIZE_MAX, SIZE_MAX, -number, 0);
+    }
+    wrong_kinds_shared(list);
+}
+
+/* The line of the smallest group that holds both; 0 if there is none. */
+typedef size_t Line(size_t a, size_t b);
+
+/* Of 32 entries some, of 4 or fewer all, each with each; numbers that are no entries; wrong kinds. */
+static void entries_shared(int32_t kind, const List *list, Line *line, const Groups *groups)
+{
+    const size_t n = list->n, some[] = {0, 1, 2, 3, 15, 16, 30, 31}, far[] = {n, n + 1, (size_t)(UINT64_C(1) << 32), SIZE_MAX};
+    const size_t count = n == ENTRIES ? sizeof some / sizeof some[0] : n;
+    for (size_t i = 0; i < count; i++)
+        for (size_t j = 0; j < count; j++) {
+            const size_t at = line(some[i], some[j]);
+            expect_shared(kind, list, some[i], some[j], (int64_t)at, at > 0 ? groups->sets[at - 1] : first((int)n));
+        }
+    for (size_t i = 0; i < sizeof far / sizeof far[0]; i++) {
+        expect_shared(kind, list, far[i], n - 1, -15, 0);
+        expect_shared(kind, list, 0, far[i], -15, 0);
+        expect_shared(kind, list, far[i], far[i], -15, 0);
+    }
+    wrong_kinds_shared(list);
+}
+
+static size_t no_line(size_t a, size_t b)
+{
+    (void)a, (void)b;
+    return 0;
+}
+
+static size_t four_strong_line(size_t a, size_t b)
+{
+    static const size_t lines[4][4] = {{1, 5, 6, 0}, {5, 2, 6, 0}, {6, 6, 3, 0}, {0, 0, 0, 4}};
+    return lines[a][b];
+}
+
+static size_t four_clean_line(size_t a, size_t b)
+{
+    static const size_t lines[4][4] = {{1, 1, 2, 0}, {1, 1, 2, 0}, {2, 2, 2, 0}, {0, 0, 0, 0}};
+    return lines[a][b];
+}
+
+/* The ladder's strong groups are the singles, then the first 2 entries, the first 3 and so on; its clean groups lack the singles. */
+static size_t ladder_clean_line(size_t a, size_t b)
+{
+    const size_t later = a > b ? a : b;
+    return later == ENTRIES - 1 ? 0 : later == 0 ? 1 : later;
+}
+
+static size_t ladder_strong_line(size_t a, size_t b)
+{
+    const size_t line = ladder_clean_line(a, b);
+    return a == b ? a + 1 : line == 0 ? 0 : ENTRIES + line;
+}
+
+static void shared(void)
+{
+    const List example = {"worked example", 4, four_pairs, 10};
+    Groups groups = no_groups;
+    put_four_groups(&groups);
+    entries_shared(FARZHUDYL_STRONG, &example, four_strong_line, &groups);
+    groups = no_groups;
+    add_group(&groups, 3, 2);
+    add_group(&groups, 7, 6);
+    entries_shared(FARZHUDYL_CLEAN, &example, four_clean_line, &groups);
+
+    const int32_t own = -7;
+    int32_t pairs[PAIRS];
+    const List one = {"one entry", 1, &own, 1}, large = {"32 entries", ENTRIES, pairs, PAIRS};
+    put_pairs(pairs, ladder_score);
+    for (int32_t kind = FARZHUDYL_STRONG; kind <= FARZHUDYL_CLEAN; kind++) {
+        groups = no_groups;
+        put_ladder_groups(&groups, kind);
+        entries_shared(kind, &large, kind == FARZHUDYL_STRONG ? ladder_strong_line : ladder_clean_line, &groups);
+        entries_shared(kind, &one, no_line, &no_groups);
+    }
+    ladder_but(pairs, ladder_score, PAIRS - 1, 1000001);
+    refused_shared(&large, 11);
+    ladder_but(pairs, ladder_score, 0, -1000001);
+    refused_shared(&large, 11);
+    refused_lists(refused_shared);
 }
 
 /* ---- linkage ---- */

@@ -21,6 +21,15 @@ extern "C" {
         indices: *mut i64,
         indices_len: usize,
     ) -> i64;
+    fn farzhudyl_smallest_shared(
+        kind: i32,
+        n: usize,
+        pairs: *const i32,
+        pairs_len: usize,
+        a: usize,
+        b: usize,
+        set: *mut u32,
+    ) -> i64;
     fn farzhudyl_single_linkage(
         n: usize,
         pairs: *const i32,
@@ -79,6 +88,20 @@ pub fn numbers(kind: i32, n: usize, pairs: &[i32], sets: &mut [u32], indices: &m
             indices.len(),
         )
     }
+}
+
+/// The line, or minus the refusal's number; the set is written to the one slot.
+pub fn smallest_shared(
+    kind: i32,
+    n: usize,
+    pairs: &[i32],
+    a: usize,
+    b: usize,
+    set: &mut [u32],
+) -> i64 {
+    assert_eq!(set.len(), 1);
+    let (list, length) = (pairs.as_ptr(), pairs.len());
+    unsafe { farzhudyl_smallest_shared(kind, n, list, length, a, b, set.as_mut_ptr()) }
 }
 
 fn linkage(call: Linkage, n: usize, pairs: &[i32], blocks: &mut [u32]) -> i64 {

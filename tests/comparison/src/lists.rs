@@ -1,7 +1,11 @@
-//! Pair lists from a seed, good and flawed, and what is lent with them.
+//! Pair lists from a seed, good and flawed, all small ones, and what is handed
+//! over with them.
 
+use crate::sheet_call::small_table;
 use second_engine::engine;
 use second_engine::generate::{self, Random, Table};
+use std::hint::black_box;
+use std::ops::RangeInclusive;
 
 /// A list of values, said to be the pair list of n entries.
 #[derive(Clone, Debug, PartialEq, Eq)]
@@ -19,6 +23,27 @@ impl List {
     }
 }
 
+/// Calls on a copy of the list: the answer is the one wanted, the list stays.
+pub fn call_on(list: &List, wanted: i64, call: impl FnOnce(&[i32]) -> i64) -> Result<(), String> {
+    let pairs = list.pairs.clone();
+    let given = call(&pairs);
+    if given != wanted {
+        return Err(format!("answers {given}, wanted {wanted}"));
+    }
+    if black_box(pairs) != list.pairs {
+        return Err("the list itself was changed".into());
+    }
+    Ok(())
+}
+
+/// Every list of so few entries and values, own values 0 or not.
+pub fn small(n: usize, own: bool, values: RangeInclusive<i64>) -> impl Iterator<Item = List> {
+    let values: Vec<i64> = values.collect();
+    let pairs = pair_count(if own { n } else { n - 1 });
+    (0..values.len().pow(pairs as u32))
+        .map(move |number| List::of(&small_table(n, own, &values, number)))
+}
+
 /// The pairs of n entries, or of so few that a list of them can be made.
 pub fn pair_count(n: usize) -> usize {
     let n = n.min(40);
@@ -33,6 +58,11 @@ pub fn own(entry: usize) -> usize {
 /// In range: trees and near-trees, tied values, the ends of the range.
 pub fn scores(random: &mut Random) -> List {
     let n = generate::entries(random);
+    scores_of(random, n)
+}
+
+/// Of so many entries.
+pub fn scores_of(random: &mut Random, n: usize) -> List {
     let mut list = List::of(&generate::scores(random, n));
     if random.one_in(8) {
         let ends = [-1_000_000, -999_999, -1, 0, 1, 999_999, 1_000_000];
@@ -49,11 +79,17 @@ pub fn distances(random: &mut Random) -> List {
 
 /// A good list now and then made wrong.
 pub fn any(random: &mut Random, good: impl Fn(&mut Random) -> List) -> List {
-    let mut list = good(random);
-    if random.one_in(3) {
-        for _ in 0..random.of(&[1, 1, 1, 2, 3]) {
-            flaw(random, &mut list);
-        }
+    let list = good(random);
+    match random.one_in(3) {
+        true => flawed(random, list),
+        false => list,
+    }
+}
+
+/// A list made wrong in one place or a few; now and then it is another good one.
+pub fn flawed(random: &mut Random, mut list: List) -> List {
+    for _ in 0..random.of(&[1, 1, 1, 2, 3]) {
+        flaw(random, &mut list);
     }
     list
 }
@@ -122,6 +158,23 @@ pub fn entry(random: &mut Random, n: usize) -> usize {
         _ => random.below(n.clamp(1, 40)),
     }
 }
+
+/// Numbers that are no entries of any list, or whose low bits alone would be.
+pub const FAR_ENTRIES: [usize; 10] = [
+    32,
+    33,
+    1 << 8,
+    1 << 16,
+    1 << 31,
+    1 << 32,
+    1 << 63,
+    usize::MAX - 1,
+    usize::MAX,
+    usize::MAX / 2,
+];
+
+/// Numbers that are no kinds, or whose low bits alone would be.
+pub const NO_KINDS: [i32; 7] = [0, 4, -1, i32::MIN, i32::MAX, 1 << 8 | 1, 1 << 16 | 3];
 
 /// Slots around as many as are needed.
 pub fn room(random: &mut Random, needed: usize) -> usize {

@@ -2,7 +2,8 @@
 //! the second engine. The last line is `N passed, M failed`.
 //!
 //! * `sheet_call`: the call that reads a sheet and writes its listing.
-//! * `number_calls`: the calls on a pair list.
+//! * `number_calls`: the calls on a pair list, all but the next.
+//! * `shared_call`: the smallest group two entries share.
 //! * `reader_calls`: the calls on a sheet that write no listing.
 
 mod bench;
@@ -12,6 +13,7 @@ mod lists;
 mod number_calls;
 mod parts;
 mod reader_calls;
+mod shared_call;
 mod sheet_call;
 
 use parts::Parts;
@@ -29,6 +31,7 @@ fn main() -> ExitCode {
     let mut parts = Parts::default();
     sheet_call::run(cases, seed, &mut parts);
     number_calls::run(cases, seed, &mut parts);
+    shared_call::run(cases / 75, seed, &mut parts);
     reader_calls::run(cases / 5, seed, &mut parts);
     parts.end()
 }

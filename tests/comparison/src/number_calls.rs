@@ -5,14 +5,12 @@
 use crate::bench;
 use crate::calls::{self, MOST_PAIRS};
 use crate::lent::{Lent, FLIPS};
-use crate::lists::{self, own, pair_count, List};
+use crate::lists::{self, call_on, own, pair_count, small, List};
 use crate::parts::{Call, Parts};
-use crate::sheet_call::small_table;
 use second_engine::compare::Tally;
 use second_engine::engine::{self, Method};
 use second_engine::generate::{self, Random, Table};
 use second_engine::reordering::{image, parse_listing};
-use std::hint::black_box;
 
 const CALLS: [Call; 5] = [
     Call {
@@ -61,19 +59,6 @@ pub fn run(cases: usize, seed: u64, parts: &mut Parts) {
 /// A count, or minus the number of a refusal.
 fn number(answer: Result<usize, engine::Refusal>) -> i64 {
     answer.map_or_else(|number| -number, |count| count as i64)
-}
-
-/// Calls on a copy of the list: the answer is the one wanted, the list stays.
-fn call_on(list: &List, wanted: i64, call: impl FnOnce(&[i32]) -> i64) -> Result<(), String> {
-    let pairs = list.pairs.clone();
-    let given = call(&pairs);
-    if given != wanted {
-        return Err(format!("answers {given}, wanted {wanted}"));
-    }
-    if black_box(pairs) != list.pairs {
-        return Err("the list itself was changed".into());
-    }
-    Ok(())
 }
 
 fn check_numbers(kind: i32, list: &List, rooms: (usize, usize)) -> Result<i64, String> {
@@ -186,7 +171,7 @@ fn check_score(list: &List, a: usize, b: usize) -> Result<i64, String> {
 
 fn numbers(random: &mut Random) -> Result<i64, String> {
     let kind = match random.below(16) {
-        0 => random.of(&[0, 4, -1, i32::MIN, i32::MAX, 1 << 8 | 1, 1 << 16 | 3]),
+        0 => random.of(&lists::NO_KINDS),
         _ => random.of(&[1, 2, 3]),
     };
     let distances = kind == 3 && !random.one_in(8);
@@ -283,9 +268,7 @@ fn small_lists() -> Result<(), String> {
 /// The scores of all entries, of numbers beyond them, and of numbers whose low
 /// bits alone would be entries.
 fn every_score(list: &List) -> Result<(), String> {
-    let far = [32, 33, 1 << 8, 1 << 16, 1 << 31, 1 << 32, 1 << 63];
-    let most = [usize::MAX - 1, usize::MAX, usize::MAX / 2];
-    let numbers = (0..=list.n + 2).chain(far).chain(most);
+    let numbers = (0..=list.n + 2).chain(lists::FAR_ENTRIES);
     for a in numbers.clone() {
         for b in numbers.clone() {
             check_score(list, a, b)?;
@@ -313,13 +296,6 @@ fn scores_of_every_size() -> Result<(), String> {
         every_score(&List { n, pairs })?;
     }
     Ok(())
-}
-
-fn small(n: usize, own: bool, values: std::ops::RangeInclusive<i64>) -> impl Iterator<Item = List> {
-    let values: Vec<i64> = values.collect();
-    let pairs = pair_count(if own { n } else { n - 1 });
-    (0..values.len().pow(pairs as u32))
-        .map(move |number| List::of(&small_table(n, own, &values, number)))
 }
 
 // --------------------------------------------------- Slices of every length

@@ -1,6 +1,6 @@
 //! The rules of document 01, in its order: the sheet, the definitions, what is
-//! written, where a call is turned away. Sets of entries are 32-bit numbers in
-//! which entry i weighs 2 to the power i.
+//! written, where a call is turned away; with them the call of request 2.1. Sets
+//! of entries are 32-bit numbers in which entry i weighs 2 to the power i.
 
 use std::cmp::Ordering;
 
@@ -507,11 +507,7 @@ pub fn numbers(
     sets: &mut [u32],
     indices: &mut [i64],
 ) -> Result<usize, Refusal> {
-    check_kind(kind)?;
-    check_entries(n)?;
-    check_length(n, pairs)?;
-    check_range(pairs)?;
-    check_distances(kind, n, pairs)?;
+    check_numbers(kind, n, pairs)?;
     refuse_if(sets.len() < 2 * n || indices.len() < 2 * n, 13)?;
     let lines = listed(kind, Scores::new(n, pairs), usual_way(n));
     sets.fill(0);
@@ -521,6 +517,56 @@ pub fn numbers(
         indices[place] = index;
     }
     Ok(lines.len())
+}
+
+/// The checks of the numbers call, 13 left out.
+fn check_numbers(kind: i32, n: usize, pairs: &[i32]) -> Result<(), Refusal> {
+    check_kind(kind)?;
+    check_entries(n)?;
+    check_length(n, pairs)?;
+    check_range(pairs)?;
+    check_distances(kind, n, pairs)
+}
+
+/// The smallest group, of kind 1 or 2, that holds both of two entries, and its
+/// line, counted from 1 after the first; all n entries and 0 if none does
+/// (request 2.1). The same entry twice is allowed. Kind 3 gets 1 here.
+pub fn smallest_shared(
+    kind: i32,
+    n: usize,
+    pairs: &[i32],
+    a: usize,
+    b: usize,
+) -> Result<(u32, usize), Refusal> {
+    smallest_among(n, &shared_groups(kind, n, pairs)?, a, b)
+}
+
+/// The groups that `smallest_shared` reads, in written order; refuses by the
+/// checks that ask nothing of the two entries.
+pub fn shared_groups(kind: i32, n: usize, pairs: &[i32]) -> Result<Vec<u32>, Refusal> {
+    refuse_if(kind == SPLITS, 1)?;
+    check_numbers(kind, n, pairs)?;
+    let lines = listed(kind, Scores::new(n, pairs), usual_way(n));
+    Ok(lines.into_iter().map(|(set, _)| set).collect())
+}
+
+/// Of these groups of n entries, all of them read, the one with the fewest
+/// members that holds both, and its line. All entries are more than any group.
+pub fn smallest_among(
+    n: usize,
+    groups: &[u32],
+    a: usize,
+    b: usize,
+) -> Result<(u32, usize), Refusal> {
+    refuse_if(a >= n || b >= n, 15)?;
+    let both = single(a) | single(b);
+    let mut smallest = (all(n), 0);
+    for (place, &group) in groups.iter().enumerate() {
+        if group & both == both && group.count_ones() < smallest.0.count_ones() {
+            smallest = (group, place + 1);
+        }
+    }
+    Ok(smallest)
 }
 
 /// What turns a linkage call away that lends a result slice of so many slots.

@@ -1,6 +1,6 @@
 //! This engine against itself: the two ways of finding sets, reorderings, the
-//! theorems of 003 that lead to the same listing by another route, and refusals
-//! against sheets made to meet them.
+//! theorems of 003 that lead to the same listing by another route, what two
+//! entries share, and refusals against sheets made to meet them.
 
 use crate::compare::{Tally, SHEET_REFUSALS};
 use crate::engine::{self, Method, Scores, Way};
@@ -19,6 +19,9 @@ pub struct Report {
     pub large_lines: [u64; 4],
     /// Clean groups met that no strong listing has.
     pub clean_not_strong: u64,
+    /// Pairs of entries that share a group, and pairs that share none, by kind.
+    pub shared: [u64; 4],
+    pub not_shared: [u64; 4],
     pub reorderings: u64,
     pub tally: Tally,
 }
@@ -33,6 +36,13 @@ impl fmt::Display for Report {
                 self.both_ways_lines[kind],
                 self.large[kind],
                 self.large_lines[kind],
+            )?;
+        }
+        for kind in 1..3 {
+            writeln!(
+                f,
+                "kind {kind}: {} pairs of entries share a group, {} share none",
+                self.shared[kind], self.not_shared[kind],
             )?;
         }
         writeln!(f, "clean groups not strong: {}", self.clean_not_strong)?;
@@ -88,6 +98,7 @@ pub fn round(random: &mut Random, report: &mut Report) -> Result<(), String> {
     let n = 1 + random.below(32);
     for (kind, table) in tables(random, n) {
         another_route(random, kind, &table, report)?;
+        shared(kind, &table, report)?;
         let p = generate::order(random, n);
         reordering::check(engine::listing, kind, &table, &p)?;
         report.reorderings += 1;
@@ -161,6 +172,42 @@ fn another_route(
     if table.entries() > 12 {
         report.large[kind as usize] += 1;
         report.large_lines[kind as usize] += found.len() as u64;
+    }
+    Ok(())
+}
+
+/// The smallest group that two entries share, of every two: what all groups that
+/// hold both have in common, and the first of them in the listing.
+fn shared(kind: i32, table: &Table, report: &mut Report) -> Result<(), String> {
+    let (n, pairs) = (table.entries(), table.pairs());
+    if kind == 3 {
+        let found = engine::smallest_shared(kind, n, &pairs, 0, n - 1);
+        return demand(found == Err(1), || {
+            format!("{found:x?}, wanted 1; {}", show(kind, table))
+        });
+    }
+    let lines = read_listing(engine::listing, kind, table)?;
+    let groups = engine::shared_groups(kind, n, &pairs)
+        .map_err(|number| format!("refused {number}; {}", show(kind, table)))?;
+    for a in 0..n {
+        for b in 0..n {
+            let holds_both = |set: u32| set >> a & set >> b & 1 == 1;
+            let both = lines.iter().filter(|line| holds_both(line.0));
+            let common = both.fold(whole(n), |common, line| common & line.0);
+            let first = lines.iter().position(|line| holds_both(line.0));
+            let line = first.map_or(0, |place| place + 1);
+            let found = engine::smallest_among(n, &groups, a, b);
+            demand(found == Ok((common, line)), || {
+                format!(
+                    "{a} and {b} share {found:x?}, wanted {common:x} on line {line}; {}",
+                    show(kind, table)
+                )
+            })?;
+            match line {
+                0 => report.not_shared[kind as usize] += 1,
+                _ => report.shared[kind as usize] += 1,
+            }
+        }
     }
     Ok(())
 }
@@ -275,6 +322,10 @@ mod tests {
         assert_eq!(report.tally.missed(&SHEET_REFUSALS), [], "{report}");
         for kind in 1..4 {
             assert!(report.large_lines[kind] > 300, "{report}");
+        }
+        for kind in 1..3 {
+            assert!(report.shared[kind] > 1_000, "{report}");
+            assert!(report.not_shared[kind] > 1_000, "{report}");
         }
         for number in SHEET_REFUSALS {
             assert!(report.tally.refusals[number] > 100, "{report}");

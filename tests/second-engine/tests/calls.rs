@@ -1,8 +1,9 @@
-//! The calls that write no listing: names, numbers, linkage, anchored scores,
-//! the score of two entries.
+//! The calls that write no listing: names, numbers, the smallest group two
+//! entries share, linkage, anchored scores, the score of two entries.
 
 use second_engine::engine::{
-    anchored, is_tree, linkage, linkage_refusal, name, numbers, read, score, way_back, Method,
+    anchored, is_tree, linkage, linkage_refusal, name, numbers, read, score, smallest_among,
+    smallest_shared, way_back, Method,
 };
 
 #[test]
@@ -89,6 +90,104 @@ fn numbers_refuse_in_order() {
     assert_eq!(call(1, 2, &[0, -1, 0], (4, 4)), Ok(2));
     assert_eq!(call(3, 2, &[0, 1, 0], (4, 4)), Ok(1));
     assert_eq!(call(2, 32, &[0; 528], (64, 64)), Ok(0));
+}
+
+/// The pair list of the worked example: its strong groups are 1, 2, 4, 8, 3, 7,
+/// its clean groups 3, 7.
+const FOUR: [i32; 10] = [9, 8, 9, 6, 5, 9, 2, 3, 1, 9];
+
+#[test]
+fn the_smallest_group_two_entries_share() {
+    let all = |kind| {
+        let share = |a, b| smallest_shared(kind, 4, &FOUR, a, b).unwrap();
+        [0, 1, 2, 3].map(|a| [0, 1, 2, 3].map(|b| share(a, b)))
+    };
+    let (ab, abc, none) = ((0b0011, 5), (0b0111, 6), (0b1111, 0));
+    let strong = [
+        [(0b0001, 1), ab, abc, none],
+        [ab, (0b0010, 2), abc, none],
+        [abc, abc, (0b0100, 3), none],
+        [none, none, none, (0b1000, 4)],
+    ];
+    assert_eq!(all(1), strong);
+    // No clean group is a single.
+    let (ab, abc) = ((0b0011, 1), (0b0111, 2));
+    let clean = [
+        [ab, ab, abc, none],
+        [ab, ab, abc, none],
+        [abc, abc, abc, none],
+        [none, none, none, none],
+    ];
+    assert_eq!(all(2), clean);
+}
+
+/// With s(B,C) = 2 the set {A,B,C} is clean, but not strong.
+#[test]
+fn entries_that_share_a_group_of_one_kind() {
+    let mut lower = FOUR;
+    lower[4] = 2;
+    assert_eq!(smallest_shared(1, 4, &lower, 0, 2), Ok((0b1111, 0)));
+    assert_eq!(smallest_shared(2, 4, &lower, 0, 2), Ok((0b0111, 2)));
+}
+
+/// s(0,1) = s(2,3) = 5, own scores 1, others 0: each group holds one of 0 and 2.
+#[test]
+fn entries_of_two_groups() {
+    let pairs = [1, 5, 1, 0, 0, 1, 0, 0, 5, 1];
+    for kind in [1, 2] {
+        let share = |a, b| smallest_shared(kind, 4, &pairs, a, b);
+        assert_eq!(share(0, 2), Ok((0b1111, 0)));
+        assert_eq!(share(3, 1), Ok((0b1111, 0)));
+        assert_eq!(share(1, 0), Ok((0b0011, 1)));
+        assert_eq!(share(2, 3), Ok((0b1100, 2)));
+        assert_eq!(share(3, 3), Ok((0b1100, 2)));
+    }
+}
+
+#[test]
+fn entries_without_a_group() {
+    for kind in [1, 2] {
+        assert_eq!(smallest_shared(kind, 1, &[7], 0, 0), Ok((1, 0)));
+        let (n, pairs) = (32, [0; 528]);
+        assert_eq!(smallest_shared(kind, n, &pairs, 31, 0), Ok((u32::MAX, 0)));
+        assert_eq!(smallest_shared(kind, n, &pairs, 5, 5), Ok((u32::MAX, 0)));
+    }
+}
+
+/// All lines are read, so the order in which they stand does not matter.
+#[test]
+fn the_smallest_need_not_be_the_first() {
+    let sets = [0b1111, 0b0011, 0b0111, 0b0001];
+    assert_eq!(smallest_among(5, &sets, 0, 1), Ok((0b0011, 2)));
+    assert_eq!(smallest_among(5, &sets, 2, 0), Ok((0b0111, 3)));
+    assert_eq!(smallest_among(5, &sets, 3, 3), Ok((0b1111, 1)));
+    assert_eq!(smallest_among(5, &sets, 0, 0), Ok((0b0001, 4)));
+    assert_eq!(smallest_among(5, &sets, 0, 4), Ok((0b11111, 0)));
+}
+
+#[test]
+fn smallest_shared_refuses_in_order() {
+    let far = [0, 1_000_001, 0];
+    for kind in [0, 3, 4, -1, i32::MIN, i32::MAX] {
+        assert_eq!(smallest_shared(kind, 0, &[], 0, 0), Err(1));
+        assert_eq!(smallest_shared(kind, 2, &far, 2, 2), Err(1));
+        assert_eq!(smallest_shared(kind, 2, &[0; 3], 0, 1), Err(1));
+    }
+    for kind in [1, 2] {
+        let call = |n, pairs: &[i32], a, b| smallest_shared(kind, n, pairs, a, b);
+        assert_eq!(call(0, &[], 0, 0), Err(6));
+        assert_eq!(call(33, &[0; 561], 0, 0), Err(6));
+        assert_eq!(call(usize::MAX, &[], 0, 0), Err(6));
+        assert_eq!(call(2, &[1_000_001; 4], 2, 2), Err(10));
+        assert_eq!(call(2, &[], 0, 0), Err(10));
+        assert_eq!(call(2, &far, 2, 2), Err(11));
+        assert_eq!(call(2, &[0, 0, -1_000_001], 0, 0), Err(11));
+        assert_eq!(call(2, &[0; 3], 0, 2), Err(15));
+        assert_eq!(call(2, &[0; 3], 2, 0), Err(15));
+        assert_eq!(call(2, &[0; 3], usize::MAX, 1 << 32), Err(15));
+        // What check 12 asks of distances is not asked of scores.
+        assert_eq!(call(2, &[1, -1, -1_000_000], 0, 1), Ok((0b11, 0)));
+    }
 }
 
 /// Four entries in a row: s(0,1) = 9, s(1,2) = 8, s(2,3) = 9, others 0.
