@@ -130,9 +130,9 @@ int64_t farzhudyl_numbers(int32_t kind, size_t n, const int32_t *pairs, size_t p
    be the same.
 
    Answers the group's line in the listing, counted from 1 after the first line, and has then written its set to *set; farzhudyl_numbers
-   has that group in its slots of number line - 1. Every other group that holds both holds this one and is larger. Answers 0 if no group
-   holds both, and *set is then the set of all n entries. Or answers minus the refusal's number, and *set is then 0. Checks 1 (kind 3
-   too), 6, 10, 11, 15 (a or b is n or more). */
+   has that group in slot line - 1. Every other group that holds both holds this one and is larger. Answers 0 if no group holds both,
+   and *set is then the set of all n entries. Or answers minus the refusal's number, and *set is then 0. Checks 1 (kind 3 too), 6, 10,
+   11, 15 (a or b is n or more). */
 int64_t farzhudyl_smallest_shared(int32_t kind, size_t n, const int32_t *pairs, size_t pairs_len, size_t a, size_t b, uint32_t *set);
 
 /* A single linkage tree and an average linkage tree of the pair list of n entries, of scores: from the n single entries on, the two
