@@ -1,14 +1,18 @@
 -- The requests of document 02, from the outcomes of the calls and the theorems about groups.
 use mathlib.Core.Path.{_≡_, refl, sym, ap, ap₂, _∙_, subst, subst₂}
 use mathlib.Core.Bool.{Bool, true, false, not, cond, _||_}
-use mathlib.Core.List.{List}
-use Prim.Native.Nat.{ℕ, _^_, _<_}
+use mathlib.Core.Logic.{_⊎_, inl, inr, _≢_}
+use mathlib.Core.List.{List, [], _∷_, _++_}
+use Prim.Native.Nat.{ℕ, zero, suc, _^_, _<_, _≤_}
 use native.Mathlib.Omega.{arith}
-use lib.Dec.{T, T-not, lit<}
+use borrow.Author.Tests.{le-leb, lt-leb}
+use lib.Dec.{T, T-not, not-T, eqb, eqb·suc-zero, leb, le→leb, lit<}
 use lib.IntN.{ℤ, pos}
+use lib.ListN.{length}
 use Rattle.lists.specs.Lists.{_∈_, _lists_, all}
-use Rattle.lists.proofs.Tests.{T-false, false-T}
+use Rattle.lists.proofs.Tests.{T-true, T-false, false-T, or-first, T-or-right}
 use Rattle.integers.specs.Integers.{eqZ}
+use Rattle.integers.proofs.Linear.{eqZ-yes}
 use Rattle.clusters.specs.PairList.{Similarity, Symmetric, score}
 use Rattle.clusters.specs.Groups.{Kind, strong, clean, splits, kindOf, index, groupSets, groups}
 use Rattle.clusters.specs.Reordering.{image}
@@ -19,16 +23,95 @@ use Rattle.clusters.proofs.Hierarchies.{Hierarchy, groups-hierarchy}
 use Rattle.clusters.proofs.Shared.{shared-swapped, shared-of-all, shared-line, shared-none, shared-holds, shared-all}
 use Rattle.clusters.proofs.Shared.{shared-inside, shared-only, shared-single}
 use Rattle.clusters.proofs.Images.{ofGroups, shared-image, shared-image-none}
+use Rattle.answers.specs.Answers.{numberOf}
 use Rattle.answers.specs.Shared.{sharedNumber, sharedSet, sharedLine, sharedAnswer}
-use Rattle.answers.proofs.Answers.{shared-number, shared-nothing, shared-found}
+use Rattle.answers.proofs.Answers.{number-answer, shared-number, shared-nothing, shared-found}
 use Rattle.interface.specs.Listing.{groupsFound}
-use Rattle.interface.specs.Refusals.{wrongKind, wrongGroupKind, wrongAnchor, wrongEntries, sharedChecks, sharedRefusal}
+use Rattle.interface.specs.Refusals.{
+  Check,
+  firstOf,
+  wrongKind,
+  wrongGroupKind,
+  wrongAnchor,
+  wrongEntries,
+  fewSlots,
+  check1,
+  check6,
+  check10,
+  check11,
+  check12,
+  check13,
+  check15,
+  numbersChecks,
+  numbersRefusal,
+  sharedChecks,
+  sharedRefusal,
+}
 use Rattle.interface.specs.Calls.{setsFound, sharedFound}
-use Rattle.interface.specs.Requests.{SharedAnswered, by-shared-call, by-shared-in-C, refused-in-C, SmallestFound, Request-2-1}
-use Rattle.interface.proofs.Refusals.{first-iff, passes, right-entries}
+use Rattle.interface.specs.Requests.{SharedAnswered, by-shared-call, by-shared-in-C, refused-in-C, SmallestFound, JudgedAfter, Request-2-1}
+use Rattle.interface.proofs.Refusals.{numbered, first-append, first-iff, passes, right-entries}
 use Rattle.interface.proofs.Demands.{c-count, c-refused, wrote}
 
--- 2.1: what was answered, by the checks and by what was found
+-- 2.1: the checks that this call and the numbers call both make, for a kind that is not 3
+common : ℤ → ℕ → List ℤ → List Check
+common kind n l = check1 kind ∷ check6 n ∷ check10 n l ∷ check11 l ∷ check12 kind n l ∷ []
+
+numbered-common : (kind : ℤ) (n : ℕ) (l : List ℤ) → T (numbered (common kind n l))
+unfolding common all
+numbered-common kind n l = tt
+
+shared-common : (kind : ℤ) (n : ℕ) (l : List ℤ) (i j : ℕ) → kind ≢ pos 3 → sharedChecks kind n l i j ≡ common kind n l ++ (check15 (wrongEntries n i j) ∷ [])
+unfolding sharedChecks common wrongGroupKind
+shared-common kind n l i j d = rw (not-third, or-nothing (wrongKind kind))
+  where
+    not-third : eqZ kind (pos 3) ≡ false
+    not-third = T-false {b = eqZ kind (pos 3)} (not-T (eqZ kind (pos 3)) (λ t. d (eqZ-yes kind (pos 3) t)))
+
+    or-nothing : (b : Bool) → b || false ≡ b
+    or-nothing true = refl
+    or-nothing false = refl
+
+numbers-common : (kind : ℤ) (n : ℕ) (l : List ℤ) (sets indices : ℕ) → numbersChecks kind n l sets indices ≡ common kind n l ++ (check13 n sets indices ∷ [])
+unfolding numbersChecks common
+numbers-common kind n l sets indices = refl
+
+tables : (kind : ℤ) (n : ℕ) (l : List ℤ) (i j sets indices : ℕ) → kind ≢ pos 3 → let k = firstOf (common kind n l) in
+    (numbersRefusal kind n l sets indices ≡ cond (eqb k 0) (cond (fewSlots n sets indices) 13 0) k)
+    × (sharedRefusal kind n l i j ≡ cond (eqb k 0) (cond (wrongEntries n i j) 15 0) k)
+unfolding numbersRefusal sharedRefusal firstOf
+tables kind n l i j sets indices d = (
+  ap firstOf (numbers-common kind n l sets indices) ∙ first-append (common kind n l) (check13 n sets indices ∷ []) (numbered-common kind n l),
+  ap firstOf (shared-common kind n l i j d) ∙ first-append (common kind n l) (check15 (wrongEntries n i j) ∷ []) (numbered-common kind n l),
+)
+
+third : (kind : ℤ) (n : ℕ) (l : List ℤ) (i j : ℕ) → kind ≡ pos 3 → sharedRefusal kind n l i j ≡ 1
+unfolding sharedRefusal sharedChecks firstOf wrongGroupKind wrongKind eqZ
+third kind n l i j e = ap (λ (k : ℤ). sharedRefusal k n l i j) e
+
+-- the common checks give k; behind them stands 13 in the one table, 15 in the other
+judged-after : (n i j k : ℕ) (few : Bool) → cond (eqb k 0) (cond few 13 0) k ≢ 13
+    → JudgedAfter n i j (cond (eqb k 0) (cond few 13 0) k) (cond (eqb k 0) (cond (wrongEntries n i j) 15 0) k)
+unfolding wrongEntries wrongAnchor
+judged-after n i j zero true d = absurd (d refl)
+judged-after n i j zero false d = record {
+  refused = λ f. absurd (f refl);
+  past = λ _. far;
+  passed = λ _ hi hj. simp (lt-leb n i hi, lt-leb n j hj);
+}
+  where
+    far : (n ≤ i) ⊎ (n ≤ j) → _≡_ {A = ℕ} (cond (leb n i || leb n j) 15 0) 15
+    far (inl p) = rw (or-first (leb n j) (le-leb n i p))
+    far (inr p) = rw (T-true {b = leb n i || leb n j} (T-or-right (leb n i) (leb n j) (le→leb n j p)))
+judged-after n i j (suc k) few d = record {
+  refused = λ _. rw (eqb·suc-zero k);
+  past = λ e. absurd (some e);
+  passed = λ e. absurd (some e);
+}
+  where
+    some : cond (eqb (suc k) 0) (cond few 13 0) (suc k) ≡ 0 → ⊥
+    some e = let q : suc k ≡ 0 = sym (rw (eqb·suc-zero k)) ∙ e in omega arith
+
+-- what was answered, by the checks and by what was found
 record Answered (kind : ℤ) (n : ℕ) (l : List ℤ) (i j number set line : ℕ) : Type 0 where
   is-number : number ≡ sharedRefusal kind n l i j
   is-set : set ≡ sharedSet (sharedAnswer (sharedRefusal kind n l i j) (sharedFound kind n l i j .set) (sharedFound kind n l i j .line))
@@ -167,6 +250,13 @@ request-2-1 kind = record {
       let hit = sharedFound kind n l i j in
       let (s, t) = shared-nothing (hit .set) (hit .line) (sharedRefusal kind n l i j) (λ z. d (a .is-number ∙ z)) in
       (a .is-set ∙ s, a .is-line ∙ t);
+  third-kind = λ e {n} {l} {i} {j} c. answered c .is-number ∙ third kind n l i j e;
+  judged = λ d {n} {l} {i} {j} {number} c {lentSets} {sets} {lentIndices} {indices} {r} m room.
+      let k = numbersRefusal kind n l (length lentSets) (length lentIndices) in
+      let numbers : numberOf r ≡ k = ap numberOf (m .answered) ∙ number-answer k (length (groupsFound kind n l)) in
+      let (p, q) = tables kind n l i j (length lentSets) (length lentIndices) d in
+      subst₂ (JudgedAfter n i j) (sym (numbers ∙ p)) (sym (answered c .is-number ∙ q))
+      (judged-after n i j (firstOf (common kind n l)) (fewSlots n (length lentSets) (length lentIndices)) (λ e. room (numbers ∙ p ∙ e)));
   smallest = λ {n} {l} {i} {j} {set} {line} c w.
       let a = found c in
       let (e, symm) = wrote w in

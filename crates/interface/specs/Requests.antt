@@ -1,6 +1,6 @@
 -- The requests of document 02, said of what the calls answer and write.
 use mathlib.Core.Path.{_≡_}
-use mathlib.Core.Logic.{_≢_, _↔_}
+use mathlib.Core.Logic.{_⊎_, _≢_, _↔_}
 use mathlib.Core.List.{List, map}
 use Prim.Native.Nat.{ℕ, _^_, _<_, _≤_}
 use lib.IntN.{ℤ, pos, negℤ}
@@ -9,10 +9,12 @@ use Rattle.sets.specs.Sets.{_∋_, size, allEntries, Subset}
 use Rattle.clusters.specs.PairList.{score}
 use Rattle.clusters.specs.Reordering.{Permutation, Reordered, image}
 use Rattle.clusters.specs.Nesting.{smallestOfAll, OnLine}
+use Rattle.answers.specs.declared.Answer.{Answer}
+use Rattle.answers.specs.Answers.{numberOf}
 use Rattle.answers.specs.declared.Shared.{Shared}
 use Rattle.answers.specs.Shared.{sharedNumber, sharedSet, sharedLine}
 use Rattle.interface.specs.Refusals.{Given, sharedChecks}
-use Rattle.interface.specs.Calls.{SharedCall, SharedInC}
+use Rattle.interface.specs.Calls.{NumbersCall, SharedCall, SharedInC}
 use Rattle.interface.specs.Demands.{Wrote}
 
 -- 2.1, the smallest group two entries share: the refusal's number, 0 for none, the set and the line that the call
@@ -43,12 +45,27 @@ pub record SmallestFound (n i j : ℕ) (found : List (ℕ × ℤ)) (set line : �
   pub no-line : (line ≡ 0) ↔ ((C : ℕ) (z : ℤ) → found lists (C, z) → C ∋ i → C ∋ j → ⊥)
   pub all-entries : (line ≡ 0) ↔ (set ≡ allEntries n)
 
+-- "after the numbers call's checks, 13 left out, an entry number of n or more gets 15": the number given, beside that
+-- which the numbers call gives
+pub record JudgedAfter (n i j numbers number : ℕ) : Type 0 where
+  pub refused : numbers ≢ 0 → number ≡ numbers
+  pub past : numbers ≡ 0 → (n ≤ i) ⊎ (n ≤ j) → number ≡ 15
+  pub passed : numbers ≡ 0 → i < n → j < n → number ≡ 0
+
 pub record Request-2-1 (kind : ℤ) : Type 0 where
   -- each number is given if and only if its line holds and none before it does; "A refusal answers set 0, line 0."
   pub refusal : {n : ℕ} {l : List ℤ} {i j number set line : ℕ} → SharedAnswered kind n l i j number set line
       → (k : ℕ) → 0 < k → (number ≡ k) ↔ Given (sharedChecks kind n l i j) k
   pub refused : {n : ℕ} {l : List ℤ} {i j number set line : ℕ} → SharedAnswered kind n l i j number set line
       → number ≢ 0 → (set ≡ 0) × (line ≡ 0)
+  -- "Kind 3 gets 1 here"; any other kind number is judged as the numbers call judges it, where that has room
+  pub third-kind : kind ≡ pos 3 → {n : ℕ} {l : List ℤ} {i j number set line : ℕ}
+      → SharedAnswered kind n l i j number set line → number ≡ 1
+  pub judged : kind ≢ pos 3 → {n : ℕ} {l : List ℤ} {i j number set line : ℕ}
+      → SharedAnswered kind n l i j number set line
+      → {lentSets sets : List ℕ} {lentIndices indices : List ℤ} {r : Answer}
+      → NumbersCall kind n l lentSets lentIndices r sets indices → numberOf r ≢ 13
+      → JudgedAfter n i j (numberOf r) number
   pub smallest : {n : ℕ} {l : List ℤ} {i j set line : ℕ} → SharedAnswered kind n l i j 0 set line
       → {found : List (ℕ × ℤ)} → Wrote kind n (score l) found → SmallestFound n i j found set line
   -- which of the two is named first makes no difference
