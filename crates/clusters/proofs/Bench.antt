@@ -1,12 +1,15 @@
 -- Every starred case of document 01 holds of the definitions.
 use mathlib.Core.Path.{_≡_, refl}
+use mathlib.Core.Bool.{xor}
 use mathlib.Core.List.{map}
 use Rattle.lists.specs.Lists.{_∈_, below, each, keep}
 use Rattle.lists.proofs.Lists.{of-map-cong}
-use Rattle.integers.specs.Integers.{minZ, maxZ, least, sumOf, sum, insert, sort, sumOfSmallest}
+use Rattle.integers.specs.Integers.{minZ, maxZ, eqZ, least, sumOf, sum, insert, sort, sumOfSmallest}
 use Rattle.sets.specs.Sets.{has, members, others, size}
+use Rattle.pairs.specs.Pairs.{mark, carried}
 use Rattle.clusters.specs.PairList.{rowStart, place, score}
 use Rattle.clusters.specs.Indices.{strongValues, strongIndex, weight, pairsOf, weights, cleanIndex, separationValues, separationIndex}
+use Rattle.clusters.specs.Fillings.{low, high, worst, filledIndex}
 use Rattle.clusters.specs.Groups.{index, proper, speaksOf, listed, sets, groupSets, groups}
 use Rattle.clusters.specs.Bench.{
   Case,
@@ -28,13 +31,13 @@ use Rattle.clusters.specs.Bench.{
 computed : map linesFound bench ≡ map (λ (c : Case). c .lines) bench
 unfolding linesFound bench changedLines ownLines copiesLines four changed flat own copies apart equal groups groupSets sets listed speaksOf proper
     index strongIndex strongValues cleanIndex weights pairsOf weight separationIndex separationValues score place rowStart has members others size
-    minZ maxZ least sumOf sum insert sort sumOfSmallest below each keep
+    minZ maxZ least sumOf sum insert sort sumOfSmallest below each keep filledIndex worst xor low high carried mark eqZ
 computed = refl
 
 computed-unlisted : map unlistedFound bench ≡ map (λ (c : Case). c .unlisted) bench
 unfolding unlistedFound bench changedLines ownLines copiesLines four changed flat own copies apart equal index strongIndex strongValues cleanIndex
     weights pairsOf weight separationIndex separationValues score place rowStart has members others size minZ maxZ least sumOf sum insert sort
-    sumOfSmallest below each keep
+    sumOfSmallest below each keep filledIndex worst xor low high carried mark eqZ
 computed-unlisted = refl
 
 pub bench-holds : (c : Case) → c ∈ bench → (linesFound c ≡ c .lines) × (unlistedFound c ≡ c .unlisted)

@@ -90,7 +90,7 @@ of-row : (n m k : ℕ) {A : ℕ} → A ∈ row n m k → (A < m) × (size n A �
 unfolding row
 of-row n m k {A} a = let (l, t) = of-keep (λ A. eqb (size n A) k) (below m) a in (below-lt m l, eqb→eq (size n A) k t)
 
-in-sets : (n A : ℕ) → (A ∈ sets n) ↔ (A < 2 ^ n)
+pub in-sets : (n A : ℕ) → (A ∈ sets n) ↔ (A < 2 ^ n)
 unfolding sets row
 in-sets n A = (
   λ m. let (k, _, a) = of-each (below (suc n)) (row n (2 ^ n)) m in of-row n (2 ^ n) k a .0,

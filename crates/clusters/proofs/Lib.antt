@@ -20,3 +20,7 @@ pub mod Hierarchies
 pub mod Searches
 pub mod Shared
 pub mod Images
+pub mod Scored
+pub mod Fillings
+pub mod Untouched
+pub mod Unscored

@@ -1,6 +1,6 @@
 -- A reordering of the entries keeps every index, and the groups and splits of the new sheet are the images of those of the old.
 use mathlib.Core.Path.{_≡_, refl, sym, ap, ap₂, _∙_, subst, subst₂}
-use mathlib.Core.Bool.{not, _&&_}
+use mathlib.Core.Bool.{not, xor, cond, _&&_}
 use mathlib.Core.Logic.{_↔_}
 use mathlib.Core.List.{List, Memᴰ·cast}
 use Prim.Native.Nat.{ℕ, _-_, _^_, _≤_, _<_}
@@ -17,8 +17,10 @@ use Rattle.integers.proofs.Sums.{sum-cong, sum-const}
 use Rattle.integers.proofs.Smallest.{smallest-same}
 use Rattle.sets.specs.Sets.{has, _∋_, _∌_, members, others, size, complement}
 use Rattle.sets.proofs.Sets.{has-yes, yes-has, has-no, no-has, mask-lt, mask-has, of-others, complement-lt, not-complement, size-complement}
-use Rattle.clusters.specs.PairList.{Similarity, Symmetric}
+use Rattle.pairs.specs.Pairs.{carried}
+use Rattle.clusters.specs.PairList.{Similarity, Symmetric, scoreLimit}
 use Rattle.clusters.specs.Indices.{strongValues, strongIndex, weight, weights, cleanIndex, separationValues, separationIndex}
+use Rattle.clusters.specs.Fillings.{low, high, worst, filledIndex}
 use Rattle.clusters.specs.Groups.{Kind, strong, clean, splits, index, proper, speaksOf, groups, writtenSet}
 use Rattle.clusters.specs.Reordering.{Permutation, Reordered, image}
 use Rattle.clusters.proofs.Weights.{weight-symm, weights-sum}
@@ -118,10 +120,23 @@ module _ (n : ℕ) (p : Permutation n) (old new : Similarity) (r : Reordered n p
       smallest-same (weights n new (image n p A)) (weights n old A) (weights-image old-symm new-symm A) (size n (image n p A) - 1)
       ∙ ap (λ (k : ℕ). sumOfSmallest (k - 1) (weights n old A)) (size-image n p A)
 
+-- the mark goes with its pair, so the filling that is worst for the image of A is that of A, reordered
+module _ (limit n : ℕ) (p : Permutation n) (old new : Similarity) (r : Reordered n p old new) (A : ℕ) where
+  worst-reordered : Reordered n p (worst limit A old) (worst limit (image n p A) new)
+  unfolding worst
+  worst-reordered = record {
+    same = λ i j hi hj. ap₂ (λ c z. cond c (high limit (carried z)) (low limit (carried z)))
+        (ap₂ xor (image-has n p A i hi) (image-has n p A j hj)) (r .same i j hi hj);
+  }
+
+  filled-image : filledIndex limit n new (image n p A) ≡ filledIndex limit n old A
+  unfolding filledIndex
+  filled-image = strong-image n p (worst limit A old) (worst limit (image n p A) new) worst-reordered A
+
 pub index-image : (k : Kind) (n : ℕ) (p : Permutation n) (old new : Similarity) → Reordered n p old new → Symmetric old → Symmetric new
     → (A : ℕ) → index k n new (image n p A) ≡ index k n old A
 unfolding index
-index-image strong n p old new r _ _ A = strong-image n p old new r A
+index-image strong n p old new r _ _ A = filled-image scoreLimit n p old new r A
 index-image clean n p old new r old-symm new-symm A = clean-image n p old new r old-symm new-symm A
 index-image splits n p old new r _ _ A = separation-image n p old new r A
 

@@ -1,13 +1,14 @@
 -- The values of the strong and of the separation index, and what an index of 1 or more says.
-use mathlib.Core.Path.{_≡_}
-use mathlib.Core.List.{map}
+use mathlib.Core.Path.{_≡_, refl, sym, subst, subst₂}
+use mathlib.Core.List.{List, [], _∷_, map, List·Memᴰ·head, List·Memᴰ·not-nil}
 use Prim.Native.Nat.{ℕ, _<_}
 use lib.IntN.{ℤ, pos, _+ℤ_, _-ℤ_}
-use lib.Signed.{_≤ℤ_, _<ℤ_}
+use lib.Signed.{_≤ℤ_, _<ℤ_, ≤ℤ-refl}
 use Rattle.lists.specs.Lists.{_∈_, each}
-use Rattle.lists.proofs.Lists.{in-each, of-each, in-map, of-map}
+use Rattle.lists.proofs.Lists.{in-each, of-each, in-map, of-map, no-element}
+use Rattle.integers.specs.Integers.{least}
 use Rattle.integers.proofs.Linear.{up, dn, zarith, -at}
-use Rattle.integers.proofs.Least.{least-le}
+use Rattle.integers.proofs.Least.{least-le, least-of}
 use Rattle.sets.specs.Sets.{_∋_, _∌_, members, others}
 use Rattle.sets.proofs.Sets.{in-members, of-members, in-others, of-others}
 use Rattle.clusters.specs.PairList.{Similarity}
@@ -35,6 +36,34 @@ module _ (n : ℕ) (s : Similarity) (A : ℕ) where
   pub strong-lt : pos 1 ≤ℤ strongIndex n s A → (a b x : ℕ) → a < n → b < n → x < n → A ∋ a → A ∋ b → A ∌ x → s a x <ℤ s a b
   unfolding strongIndex up dn
   strong-lt h a b x ha hb hx ka kb kx = omega (zarith, least-le (strongValues n s A) (in-strongValues ha hb hx ka kb kx), -at (s a b) (s a x))
+
+-- an index is at most another if its values are: those of the same a, a′ in A and x outside
+module _ (n : ℕ) (s t : Similarity) (A : ℕ) where
+  abbrev Below : Type 0
+  Below = (a b x : ℕ) → a < n → b < n → x < n → A ∋ a → A ∋ b → A ∌ x → (s a b -ℤ s a x) ≤ℤ (t a b -ℤ t a x)
+
+  pub strong-mono : Below → strongIndex n s A ≤ℤ strongIndex n t A
+  unfolding strongIndex
+  strong-mono h = go (strongValues n t A) refl
+    where
+      go : (l : List ℤ) → strongValues n t A ≡ l → least (strongValues n s A) ≤ℤ least (strongValues n t A)
+      go [] e = subst₂ (λ k l. least k ≤ℤ least l) (sym none) (sym e) (≤ℤ-refl (least []))
+        where
+          none : strongValues n s A ≡ []
+          none = no-element (strongValues n s A) (λ z m.
+              let (a, b, x, ha, hb, hx, ka, kb, kx, _) = of-strongValues n s A m in
+              List·Memᴰ·not-nil (subst (λ l. (t a b -ℤ t a x) ∈ l) e (in-strongValues n t A ha hb hx ka kb kx)))
+      go (z ∷ l) e =
+          let (a, b, x, ha, hb, hx, ka, kb, kx, q) = of-strongValues n t A (least-of (strongValues n t A) {z = z} (subst (λ k. z ∈ k) (sym e) (List·Memᴰ·head refl))) in
+          let k₁ = least-le (strongValues n s A) (in-strongValues n s A ha hb hx ka kb kx) in
+          let k₂ = h a b x ha hb hx ka kb kx in
+          omega zarith
+
+pub strong-cong : (n : ℕ) (s t : Similarity) (A : ℕ) → ((a b : ℕ) → a < n → b < n → A ∋ a → s a b ≡ t a b) → strongIndex n s A ≡ strongIndex n t A
+strong-cong n s t A e =
+    let k₁ = strong-mono n s t A (λ a b x ha hb hx ka _ _. subst₂ (λ y z. (s a b -ℤ s a x) ≤ℤ (y -ℤ z)) (e a b ha hb ka) (e a x ha hx ka) (≤ℤ-refl (s a b -ℤ s a x))) in
+    let k₂ = strong-mono n t s A (λ a b x ha hb hx ka _ _. subst₂ (λ y z. (y -ℤ z) ≤ℤ (s a b -ℤ s a x)) (e a b ha hb ka) (e a x ha hx ka) (≤ℤ-refl (s a b -ℤ s a x))) in
+    omega zarith
 
 -- the value of a, a′ in A and b, b′ outside
 abbrev separation : Similarity → ℕ → ℕ → ℕ → ℕ → ℤ

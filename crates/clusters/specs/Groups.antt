@@ -10,8 +10,9 @@ use lib.Dec.{eqb, leb, ltb}
 use Rattle.lists.specs.Lists.{_∈_, below, each, keep}
 use Rattle.integers.specs.Integers.{eqZ}
 use Rattle.sets.specs.Sets.{has, size, complement}
-use Rattle.clusters.specs.PairList.{Similarity}
+use Rattle.clusters.specs.PairList.{Similarity, scoreLimit}
 use Rattle.clusters.specs.Indices.{strongIndex, cleanIndex, separationIndex}
+use Rattle.clusters.specs.Fillings.{Fills, filledIndex}
 use Rattle.clusters.specs.Farris.{farris}
 use Rattle.clusters.specs.Linkage.{Linkage, single, average}
 
@@ -23,8 +24,9 @@ pub data Kind : Type 0 where
 unfoldable pub kindOf : ℤ → Kind
 kindOf k = cond (eqZ k (pos 1)) strong (cond (eqZ k (pos 2)) clean splits)
 
+-- the strong index is "the least over all fillings" (document 02, 2.2)
 unfoldable pub index : Kind → ℕ → Similarity → ℕ → ℤ
-index strong n s A = strongIndex n s A
+index strong n s A = filledIndex scoreLimit n s A
 index clean n s A = cleanIndex n s A
 index splits n d A = separationIndex n d A
 
@@ -54,6 +56,13 @@ groupSets kind n s = keep (listed kind n s) (sets n)
 unfoldable pub groups : Kind → ℕ → Similarity → List (ℕ × ℤ)
 groups kind n s = map (λ A. (A, index kind n s A)) (groupSets kind n s)
 
+-- the strong groups as document 01 has them, each with its strong index: of scores of which none is unscored
+unfoldable pub plainSets : ℕ → Similarity → List ℕ
+plainSets n s = keep (λ A. speaksOf strong n A && leZ (pos 1) (strongIndex n s A)) (sets n)
+
+unfoldable pub plainGroups : ℕ → Similarity → List (ℕ × ℤ)
+plainGroups n s = map (λ A. (A, strongIndex n s A)) (plainSets n s)
+
 -- the set by which the group A, or the split of A and the entries outside, is written
 unfoldable pub writtenSet : Kind → ℕ → ℕ → ℕ
 writtenSet strong n A = A
@@ -76,14 +85,22 @@ mostGroups strong n = 2 * n - 2
 mostGroups clean n = n - 2
 mostGroups splits n = 2 * n - 3
 
--- the linkage trees that have every group of a kind among their blocks: of these scores, by this linkage. A split is
--- there by its written side, in the trees of the scores anchored at the first entry.
+-- the linkage trees that have every group of a kind among their blocks: by this linkage, of these scores. Of strong
+-- groups "the tree claim holds in every filling". A split is there by its written side, in the trees of the scores
+-- anchored at the first entry.
 unfoldable pub treeLinkage : Kind → Linkage
 treeLinkage strong = single
 treeLinkage clean = average
 treeLinkage splits = single
 
-unfoldable pub treeScores : Kind → Similarity → Similarity
-treeScores strong s = s
-treeScores clean s = s
-treeScores splits d = farris d 0
+abbrev pub TreeScores : Kind → ℕ → Similarity → Similarity → Type 0
+TreeScores strong n s f = Fills scoreLimit n s f
+TreeScores clean n s f = f ≡ s
+TreeScores splits n d f = f ≡ farris d 0
+
+-- those of one tree that has them too: of the numbers as lent, in which the mark of an unscored pair is one like any
+-- other
+unfoldable pub lentScores : Kind → Similarity → Similarity
+lentScores strong s = s
+lentScores clean s = s
+lentScores splits d = farris d 0

@@ -1,9 +1,11 @@
 pub mod PairList
 pub mod Indices
+pub mod Fillings
 pub mod Farris
 pub mod Linkage
 pub mod Groups
 pub mod Reordering
 pub mod Stability
+pub mod Touched
 pub mod Bench
 pub mod Nesting

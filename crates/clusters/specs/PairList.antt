@@ -1,7 +1,7 @@
 -- The pair list (document 01, The sheet): "the lower triangle with own pairs, row by row, n(n+1)/2 signed 32-bit
 -- numbers".
 use mathlib.Core.Path.{_≡_}
-use mathlib.Core.Bool.{Bool, _&&_}
+use mathlib.Core.Bool.{Bool, true, not, _&&_}
 use mathlib.Core.List.{List, map}
 use Prim.Native.Nat.{ℕ, suc, _+_, _*_, _/_, max, min}
 use lib.IntN.{ℤ, pos, negℤ}
@@ -10,6 +10,9 @@ use lib.Dec.{eqb}
 use lib.ListN.{length, getD}
 use Rattle.lists.specs.Lists.{below, each, all}
 use Rattle.integers.specs.Integers.{eqZ}
+use Rattle.pairs.specs.declared.Carried.{Carried}
+use Rattle.pairs.specs.declared.Carried.the-variants.{Scored, Unscored}
+use Rattle.pairs.specs.Pairs.{carried, isScored}
 
 -- s(a,b), the score of two entries: a similarity function. For kind 3 and the anchored scores, d(a,b): a dissimilarity.
 abbrev pub Similarity : Type 0
@@ -35,16 +38,31 @@ score l a b = getD l (place a b) (pos 0)
 unfoldable pub pairList : ℕ → Similarity → List ℤ
 pairList n s = each (below n) λ a. map (s a) (below (suc a))
 
--- what checks 10, 11 and 12 pass (Where a call is turned away); the range of 11 is from −scoreLimit to scoreLimit, and
--- no theorem knows the number
+-- what checks 10, 11, 16 and 12 pass (Where a call is turned away); the range of 11 is from −scoreLimit to scoreLimit,
+-- and no theorem knows the number
 unfoldable pub scoreLimit : ℕ
 scoreLimit = 1000000
 
 unfoldable pub hasLength : ℕ → List ℤ → Bool
 hasLength n l = eqb (length l) (rowStart n)
 
+unfoldable pub isInRange : (limit : ℕ) → ℤ → Bool
+isInRange limit z = leZ (negℤ (pos limit)) z && leZ z (pos limit)
+
 unfoldable pub inRange : List ℤ → Bool
-inRange l = all (λ v. leZ (negℤ (pos scoreLimit)) v && leZ v (pos scoreLimit)) l
+inRange l = all (isInRange scoreLimit) l
+
+-- with unscored pairs (document 02, 2.2): the mark is "exempt from 11"
+unfoldable pub isAllowed : (limit : ℕ) → Carried → Bool
+isAllowed limit (Scored z) = isInRange limit z
+isAllowed limit Unscored = true
+
+unfoldable pub scoresInRange : List ℤ → Bool
+scoresInRange l = all (λ v. isAllowed scoreLimit (carried v)) l
+
+-- 16: "a sheet with an unscored pair"
+unfoldable pub hasUnscored : List ℤ → Bool
+hasUnscored l = not (all (λ v. isScored (carried v)) l)
 
 unfoldable pub areDistances : ℕ → List ℤ → Bool
 areDistances n l = all (leZ (pos 0)) l && all (λ a. eqZ (score l a a) (pos 0)) (below n)

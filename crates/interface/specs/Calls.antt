@@ -7,6 +7,8 @@ use Prim.Native.Nat.{ℕ, zero, suc, _+_, _-_}
 use lib.IntN.{ℤ, pos, negℤ}
 use lib.Dec.{eqb, leb, ltb}
 use lib.ListN.{length, getD, take, drop}
+use Rattle.pairs.specs.declared.Pair.{Pair}
+use Rattle.pairs.specs.Pairs.{listNumber, pairOf}
 use Rattle.clusters.specs.PairList.{Similarity, rowStart, score, hasLength}
 use Rattle.clusters.specs.Farris.{anchoredScores, distancesBack}
 use Rattle.clusters.specs.Linkage.{Linkage, Tree, mergedBlocks}
@@ -130,19 +132,23 @@ pub record NameInC (sheet : List ℕ) (i : ℕ) (r start : ℕ) : Type 0 where
   pub lies : start ≡ nameStart sheet i
   pub bytes : take r (drop start sheet) ≡ nameOf sheet i
 
--- "Scores are looked up by two entries in the pair list as lent": the score of two of n entries, and 0 of any other two
--- numbers or if the list is no pair list of n entries
+-- "Scores are looked up by two entries in the pair list as lent": the score of two of n entries, of an unscored pair the
+-- mark, and 0 of any other two numbers or if the list is no pair list of n entries
 unfoldable pub isPair : ℕ → List ℤ → ℕ → ℕ → Bool
 isPair n l a b = leb n mostEntries && hasLength n l && ltb a n && ltb b n
 
 unfoldable pub scoreAmong : ℕ → List ℤ → Similarity
 scoreAmong n l a b = cond (isPair n l a b) (score l a b) (pos 0)
 
--- in C, where no score must differ from a score of 0: 0 is answered, and the score goes to a slot; or the refusal's
--- number is answered
+-- as a pair, which "carries either a score or the mark unscored" (document 02, 2.2)
+unfoldable pub pairAmong : ℕ → List ℤ → (a b : ℕ) → Pair
+pairAmong n l a b = pairOf (scoreAmong n l a b)
+
+-- in C, where no score must differ from a score of 0: 0 is answered, and the pair's number in the list goes to a slot;
+-- or the refusal's number is answered
 pub record ScoreInC (n : ℕ) (l : List ℤ) (a b : ℕ) (lent r after : ℤ) : Type 0 where
   pub answered : r ≡ pos (scoreRefusal n l a b)
-  pub written : after ≡ cond (eqb (scoreRefusal n l a b) 0) (score l a b) lent
+  pub written : after ≡ cond (eqb (scoreRefusal n l a b) 0) (listNumber (pairOf (score l a b))) lent
 
 -- The smallest group that two entries share (document 02, 2.1): the search goes down the sets that the numbers call
 -- puts, "in its written order", and "Its answer is the set and its line".

@@ -10,11 +10,12 @@ use lib.Dec.{T}
 use lib.ListN.{length, take, drop}
 use Rattle.lists.specs.Lists.{_∈_, _lists_, Distinct}
 use Rattle.sets.specs.Sets.{size, Nested, Disjoint}
-use Rattle.clusters.specs.PairList.{Similarity, rowStart, score, hasLength, inRange, areDistances}
-use Rattle.clusters.specs.Indices.{strongIndex, cleanIndex, separationIndex}
+use Rattle.clusters.specs.PairList.{Similarity, rowStart, score, scoreLimit, hasLength, inRange, areDistances}
+use Rattle.clusters.specs.Indices.{cleanIndex, separationIndex}
+use Rattle.clusters.specs.Fillings.{Fills, LeastFilling}
 use Rattle.clusters.specs.Farris.{farris, anchoredScores}
 use Rattle.clusters.specs.Linkage.{single, average, singles, Tree, blocks}
-use Rattle.clusters.specs.Groups.{Kind, kindOf, index, speaksOf, writtenSet, Rising, mostGroups}
+use Rattle.clusters.specs.Groups.{Kind, strong, clean, splits, kindOf, speaksOf, writtenSet, Rising, mostGroups}
 use Rattle.clusters.specs.Reordering.{Permutation, Reordered, image}
 use Rattle.answers.specs.declared.Answer.{Answer}
 use Rattle.answers.specs.Answers.{numberOf, countOf}
@@ -62,11 +63,16 @@ pub data Wrote (kind : ℤ) : ℕ → Similarity → List (ℕ × ℤ) → Type 
       → Wrote kind n (score l) (groupsOf count sets indices)
 
 -- Demand 2: "Every index written equals the definition of Bryant and Berry in document 01's whole-number form": 003,
--- formula 1; the clean index; 003, formula 2.
+-- formula 1, of which document 02, 2.2, has the least over all fillings; the clean index; 003, formula 2.
+abbrev pub IndexIs : Kind → ℕ → Similarity → ℕ → ℤ → Type 0
+IndexIs strong n s A z = LeastFilling scoreLimit n s A z
+IndexIs clean n s A z = z ≡ cleanIndex n s A
+IndexIs splits n d A z = z ≡ separationIndex n d A
+
 pub record Indices (kind : ℤ) (n : ℕ) (s : Similarity) (found : List (ℕ × ℤ)) : Type 0 where
-  pub strong-index : kind ≡ pos 1 → (A : ℕ) (z : ℤ) → found lists (A, z) → z ≡ strongIndex n s A
-  pub clean-index : kind ≡ pos 2 → (A : ℕ) (z : ℤ) → found lists (A, z) → z ≡ cleanIndex n s A
-  pub separation-index : kind ≡ pos 3 → (A : ℕ) (z : ℤ) → found lists (A, z) → z ≡ separationIndex n s A
+  pub strong-index : kind ≡ pos 1 → (A : ℕ) (z : ℤ) → found lists (A, z) → IndexIs strong n s A z
+  pub clean-index : kind ≡ pos 2 → (A : ℕ) (z : ℤ) → found lists (A, z) → IndexIs clean n s A z
+  pub separation-index : kind ≡ pos 3 → (A : ℕ) (z : ℤ) → found lists (A, z) → IndexIs splits n s A z
 
 pub record Demand2 : Type 0 where
   pub indices : {kind : ℤ} {n : ℕ} {s : Similarity} {found : List (ℕ × ℤ)}
@@ -82,11 +88,12 @@ pub record Demand2 : Type 0 where
       → {lent′ after′ : List ℤ} {r′ : ℤ} → InC (λ a. BackCall n x (take count after) lent′ a after′) r′
       → count ≤ length lent′ → (r′ ≡ pos count) × (take count after′ ≡ distances)
 
--- A set of positive index, or a split of positive index by the side that is written.
-pub record Positive (k : Kind) (n : ℕ) (s : Similarity) (A : ℕ) : Type 0 where
+-- A set of positive index, or a split of positive index by the side that is written, with its index.
+pub record Positive (k : Kind) (n : ℕ) (s : Similarity) (A : ℕ) (z : ℤ) : Type 0 where
   pub fits : A < 2 ^ n
   pub spoken : T (speaksOf k n A)
-  pub positive : pos 1 ≤ℤ index k n s A
+  pub index-is : IndexIs k n s A z
+  pub positive : pos 1 ≤ℤ z
 
 -- the same groups and splits with the same indices, by their new numbers: "a set A has a line in the old one exactly
 -- when the set of all p(a), a in A, has a line in the new one, and the index is equal. In kind 3 this is said of the
@@ -97,16 +104,16 @@ SameGroups k n p old new =
 
 -- Demand 3, of all that a call wrote: "exactly one line for each set of positive index and no other; .. every strong
 -- group is a block of every single linkage tree, every clean group of every average linkage tree; two groups of one
--- kind are nested or disjoint". A split is there by its written side, in the trees of the scores anchored at the first
--- entry.
+-- kind are nested or disjoint". With unscored pairs "the tree claim holds in every filling"; with none the scores are
+-- their own filling (document 02, 2.2). A split is there by its written side, in the trees of the scores anchored at the
+-- first entry.
 pub record Complete (kind : ℤ) (n : ℕ) (s : Similarity) (found : List (ℕ × ℤ)) : Type 0 where
-  pub exactly : (A : ℕ) (z : ℤ)
-      → (found lists (A, z)) ↔ (Positive (kindOf kind) n s A × (z ≡ index (kindOf kind) n s A))
+  pub exactly : (A : ℕ) (z : ℤ) → (found lists (A, z)) ↔ Positive (kindOf kind) n s A z
   pub once : Distinct (map (λ (A, z). A) found)
   pub rising : Rising n (map (λ (A, z). A) found)
   pub few : length found ≤ mostGroups (kindOf kind) n
   pub strong-in-trees : kind ≡ pos 1 → (A : ℕ) (z : ℤ) → found lists (A, z)
-      → (ms : List (ℕ × ℕ)) → Tree single n s ms → A ∈ blocks n ms
+      → (f : Similarity) → Fills scoreLimit n s f → (ms : List (ℕ × ℕ)) → Tree single n f ms → A ∈ blocks n ms
   pub clean-in-trees : kind ≡ pos 2 → (A : ℕ) (z : ℤ) → found lists (A, z)
       → (ms : List (ℕ × ℕ)) → Tree average n s ms → A ∈ blocks n ms
   pub splits-in-trees : kind ≡ pos 3 → (A : ℕ) (z : ℤ) → found lists (A, z)
@@ -123,9 +130,14 @@ pub record Demand3 (kind : ℤ) : Type 0 where
   pub slots : {n count : ℕ} {l indices : List ℤ} {sets : List ℕ} → Counted kind n l count sets indices
       → length (groupsOf count sets indices) ≡ count
   pub complete : {n : ℕ} {s : Similarity} {found : List (ℕ × ℤ)} → Wrote kind n s found → Complete kind n s found
-  -- every strong group is a single entry or a block that the single linkage call writes; clean ones likewise, average
+  -- every strong group is a single entry or a block that the single linkage call writes, of the same list or of one that
+  -- fills it; clean ones likewise, average
   pub strong-linked : kind ≡ pos 1 → {n : ℕ} {l : List ℤ} {lent after : List ℕ} {r : Answer}
       → LinkageCall single n l lent r after → numberOf r ≡ 0 → {found : List (ℕ × ℤ)} → Wrote kind n (score l) found
+      → (A : ℕ) (z : ℤ) → found lists (A, z) → A ∈ (singles n ++ take (countOf r) after)
+  pub filled-linked : kind ≡ pos 1 → {n : ℕ} {l : List ℤ} {lent after : List ℕ} {r : Answer}
+      → LinkageCall single n l lent r after → numberOf r ≡ 0 → {s : Similarity} → Fills scoreLimit n s (score l)
+      → {found : List (ℕ × ℤ)} → Wrote kind n s found
       → (A : ℕ) (z : ℤ) → found lists (A, z) → A ∈ (singles n ++ take (countOf r) after)
   pub clean-linked : kind ≡ pos 2 → {n : ℕ} {l : List ℤ} {lent after : List ℕ} {r : Answer}
       → LinkageCall average n l lent r after → numberOf r ≡ 0 → {found : List (ℕ × ℤ)} → Wrote kind n (score l) found

@@ -9,7 +9,7 @@ use lib.Dec.{T, eqb, leb, ltb}
 use lib.ListN.{length, getD}
 use Rattle.lists.specs.Lists.{below, all}
 use Rattle.integers.specs.Integers.{eqZ}
-use Rattle.clusters.specs.PairList.{rowStart, hasLength, inRange, areDistances}
+use Rattle.clusters.specs.PairList.{rowStart, hasLength, scoresInRange, hasUnscored, areDistances}
 use Rattle.clusters.specs.Farris.{isAnchored}
 use Rattle.interface.specs.Sheet.{
   lineFeed,
@@ -18,7 +18,7 @@ use Rattle.interface.specs.Sheet.{
   isUpper,
   isDigit,
   isName,
-  isValue,
+  isCell,
   lines,
   names,
   entries,
@@ -121,7 +121,7 @@ check7 s = (7, wrongLines s)
 
 -- value lines | 8 | "a line without exactly n well-formed values and single spaces between"
 unfoldable pub isRow : ℕ → List (List ℕ) → Bool
-isRow n ws = eqb (length ws) n && all isValue ws
+isRow n ws = eqb (length ws) n && all isCell ws
 
 unfoldable pub wrongValues : List ℕ → Bool
 wrongValues s = not (all (λ i. isRow (entries s) (words s i)) (below (entries s)))
@@ -137,9 +137,21 @@ check9 s = (9, not (mirrored (entries s) (value s)))
 abbrev pub check10 : ℕ → List ℤ → Check
 check10 n l = (10, not (hasLength n l))
 
--- pair list | 11 | "a value below −1,000,000 or above 1,000,000"
+-- pair list | 11 | "a value below −1,000,000 or above 1,000,000", from which the mark is exempt
 abbrev pub check11 : List ℤ → Check
-check11 l = (11, not (inRange l))
+check11 l = (11, not (scoresInRange l))
+
+-- "Kinds 2 and 3, the linkage calls and the anchored scores get 16 for a sheet with an unscored pair, placed right after
+-- 11." (document 02, 2.2)
+abbrev pub check16 : List ℤ → Check
+check16 l = (16, hasUnscored l)
+
+-- of a call that takes a kind
+unfoldable pub wrongUnscored : ℤ → List ℤ → Bool
+wrongUnscored kind l = not (eqZ kind (pos 1)) && hasUnscored l
+
+abbrev pub check16Of : ℤ → List ℤ → Check
+check16Of kind l = (16, wrongUnscored kind l)
 
 -- pair list, kind 3 | 12 | "a negative value, or an own value that is not 0"
 unfoldable pub wrongDistances : ℤ → ℕ → List ℤ → Bool
@@ -178,7 +190,7 @@ wrongEntries n i j = wrongAnchor n i || wrongAnchor n j
 abbrev pub check15 : Bool → Check
 check15 holds = (15, holds)
 
--- Which call makes which. "The sheet and C calls make checks 1 to 9, 11, 12, 14"
+-- Which call makes which, 16 "right after 11". "The sheet and C calls make checks 1 to 9, 11, 12, 14"
 unfoldable pub sheetCallChecks : ℤ → List ℕ → (buffer : ℕ) → List Check
 sheetCallChecks kind s buffer =
     check1 kind
@@ -191,6 +203,7 @@ sheetCallChecks kind s buffer =
     ∷ check8 s
     ∷ check9 s
     ∷ check11 (pairs s)
+    ∷ check16Of kind (pairs s)
     ∷ check12 kind (entries s) (pairs s)
     ∷ check14 buffer (sheetListing kind s)
     ∷ []
@@ -202,6 +215,7 @@ numbersChecks kind n l sets indices =
     ∷ check6 n
     ∷ check10 n l
     ∷ check11 l
+    ∷ check16Of kind l
     ∷ check12 kind n l
     ∷ check13 n sets indices
     ∷ []
@@ -212,6 +226,7 @@ linkageChecks n l slots =
     check6 n
     ∷ check10 n l
     ∷ check11 l
+    ∷ check16 l
     ∷ check15 (shortSlice slots (n - 1))
     ∷ []
 
@@ -221,6 +236,7 @@ anchoredChecks n x l slots =
     check6 n
     ∷ check10 n l
     ∷ check11 l
+    ∷ check16 l
     ∷ check12 (pos 3) n l
     ∷ check15 (wrongAnchor n x || shortSlice slots (rowStart n))
     ∷ []
@@ -262,6 +278,7 @@ sharedChecks kind n l i j =
     ∷ check6 n
     ∷ check10 n l
     ∷ check11 l
+    ∷ check16Of kind l
     ∷ check12 kind n l
     ∷ check15 (wrongEntries n i j)
     ∷ []

@@ -7,6 +7,9 @@ use lib.Dec.{eqb, leb}
 use lib.ListN.{length, getD}
 use Rattle.lists.specs.Lists.{below, all}
 use Rattle.integers.specs.Integers.{eqZ}
+use Rattle.pairs.specs.declared.Carried.the-variants.{Scored, Unscored}
+use Rattle.pairs.specs.declared.Pair.{Pair}
+use Rattle.pairs.specs.Pairs.{listNumber}
 use Rattle.clusters.specs.PairList.{Similarity, pairList}
 
 abbrev pub lineFeed : ℕ
@@ -40,6 +43,15 @@ unfoldable pub isValue : List ℕ → Bool
 isValue [] = false
 isValue (b ∷ w) = cond (eqb b minus) (isNumeral w && not (eqb (getD w 0 0) 48)) (isNumeral (b ∷ w))
 
+-- "On the sheet the mark is a lone minus" (document 02, 2.2)
+unfoldable pub isLoneMinus : List ℕ → Bool
+isLoneMinus [] = false
+isLoneMinus (b ∷ w) = eqb b minus && eqb (length w) 0
+
+-- what is well formed where a value stands: a value, or the mark
+unfoldable pub isCell : List ℕ → Bool
+isCell w = isLoneMinus w || isValue w
+
 -- what a digit stands for: 0 to 9, and in base 16 a to f; the number that digits stand for in a base, read on from k
 unfoldable pub digitValue : ℕ → ℕ
 digitValue b = cond (isDigit b) (b - 48) (b - 87)
@@ -52,6 +64,10 @@ numberFrom base k (b ∷ w) = numberFrom base (k * base + digitValue b) w
 unfoldable pub valueOf : List ℕ → ℤ
 valueOf [] = pos 0
 valueOf (b ∷ w) = cond (eqb b minus) (negℤ (pos (numberFrom 10 0 w))) (pos (numberFrom 10 0 (b ∷ w)))
+
+-- the pair that a word stands for
+unfoldable pub pairSaid : List ℕ → Pair
+pairSaid w = record { carries = cond (isLoneMinus w) Unscored (Scored (valueOf w)) }
 
 -- the pieces between the bytes that equal c, the empty ones too: one more than there are such bytes
 unfoldable pub longer : ℕ → List (List ℕ) → List (List ℕ)
@@ -77,11 +93,11 @@ entries s = length (names s)
 unfoldable pub words : List ℕ → ℕ → List (List ℕ)
 words s i = cut space (getD (lines s) (suc i) [])
 
--- row i, column j
+-- row i, column j, by its number in the pair list
 unfoldable pub value : List ℕ → Similarity
-value s i j = valueOf (getD (words s i) j [])
+value s i j = listNumber (pairSaid (getD (words s i) j []))
 
--- "Row i column j equals row j column i."
+-- "Row i column j equals row j column i."; "Mirrored cells must both have" the mark, which is no value's number
 unfoldable pub mirrored : ℕ → Similarity → Bool
 mirrored n v = all (λ i. all (λ j. eqZ (v i j) (v j i)) (below n)) (below n)
 

@@ -171,6 +171,16 @@ unfolding all
 all-cong p q [] f = refl
 all-cong p q (x ∷ l) f = ap₂ _&&_ (f x (List·Memᴰ·head refl)) (all-cong p q l (λ y m. f y (List·Memᴰ·tail m)))
 
+-- of tests that do not all pass, one fails
+pub some-fails {ℓ} : {A : Type ℓ} (p : A → Bool) (l : List A) → T (not (all p l)) → (x : A) × (x ∈ l) × T (not (p x))
+unfolding all
+some-fails p [] t = absurd t
+some-fails {A = A} p (x ∷ l) t = go (p x) refl (some-fails p l)
+  where
+    go : (b : Bool) → p x ≡ b → (T (not (all p l)) → (y : A) × (y ∈ l) × T (not (p y))) → (y : A) × (y ∈ x ∷ l) × T (not (p y))
+    go true e ih = let (y, m, k) = ih (subst (λ b. T (not (b && all p l))) e t) in (y, List·Memᴰ·tail m, k)
+    go false e ih = (x, List·Memᴰ·head refl, subst (λ b. T (not b)) (sym e) tt)
+
 pub of-map-cong {ℓ κ} : {A : Type ℓ} {B : Type κ} (f g : A → B) (l : List A) → map f l ≡ map g l → {x : A} → x ∈ l → f x ≡ g x
 of-map-cong f g (y ∷ l) e (List·Memᴰ·head q) = ap f q ∙ head-eq-of-cons-eq e ∙ sym (ap g q)
 of-map-cong f g (y ∷ l) e (List·Memᴰ·tail m) = of-map-cong f g l (tail-eq-of-cons-eq e) m

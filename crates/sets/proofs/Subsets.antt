@@ -1,14 +1,15 @@
--- Subsets by their sizes; the set without entries and the set of all.
+-- Subsets by their sizes; the set without entries and the set of all; sets that share no entry.
 use mathlib.Core.Path.{_≡_, refl, ap, _∙_, subst}
 use mathlib.Core.Bool.{true}
-use mathlib.Core.Logic.{_⊎_, inl, inr, _≢_}
-use Prim.Native.Nat.{ℕ, zero, suc, _+_, _-_, _/_, _%_, _^_, _≤_, _<_}
+use mathlib.Core.Logic.{_⊎_, inl, inr, _≢_, _↔_}
+use Prim.Native.Nat.{ℕ, zero, suc, _+_, _-_, _/_, _%_, _^_, _≤_, _<_, min}
 use native.Mathlib.Decide.{ℕ-discrete}
 use native.Mathlib.Nat.{zero-div}
 use native.Mathlib.Omega.{arith}
+use lib.Bits.{bitAnd, and-step, and-shr, and-le-l}
 use lib.Pow.{ones-split, ones-lt, high}
-use Rattle.sets.specs.Sets.{_∋_, _∌_, size, mask, allEntries, Subset}
-use Rattle.sets.proofs.Sets.{in-or-out, size-suc, size-le, left-out, mask-lt, in-mask}
+use Rattle.sets.specs.Sets.{_∋_, _∌_, size, mask, allEntries, Subset, Disjoint}
+use Rattle.sets.proofs.Sets.{in-or-out, same, size-suc, size-le, left-out, mask-lt, in-mask}
 
 -- the same of one entry less
 fewer : {n A B : ℕ} → Subset (suc n) A B → Subset n A B
@@ -76,3 +77,20 @@ all-entries-shift n w h =
 
     number : 2 ^ n - 1 ≡ allEntries n
     number = omega (arith, all-entries-number n)
+
+-- two sets share no entry exactly if their bits meet nowhere
+and-bit : (A B i : ℕ) → bitAnd A B / 2 ^ i % 2 ≡ min (A / 2 ^ i % 2) (B / 2 ^ i % 2)
+and-bit A B i = rw and-shr (omega (arith, and-step (A / 2 ^ i) (B / 2 ^ i)))
+
+pub disjoint-and : (n A B : ℕ) → A < 2 ^ n → (bitAnd A B ≡ 0) ↔ Disjoint n A B
+disjoint-and n A B h = (
+  λ e. record { all = λ i _ k. record { bit = omega (arith, and-bit A B i, k .bit, ap (λ (x : ℕ). x / 2 ^ i % 2) e, zero i) } },
+  λ d. same n (bitAnd A B) 0 (omega (arith, and-le-l A B)) (omega arith) (λ i hi. at i (in-or-out A i) (λ k. d .all i hi k)),
+)
+  where
+    zero : (i : ℕ) → 0 / 2 ^ i % 2 ≡ 0
+    zero i = ap (λ (x : ℕ). x % 2) (zero-div (2 ^ i))
+
+    at : (i : ℕ) → (A ∋ i) ⊎ (A ∌ i) → (A ∋ i → B ∌ i) → bitAnd A B / 2 ^ i % 2 ≡ 0 / 2 ^ i % 2
+    at i (inl k) f = omega (arith, and-bit A B i, f k .bit, zero i)
+    at i (inr k) f = omega (arith, and-bit A B i, zero i)

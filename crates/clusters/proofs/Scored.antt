@@ -1,0 +1,64 @@
+-- What checks 11 and 16 leave of a pair list.
+use mathlib.Core.Path.{_≡_, sym, subst}
+use mathlib.Core.Bool.{not, Bool·not-not}
+use mathlib.Core.Logic.{_⊎_, inl, inr}
+use mathlib.Core.List.{List}
+use Prim.Native.Nat.{ℕ, _<_}
+use native.Mathlib.Omega.{arith}
+use lib.IntN.{ℤ, pos, negℤ}
+use lib.Signed.{leZ, leZ-yes}
+use lib.Dec.{T}
+use lib.ListN.{length}
+use Rattle.lists.specs.Lists.{_∈_, all}
+use Rattle.lists.proofs.Tests.{and-T, T-and}
+use Rattle.lists.proofs.Lists.{all-in, in-all}
+use Rattle.integers.specs.Range.{Within}
+use Rattle.pairs.specs.declared.Carried.the-variants.{Scored, Unscored}
+use Rattle.pairs.specs.Pairs.{mark, carried, isScored}
+use Rattle.pairs.proofs.Pairs.{Cases, carried-cases, scored-is}
+use Rattle.clusters.specs.PairList.{Similarity, rowStart, score, scoreLimit, isInRange, inRange, isAllowed, scoresInRange, hasUnscored}
+use Rattle.clusters.specs.Fillings.{AllScored}
+use Rattle.clusters.proofs.PairList.{score-element}
+
+-- every score of the pairs of n entries is allowed
+abbrev pub AllAllowed : (limit n : ℕ) → Similarity → Type 0
+AllAllowed limit n s = (a b : ℕ) → a < n → b < n → T (isAllowed limit (carried (s a b)))
+
+pub range-within : {limit : ℕ} {z : ℤ} → T (isInRange limit z) → Within limit z
+unfolding isInRange
+range-within {limit} {z} t = let (l, u) = and-T (leZ (negℤ (pos limit)) z) (leZ z (pos limit)) t in record { top = leZ-yes u; low = leZ-yes l }
+
+pub within-range : {limit : ℕ} {z : ℤ} → Within limit z → T (isInRange limit z)
+unfolding isInRange
+within-range {limit} {z} h = T-and (leZ (negℤ (pos limit)) z) (leZ z (pos limit)) (h .low .le) (h .top .le)
+
+pub allowed-within : {limit : ℕ} {z : ℤ} → T (isAllowed limit (Scored z)) → Within limit z
+unfolding isAllowed
+allowed-within t = range-within t
+
+-- an allowed number is the mark or a score in range
+pub allowed-cases : {limit : ℕ} {z : ℤ} → T (isAllowed limit (carried z)) → (z ≡ mark) ⊎ Within limit z
+allowed-cases {limit} {z} t = go (carried-cases z)
+  where
+    go : Cases z → (z ≡ mark) ⊎ Within limit z
+    go (inl e) = inr (allowed-within (subst (λ p. T (isAllowed limit p)) e t))
+    go (inr (m, _)) = inl m
+
+-- a pair list of n entries that passes 11, and one that has no unscored pair
+module _ (n : ℕ) (l : List ℤ) (long : length l ≡ rowStart n) where
+  pub list-allowed : T (scoresInRange l) → AllAllowed scoreLimit n (score l)
+  unfolding scoresInRange
+  list-allowed t a b ha hb = all-in (λ v. isAllowed scoreLimit (carried v)) l t (score-element n l long ha hb)
+
+all-scored : (l : List ℤ) → T (not (hasUnscored l)) → (z : ℤ) → z ∈ l → T (isScored (carried z))
+unfolding hasUnscored
+all-scored l t z m = all-in (λ v. isScored (carried v)) l (subst (λ b. T b) (Bool·not-not (all (λ v. isScored (carried v)) l)) t) m
+
+pub list-scored : (n : ℕ) (l : List ℤ) → length l ≡ rowStart n → T (not (hasUnscored l)) → AllScored n (score l)
+list-scored n l long t a b ha hb = all-scored l t (score l a b) (score-element n l long ha hb)
+
+-- with no unscored pair every number is in range
+pub scored-in-range : (l : List ℤ) → T (scoresInRange l) → T (not (hasUnscored l)) → T (inRange l)
+unfolding scoresInRange inRange isAllowed
+scored-in-range l t u = in-all (isInRange scoreLimit) l (λ z m.
+    subst (λ p. T (isAllowed scoreLimit p)) (scored-is (all-scored l u z m)) (all-in (λ v. isAllowed scoreLimit (carried v)) l t m))

@@ -1,0 +1,133 @@
+-- What holds of the strong groups of scores with unscored pairs, for any number of entries (document 02, 2.2).
+use mathlib.Core.Path.{_≡_, sym, ap, _∙_, subst}
+use mathlib.Core.Bool.{_&&_}
+use mathlib.Core.Logic.{_↔_}
+use mathlib.Core.List.{List, map}
+use Prim.Native.Nat.{ℕ, _^_, _<_}
+use lib.IntN.{ℤ, pos}
+use lib.Signed.{_≤ℤ_, leZ, leZ-yes}
+use lib.Dec.{T}
+use Rattle.lists.specs.Lists.{_∈_, _lists_, keep}
+use Rattle.lists.proofs.Tests.{and-T, T-and}
+use Rattle.lists.proofs.Lists.{in-keep, of-keep, keep-cong, map-cong}
+use Rattle.integers.proofs.Linear.{zarith}
+use Rattle.sets.specs.Sets.{_∋_}
+use Rattle.sets.proofs.Sets.{size-less}
+use Rattle.pairs.specs.declared.Carried.the-variants.{Unscored}
+use Rattle.pairs.specs.Pairs.{carried, isScored}
+use Rattle.clusters.specs.PairList.{Similarity, Symmetric, scoreLimit}
+use Rattle.clusters.specs.Indices.{strongIndex}
+use Rattle.clusters.specs.Fillings.{Fills, AllScored, ScoredMore, filledIndex}
+use Rattle.clusters.specs.Touched.{untouched}
+use Rattle.clusters.specs.Linkage.{single, link, Tree, blocks}
+use Rattle.clusters.specs.Groups.{
+  Kind,
+  strong,
+  clean,
+  splits,
+  index,
+  speaksOf,
+  listed,
+  sets,
+  groupSets,
+  groups,
+  plainSets,
+  plainGroups,
+  treeLinkage,
+  lentScores,
+}
+use Rattle.clusters.proofs.Groups.{
+  speaks-size,
+  of-listed,
+  is-listed,
+  listed-index,
+  listed-some,
+  listed-proper,
+  in-sets,
+  in-groupSets,
+  in-groups,
+}
+use Rattle.clusters.proofs.Scored.{AllAllowed}
+use Rattle.clusters.proofs.Fillings.{lowest, lowest-fills, filled-positive, scoring-raises}
+use Rattle.clusters.proofs.Untouched.{of-untouched, untouched-index, scored-index, positive-untouched}
+use Rattle.clusters.proofs.Trees.{repels-in-tree}
+use Rattle.clusters.proofs.Links.{link-symm}
+use Rattle.clusters.proofs.Single.{strong-repels}
+use Rattle.clusters.proofs.Theorems.{group-in-tree}
+use mathlib.Core.Path.{refl}
+
+pub in-plainSets : (n : ℕ) (s : Similarity) (A : ℕ) → (A ∈ plainSets n s) ↔ ((A < 2 ^ n) × T (speaksOf strong n A) × (pos 1 ≤ℤ strongIndex n s A))
+unfolding plainSets
+in-plainSets n s A = (
+  λ m.
+      let (h, t) = of-keep (λ A. speaksOf strong n A && leZ (pos 1) (strongIndex n s A)) (sets n) m in
+      let (p, i) = and-T (speaksOf strong n A) (leZ (pos 1) (strongIndex n s A)) t in
+      (in-sets n A .0 h, p, leZ-yes i),
+  λ (h, p, i). in-keep (λ A. speaksOf strong n A && leZ (pos 1) (strongIndex n s A)) (in-sets n A .1 h)
+      (T-and (speaksOf strong n A) (leZ (pos 1) (strongIndex n s A)) p (i .le)),
+)
+
+-- "a set is listed exactly if every filling would list it"
+pub group-every-filling : (n : ℕ) (s : Similarity) → Symmetric s → (A : ℕ)
+    → (A ∈ groupSets strong n s) ↔ ((f : Similarity) → Fills scoreLimit n s f → A ∈ plainSets n f)
+unfolding index
+group-every-filling n s symm A = (
+  λ m f fills.
+      let (h, t) = in-groupSets strong n s A .0 m in
+      in-plainSets n f A .1 (h, of-listed strong n s A t .0, filled-positive scoreLimit n s symm A .0 (listed-index strong n s A t) f fills),
+  λ g.
+      let (h, p, _) = in-plainSets n (lowest scoreLimit s) A .0 (g (lowest scoreLimit s) (lowest-fills scoreLimit n s symm)) in
+      in-groupSets strong n s A .1
+      (h, is-listed strong n s A p (filled-positive scoreLimit n s symm A .1 (λ f fills. in-plainSets n f A .0 (g f fills) .2))),
+)
+
+-- "Scoring one more pair never removes a listed group", nor does scoring several; and its index does not fall
+pub scoring-keeps : (n : ℕ) (s later : Similarity) → Symmetric later → ScoredMore scoreLimit n s later → (A : ℕ) (z : ℤ)
+    → groups strong n s lists (A, z) → (y : ℤ) × (groups strong n later lists (A, y)) × (z ≤ℤ y)
+unfolding index
+scoring-keeps n s later symm more A z m =
+    let (h, t, e) = in-groups strong n s A z .0 m in
+    let i = listed-index strong n s A t in
+    let k = scoring-raises scoreLimit n s later symm more A in
+    let y = index strong n later A in
+    (
+      y,
+      in-groups strong n later A y .1 (h, is-listed strong n later A (of-listed strong n s A t .0) (omega zarith), refl),
+      omega zarith,
+    )
+
+-- with every pair scored the groups are those of document 01
+pub scored-groups : (n : ℕ) (s : Similarity) → AllScored n s → groups strong n s ≡ plainGroups n s
+unfolding groups groupSets listed plainGroups plainSets index
+scored-groups n s scored =
+    ap (map (λ A. (A, filledIndex scoreLimit n s A)))
+    (keep-cong (λ A. speaksOf strong n A && leZ (pos 1) (filledIndex scoreLimit n s A)) (λ A. speaksOf strong n A && leZ (pos 1) (strongIndex n s A))
+    (λ A. ap (λ z. speaksOf strong n A && leZ (pos 1) z) (scored-index scoreLimit n s scored A)) (sets n))
+    ∙ map-cong (λ A. (A, filledIndex scoreLimit n s A)) (λ A. (A, strongIndex n s A)) (plainSets n s)
+    (λ A _. ap (λ (z : ℤ). (A, z)) (scored-index scoreLimit n s scored A))
+
+-- of scores that are all allowed
+module _ (n : ℕ) (s : Similarity) (allowed : AllAllowed scoreLimit n s) (A : ℕ) where
+  pub listed-untouched : T (listed strong n s A) → T (untouched n s A)
+  unfolding index
+  listed-untouched t = positive-untouched scoreLimit n s A allowed (listed-proper strong n s A t) (listed-index strong n s A t)
+
+  -- a set that an unscored pair touches, of a member a and any entry y, is never listed
+  pub touched-unlisted : A ∈ groupSets strong n s → (a y : ℕ) → a < n → y < n → A ∋ a → T (isScored (carried (s a y)))
+  touched-unlisted m a y ha hy ka = of-untouched n s A (listed-untouched (in-groupSets strong n s A .0 m .1)) a y ha hy ka
+
+  -- so a group is strong in the numbers as lent, whatever number the mark is
+  lent-strong : T (listed strong n s A) → pos 1 ≤ℤ strongIndex n s A
+  unfolding index
+  lent-strong t = subst (λ z. pos 1 ≤ℤ z) (untouched-index scoreLimit n s A (listed-untouched t)) (listed-index strong n s A t)
+
+  -- and a block of every tree of these
+  pub group-in-lent-tree : Symmetric s → (k : Kind) → A ∈ groupSets k n s
+      → (ms : List (ℕ × ℕ)) → Tree (treeLinkage k) n (lentScores k s) ms → A ∈ blocks n ms
+  unfolding treeLinkage lentScores
+  group-in-lent-tree symm strong m =
+      let (low, t) = in-groupSets strong n s A .0 m in
+      repels-in-tree (link single n s) (link-symm n s symm single) n A
+      (strong-repels n s A low (listed-some strong n s A t) (listed-proper strong n s A t) (lent-strong t))
+  group-in-lent-tree symm clean m = group-in-tree clean n s symm A m s refl
+  group-in-lent-tree symm splits m = group-in-tree splits n s symm A m (lentScores splits s) refl
