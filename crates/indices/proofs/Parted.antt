@@ -5,7 +5,7 @@ use mathlib.Core.Bool.{Bool, true, false, cond, Bool·beq}
 use mathlib.Core.List.{List, map}
 use Prim.Native.Nat.{ℕ, _+_, _^_, _<_}
 use native.Mathlib.Omega.{arith}
-use lib.Dec.{lit≤}
+use lib.Dec.{T, lit≤}
 use lib.IntN.{ℤ, pos, negℤ, _-ℤ_}
 use lib.ListN.{length, set, replicate, length-set}
 use lib.Signed.{_≤ℤ_}
@@ -26,11 +26,10 @@ use Rattle.sets.proofs.Sets.{yes-has, no-has, in-or-out, in-members, of-members
 use Rattle.clusters.specs.PairList.{score}
 use Rattle.clusters.specs.Indices.{strongIndex}
 use Rattle.clusters.proofs.PairList.{score-symm}
-use Rattle.matrix.proofs.Scores.{score-within}
-use Rattle.indices.specs.Asked.{Scores, Proper, Table}
+use Rattle.indices.specs.Asked.{SmallRow, Proper, Table}
 use Rattle.indices.specs.Margins.{margin, nearness, separationFrom, leastMargin, number, spread, Row, Numbers, Parted, AtMost}
 use Rattle.indices.proofs.Margins.{a-member, an-other, strong-margins}
-use Rattle.indices.proofs.Values.{top, side-members, side-others, least-side, margin-beyond}
+use Rattle.indices.proofs.Values.{top, side-members, side-others, of-side, least-side, margin-beyond}
 
 far-within : {k : ℕ} → Within k (pos k)
 unfolding up dn
@@ -77,8 +76,7 @@ module _ {n A : ℕ} (p : Proper n A) (f h : ℕ → ℤ) where
       (λ k. omega (zarith, fore, same b hb kb, e, q, same c (below-lt n mc) k, greatest-ge (map f (others n A)) (in-map f (in-others n A (below-lt n mc) k))))
       (in-or-out A c)
 
-module _ {n A : ℕ} (p : Proper n A) {numbers inside outside : List ℤ} (t : Parted n numbers A inside outside) {f : ℕ → ℤ}
-    (b : (y : ℕ) → Within (2 ^ 22) (f y)) (c : Numbers n numbers) where
+module _ {n A : ℕ} {numbers inside outside : List ℤ} (t : Parted n numbers A inside outside) where
   at-member : (y : ℕ) → y < n → A ∋ y → (number inside y ≡ number numbers y) × (number outside y ≡ pos (2 ^ 30))
   at-member y h k = let e = T-true {b = has A y} (yes-has A y k) in (
     t .members y h ∙ ap (λ (b : Bool). cond b (number numbers y) (negℤ (pos (2 ^ 30)))) e,
@@ -91,23 +89,24 @@ module _ {n A : ℕ} (p : Proper n A) {numbers inside outside : List ℤ} (t : P
     t .others y h ∙ ap (λ (b : Bool). cond b (pos (2 ^ 30)) (number numbers y)) e,
   )
 
-  far-inside : (a y : ℕ) → a < n → y < n → A ∌ y → (f a -ℤ number numbers a) ≤ℤ (f y -ℤ number inside y)
-  unfolding up dn
-  far-inside a y j h k = omega (zarith, at-other y h k .0, -at (f a) (number numbers a), -at (f y) (number inside y), b a .top, b y .low, c a j .low)
+  module _ (c : Numbers n numbers) {f : ℕ → ℤ} (b : (y : ℕ) → y < n → Within (2 ^ 22) (f y)) where
+    far-inside : (a y : ℕ) → a < n → y < n → A ∌ y → (f a -ℤ number numbers a) ≤ℤ (f y -ℤ number inside y)
+    unfolding up dn
+    far-inside a y j h k = omega (zarith, at-other y h k .0, -at (f a) (number numbers a), -at (f y) (number inside y), b a j .top, b y h .low, c a j .low)
 
-  far-outside : (a y : ℕ) → a < n → y < n → A ∋ y → (f y -ℤ number outside y) ≤ℤ (f a -ℤ number numbers a)
-  unfolding up dn
-  far-outside a y j h k = omega (zarith, at-member y h k .1, -at (f a) (number numbers a), -at (f y) (number outside y), b a .low, b y .top, c a j .top)
+    far-outside : (a y : ℕ) → a < n → y < n → A ∋ y → (f y -ℤ number outside y) ≤ℤ (f a -ℤ number numbers a)
+    unfolding up dn
+    far-outside a y j h k = omega (zarith, at-member y h k .1, -at (f a) (number numbers a), -at (f y) (number outside y), b a j .low, b y h .top, c a j .top)
 
-  pub parted-spread : spread n f inside outside ≡ margin n (λ y. f y -ℤ number numbers y) A
-  unfolding spread margin
-  parted-spread = ap₂ _-ℤ_
-      (least-inside p (λ y. f y -ℤ number numbers y) (λ y. f y -ℤ number inside y) (λ y h k. ap (λ z. f y -ℤ z) (at-member y h k .0)) far-inside)
-      (greatest-outside p (λ y. f y -ℤ number numbers y) (λ y. f y -ℤ number outside y) (λ y h k. ap (λ z. f y -ℤ z) (at-other y h k .1)) far-outside)
+    parted-spread : Proper n A → spread n f inside outside ≡ margin n (λ y. f y -ℤ number numbers y) A
+    unfolding spread margin
+    parted-spread p = ap₂ _-ℤ_
+        (least-inside p (λ y. f y -ℤ number numbers y) (λ y. f y -ℤ number inside y) (λ y h k. ap (λ z. f y -ℤ z) (at-member y h k .0)) far-inside)
+        (greatest-outside p (λ y. f y -ℤ number numbers y) (λ y. f y -ℤ number outside y) (λ y h k. ap (λ z. f y -ℤ z) (at-other y h k .1)) far-outside)
 
   -- the numbers of either table are small
-  pub parted-tables : Table n inside × Table n outside
-  parted-tables = (record { long = t .long .0; small = in-small }, record { long = t .long .1; small = out-small })
+  pub tables : Numbers n numbers → Table n inside × Table n outside
+  tables c = (record { long = t .long .0; small = in-small }, record { long = t .long .1; small = out-small })
     where
       in-small : (y : ℕ) → y < n → Within (2 ^ 30) (number inside y)
       in-small y h = within-equal (t .members y h)
@@ -125,29 +124,22 @@ margin-cong n A {f} {g} e = ap₂ (λ (l m : List ℤ). least l -ℤ greatest m)
 pub zeros : (n : ℕ) → Numbers n (replicate 32 (pos 0))
 zeros n y _ = within-equal (getD-default (pos 0) 32 y) zero-within
 
-module _ {n A : ℕ} {l inside outside : List ℤ} (s : Scores n l) (p : Proper n A) where
-  pub tables : (numbers : List ℤ) → Numbers n numbers → Parted n numbers A inside outside → Table n inside × Table n outside
-  tables _ u t = parted-tables p t (score-within (s .small) 0) u
-
-  spread-margin : (numbers : List ℤ) → Numbers n numbers → Parted n numbers A inside outside
-      → (x : ℕ) → spread n (score l x) inside outside ≡ margin n (λ y. score l x y -ℤ number numbers y) A
-  spread-margin _ u t x = parted-spread p t (score-within (s .small) x) u
-
+module _ {n A : ℕ} {inside outside : List ℤ} (l : List ℤ) where
   -- a loop over one side has found the least margin
-  pub least-spread : (t : List ℤ) → Numbers n t → Parted n t A inside outside → {x i : ℕ} → x ≡ n → (inner : Bool)
+  pub least-spread : Proper n A → (t : List ℤ) → Numbers n t → Parted n t A inside outside → {x i : ℕ} → x ≡ n → (inner : Bool)
+      → ((x : ℕ) → x < n → T (Bool·beq (has A x) inner) → SmallRow n l x)
       → Run minZ top (λ y. Bool·beq (has A y) inner) (λ y. spread n (score l y) inside outside) x i → toZ w64 i ≡ leastMargin n (score l) A t inner
   unfolding leastMargin
-  least-spread t u v e inner r =
-      least-side p (λ x. within-equal (spread-margin t u v x) (margin-beyond s p t u x)) e inner r
+  least-spread p t u v e inner small r =
+      least-side p e inner (λ x h k. within-equal (parted-spread v u (small x h k) p) (margin-beyond p l t u x (small x h k))) r
       ∙ ap least (map-cong (λ y. spread n (score l y) inside outside) (λ x. margin n (λ y. score l x y -ℤ number t y) A)
-      (keep (λ y. Bool·beq (has A y) inner) (below n)) (λ x _. spread-margin t u v x))
+      (keep (λ y. Bool·beq (has A y) inner) (below n)) (λ x m. let (h, k) = of-side n A inner m in parted-spread v u (small x h k) p))
 
   -- the scores of a member with the entries outside
   pub near-most : Parted n (replicate 32 (pos 0)) A inside outside → (a : ℕ) {z : ℤ}
       → AtMost n (score l a) outside z → (c : ℕ) → c < n → A ∌ c → score l a c ≤ℤ z
   unfolding up dn
-  near-most t a v c h k =
-      omega (zarith, v c h, -at (score l a c) (number outside c), at-other p t (score-within (s .small) a) (zeros n) c h k .1, getD-default (pos 0) 32 c)
+  near-most t a v c h k = omega (zarith, v c h, -at (score l a c) (number outside c), at-other t c h k .1, getD-default (pos 0) 32 c)
 
 -- the strong index and the separation from an entry as least margins, less no number and less the entry's distances
 module _ {n A : ℕ} (l : List ℤ) (p : Proper n A) where

@@ -33,13 +33,13 @@ module _ {f : ℕ → ℤ} {inside outside : List ℤ} where
   seen-end {e} = subst (λ k. Seen f inside outside k e)
 
 -- the values less the numbers of a table are bounded, and so are the least and the greatest of them
-module _ {n : ℕ} {f : ℕ → ℤ} (b : (y : ℕ) → Within (2 ^ 22) (f y)) (some : 0 < n) where
+module _ {n : ℕ} {f : ℕ → ℤ} (b : (y : ℕ) → y < n → Within (2 ^ 22) (f y)) (some : 0 < n) where
   module _ {t : List ℤ} (u : Table n t) where
     abbrev less : ℕ → ℤ
     less y = f y -ℤ number t y
 
     less-within : (y : ℕ) → y < n → Within (2 ^ 31 - 1) (less y)
-    less-within y h = within-grow (lit≤ tt) (within-difference (b y) (u .small y h))
+    less-within y h = within-grow (lit≤ tt) (within-difference (b y h) (u .small y h))
 
     least-within : Within (2 ^ 31 - 1) (least (map less (below n)))
     least-within = let (y, m, e) = of-map less (below n) (least-of (map less (below n)) (in-map less (lt-below n 0 some))) in

@@ -3,25 +3,25 @@ use mathlib.Core.Path.{_≡_, refl, sym, subst}
 use mathlib.Core.Bool.{Bool, true, false, not, Bool·beq}
 use mathlib.Core.List.{List, map}
 use Prim.Native.Nat.{ℕ, _+_, _^_, _<_}
-use lib.Dec.{lit<, lit≤}
+use lib.Dec.{T, lit<, lit≤}
 use lib.ListN.{length, getD}
 use lib.IntN.{ℤ, pos, _-ℤ_}
 use mir.Syntax.{w64}
 use mir.Val.{ofZ, toZ}
 use Rattle.lists.specs.Lists.{_∈_, below, keep}
-use Rattle.lists.proofs.Lists.{in-map, of-map, keep-cong}
+use Rattle.lists.proofs.Lists.{below-lt, in-map, of-map, of-keep, keep-cong}
 use Rattle.integers.specs.Integers.{minZ, least, greatest}
 use Rattle.integers.specs.Range.{Within, Bounded}
 use Rattle.integers.proofs.Least.{least-of, greatest-of}
 use Rattle.integers.proofs.Range.{value-within, within-grow, within-equal, within-difference}
 use Rattle.integers.proofs.Held.{Held, held-result}
 use Rattle.integers.proofs.Running.{Run, run-least}
-use Rattle.sets.specs.Sets.{has, members, others}
-use Rattle.sets.proofs.Sets.{of-members, of-others}
+use Rattle.sets.specs.Sets.{has, _∋_, members, others}
+use Rattle.sets.proofs.Sets.{has-yes, of-members, of-others}
 use Rattle.clusters.specs.PairList.{place, score}
 use Rattle.matrix.proofs.Places.{score-asks}
 use Rattle.matrix.proofs.Scores.{score-within}
-use Rattle.indices.specs.Asked.{Scores, Proper}
+use Rattle.indices.specs.Asked.{Scores, SmallRow, Proper}
 use Rattle.indices.specs.Margins.{margin, nearness, separationFrom, number, Numbers}
 use Rattle.indices.proofs.Margins.{a-member, an-other}
 
@@ -54,13 +54,16 @@ pub top-held : Held w64 (ofZ w64 top) top
 top-held = held-result refl (lit< tt) refl
 
 -- the entries of one side, and that there is one
+beq-true : (b : Bool) → Bool·beq b true ≡ b
+beq-true true = refl
+beq-true false = refl
+
+pub side-member : (A x : ℕ) → T (Bool·beq (has A x) true) → A ∋ x
+side-member A x t = has-yes A x (subst T (beq-true (has A x)) t)
+
 pub side-members : (n A : ℕ) → keep (λ y. Bool·beq (has A y) true) (below n) ≡ members n A
 unfolding members
-side-members n A = keep-cong (λ y. Bool·beq (has A y) true) (has A) (λ y. go (has A y)) (below n)
-  where
-    go : (b : Bool) → Bool·beq b true ≡ b
-    go true = refl
-    go false = refl
+side-members n A = keep-cong (λ y. Bool·beq (has A y) true) (has A) (λ y. beq-true (has A y)) (below n)
 
 pub side-others : (n A : ℕ) → keep (λ y. Bool·beq (has A y) false) (below n) ≡ others n A
 unfolding others
@@ -70,39 +73,49 @@ side-others n A = keep-cong (λ y. Bool·beq (has A y) false) (λ y. not (has A 
     go true = refl
     go false = refl
 
+pub of-side : (n A : ℕ) (inner : Bool) {y : ℕ} → y ∈ keep (λ y. Bool·beq (has A y) inner) (below n) → (y < n) × T (Bool·beq (has A y) inner)
+of-side n A inner m = let (h, t) = of-keep (λ y. Bool·beq (has A y) inner) (below n) m in (below-lt n h, t)
+
 on-side : {n A : ℕ} → Proper n A → (inner : Bool) → (y : ℕ) × (y ∈ keep (λ y. Bool·beq (has A y) inner) (below n))
 on-side {n} {A} p true = let (y, m) = a-member p in (y, subst (λ (l : List ℕ). y ∈ l) (sym (side-members n A)) m)
 on-side {n} {A} p false = let (y, m) = an-other p in (y, subst (λ (l : List ℕ). y ∈ l) (sym (side-others n A)) m)
 
 -- the least, once the loop is through
-module _ {n A : ℕ} (p : Proper n A) {f : ℕ → ℤ} (b : (y : ℕ) → Within (2 ^ 30) (f y)) {x i : ℕ} (e : x ≡ n) where
-  pub least-member : Run minZ top (has A) f x i → toZ w64 i ≡ least (map f (members n A))
+module _ {n A : ℕ} (p : Proper n A) {f : ℕ → ℤ} {x i : ℕ} (e : x ≡ n) where
+  pub least-member : ((y : ℕ) → Within (2 ^ 30) (f y)) → Run minZ top (has A) f x i → toZ w64 i ≡ least (map f (members n A))
   unfolding members
-  least-member r = let (a, m) = a-member p in run-least m (subst (λ (y : ℕ). Run minZ top (has A) f y i) e r) (b a .top)
+  least-member b r = let (a, m) = a-member p in run-least m (subst (λ (y : ℕ). Run minZ top (has A) f y i) e r) (b a .top)
 
-  pub least-side : (inner : Bool) → Run minZ top (λ y. Bool·beq (has A y) inner) f x i
-      → toZ w64 i ≡ least (map f (keep (λ y. Bool·beq (has A y) inner) (below n)))
-  least-side inner r = let (y, m) = on-side p inner in run-least m (subst (λ (y : ℕ). Run minZ top (λ y. Bool·beq (has A y) inner) f y i) e r) (b y .top)
+  pub least-side : (inner : Bool) → ((y : ℕ) → y < n → T (Bool·beq (has A y) inner) → Within (2 ^ 30) (f y))
+      → Run minZ top (λ y. Bool·beq (has A y) inner) f x i → toZ w64 i ≡ least (map f (keep (λ y. Bool·beq (has A y) inner) (below n)))
+  least-side inner b r =
+      let (y, m) = on-side p inner in
+      let (h, t) = of-side n A inner m in
+      run-least m (subst (λ (y : ℕ). Run minZ top (λ y. Bool·beq (has A y) inner) f y i) e r) (b y h t .top)
 
 -- the values that the loops over a pair list see
-module _ {n : ℕ} {l : List ℤ} (s : Scores n l) where
-  pub score-asked : {a b : ℕ} → a < n → b < n → (a < 32) × (b < 32) × (place a b < length l)
-  score-asked h k = score-asks l (s .few) (s .long) h k
+pub score-asked : {n : ℕ} {l : List ℤ} → Scores n l → {a b : ℕ} → a < n → b < n → (a < 32) × (b < 32) × (place a b < length l)
+score-asked {l = l} s h k = score-asks l (s .few) (s .long) h k
+
+pub margin-beyond : {n A : ℕ} → Proper n A → (l t : List ℤ) → Numbers n t → (x : ℕ) → SmallRow n l x
+    → Within (2 ^ 30) (margin n (λ y. score l x y -ℤ number t y) A)
+margin-beyond p l t u x r = within-grow (lit≤ tt) (margin-within p (λ y h. within-difference (r y h) (u y h)))
+
+module _ {l : List ℤ} (s : Bounded (2 ^ 22) l) where
+  pub small-row : {n : ℕ} (x : ℕ) → SmallRow n l x
+  small-row x y _ = score-within s x y
 
   pub score-safe : (a b : ℕ) → Within (2 ^ 61) (score l a b)
-  score-safe a b = within-grow (lit≤ tt) (score-within (s .small) a b)
+  score-safe a b = within-grow (lit≤ tt) (score-within s a b)
 
   pub value-safe : (i : ℕ) → Within (2 ^ 61) (getD l i (pos 0))
-  value-safe i = within-grow (lit≤ tt) (value-within l i (s .small))
+  value-safe i = within-grow (lit≤ tt) (value-within l i s)
 
   nearness-within : (a x y : ℕ) → Within (2 ^ 23) (nearness (score l) a x y)
   unfolding nearness
-  nearness-within a x y = within-difference (score-within (s .small) y x) (score-within (s .small) a y)
+  nearness-within a x y = within-difference (score-within s y x) (score-within s a y)
 
-  module _ {A : ℕ} (p : Proper n A) where
-    pub margin-beyond : (t : List ℤ) → Numbers n t → (x : ℕ) → Within (2 ^ 30) (margin n (λ y. score l x y -ℤ number t y) A)
-    margin-beyond t u x = within-grow (lit≤ tt) (margin-within p (λ y h. within-difference (score-within (s .small) x y) (u y h)))
-
+  module _ {n A : ℕ} (p : Proper n A) where
     split-beyond : (a x : ℕ) → Within (2 ^ 30) (margin n (nearness (score l) a x) A)
     split-beyond a x = within-grow (lit≤ tt) (margin-within p (λ y _. nearness-within a x y))
 

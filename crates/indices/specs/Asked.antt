@@ -4,15 +4,18 @@ use mathlib.Core.List.{List}
 use Prim.Native.Nat.{ℕ, _^_, _≤_, _<_}
 use lib.IntN.{ℤ, pos}
 use lib.ListN.{length, getD}
-use Rattle.integers.specs.Range.{Within, Bounded}
+use Rattle.integers.specs.Range.{Within}
 use Rattle.sets.specs.Sets.{size}
-use Rattle.clusters.specs.PairList.{rowStart}
+use Rattle.clusters.specs.PairList.{rowStart, score}
 
--- a pair list of n entries, up to 32 of them, with scores and anchored scores far from the machine's limits
+-- a pair list of n entries, up to 32 of them
 pub record Scores (n : ℕ) (l : List ℤ) : Type 0 where
   pub few : n ≤ 32
   pub long : length l ≡ rowStart n
-  pub small : Bounded (2 ^ 22) l
+
+-- the scores of x are far from the machine's limits
+abbrev pub SmallRow : ℕ → List ℤ → ℕ → Type 0
+SmallRow n l x = (y : ℕ) → y < n → Within (2 ^ 22) (score l x y)
 
 -- a set of the n entries that is neither empty nor all of them
 pub record Proper (n A : ℕ) : Type 0 where

@@ -15,7 +15,6 @@ use Rattle.sets.specs.Sets.{size}
 use Rattle.sets.proofs.Sizes.{size-wide}
 use Rattle.clusters.specs.Groups.{Kind, strong, clean, splits, proper, speaksOf}
 use Rattle.clusters.proofs.Groups.{leastSize, speaks-size}
-use Rattle.matrix.proofs.Scores.{range-bounded}
 use Rattle.indices.specs.Asked.{Scores, Proper}
 use Rattle.matrix.specs.Checks.{Checked}
 
@@ -36,11 +35,7 @@ module _ {least n A m : ℕ} (most : n ≤ 32) (low : A < 2 ^ n) (e : m ≡ size
 
 -- what the code for the indices asks
 pub checked-scores : {n : ℕ} {l : List ℤ} → Checked n l → Scores n l
-checked-scores {n} {l} c = record {
-  few = c .few;
-  long = c .long;
-  small = range-bounded l (c .range);
-}
+checked-scores c = record { few = c .few; long = c .long }
 
 pub spoken : (n A : ℕ) → A < 2 ^ n → (kind : Kind) → T (speaksOf kind n A) → Proper n A
 unfolding leastSize

@@ -3,6 +3,7 @@ use Prim.Native.Nat.{ℕ, _+_, _-_, _≤_}
 use native.Mathlib.Omega.{arith}
 use borrow.Author.Needs.{needs}
 use lib.Dec.{lit<}
+use Rattle.integers.proofs.Range.{within-equal}
 use Rattle.clusters.specs.PairList.{rowStart, place, score}
 use Rattle.clusters.proofs.PairList.{rowStart-le, place-row}
 use Rattle.indices.specs.Margins.{number}
@@ -37,10 +38,12 @@ at-row : (x y start : ℕ) → y ≤ x → start ≡ rowStart x → start + y �
 at-row x y start h e = omega (arith, place-row x y h)
 
 with-value-requires : tie.Need-with-value-requires Inv-loop μ-loop
-with-value-requires c κs = let g = c .before .before .before in
+unfolding score
+with-value-requires c κs = let l = c .before .loop in
+    let g = c .before .before .before in
     let x = g .args .x in (
-      g .pre .2,
       omega (arith, place-row x x (omega arith)),
+      within-equal (ap (number (g .args .pairs .now)) (at-row x (l .y) _ (omega arith) (l .inv .2))) (g .pre .2 (l .y) (omega arith)),
       record { long = omega (arith, g .pre .3 .long); small = λ z h. g .pre .3 .small z (omega arith) },
       record { long = omega (arith, g .pre .4 .long); small = λ z h. g .pre .4 .small z (omega arith) },
     )

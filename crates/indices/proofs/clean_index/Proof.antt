@@ -34,7 +34,7 @@ keep-all-requires : tie.Need-keep-all-requires
 keep-all-requires c κs = let f = c .before .before in
     let (_, some, few) = size-is (f .before) in
     let (long, near) = f .nearest .ensures in
-    (f .before .before .pre .0, omega arith, search (tops-sorted, needs), long, near)
+    (f .before .before .pre .0, f .before .before .pre .2, omega arith, search (tops-sorted, needs), long, near)
 
 slice-aggregate-total : tie.Need-slice-aggregate-total
 slice-aggregate-total c = search needs
@@ -44,7 +44,7 @@ total-requires c κs = let r = c .before .before in
     let s = r .before .before .before .before in
     let g = s .before in
     let (_, some, few) = size-is s in
-    (omega arith, omega (arith, r .keep-all .kept .0), subst (Bounded (2 ^ 30)) (sym (r .keep-all .ensures)) (kept-within (g .pre .0) (g .pre .1) _))
+    (omega arith, omega (arith, r .keep-all .kept .0), subst (Bounded (2 ^ 30)) (sym (r .keep-all .ensures)) (kept-within (g .pre .1) (g .pre .2) _))
 
 -- one weight less than the set has entries
 returns : tie.Need-returns
@@ -53,7 +53,7 @@ returns c = let r = c .before .before .before in
     let g = s .before in
     let (e, some, few) = size-is s in
     passed w64 (c .total .ok)
-    (c .total .ensures ∙ ap sum (r .keep-all .ensures) ∙ kept-clean (g .pre .0) (g .pre .1) _ (ap (λ (m : ℕ). m - 1) e) (omega arith))
+    (c .total .ensures ∙ ap sum (r .keep-all .ensures) ∙ kept-clean (g .pre .1) (g .pre .2) _ (ap (λ (m : ℕ). m - 1) e) (omega arith))
 
 pub clean-index-spec : {M : Type 1} → statement M
 clean-index-spec =

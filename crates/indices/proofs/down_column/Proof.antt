@@ -1,6 +1,7 @@
 use mathlib.Core.Path.{_≡_, ap}
 use Prim.Native.Nat.{_-_, _<_, _≤_}
 use native.Mathlib.Omega.{arith}
+use Rattle.integers.proofs.Range.{within-equal}
 use Rattle.clusters.specs.PairList.{place, score}
 use Rattle.matrix.proofs.Places.{next-column, place-few}
 use Rattle.indices.specs.Margins.{number}
@@ -37,16 +38,17 @@ loop-holds c = let g = c .before in (
   omega arith,
   omega arith,
   omega (arith, c .place-of .ensures, next-column (g .args .x) (g .args .x) (omega arith)),
-  g .pre .4,
+  g .pre .5,
 )
 
 with-value-requires : tie.Need-with-value-requires Inv-loop μ-loop
+unfolding score
 with-value-requires c κs = let g = c .before .before .before in
-    let y = c .before .loop .y in (
-      g .pre .0 .small,
-      omega (arith, score-asked (g .pre .0) {a = g .args .x} {b = y} (omega arith) (omega arith) .2),
-      record { long = omega (arith, g .pre .2 .long); small = λ z h. g .pre .2 .small z (omega arith) },
+    let l = c .before .loop in (
+      omega (arith, score-asked (g .pre .0) {a = g .args .x} {b = l .y} (omega arith) (omega arith) .2),
+      within-equal (ap (number (g .args .pairs .now)) (l .inv .2)) (g .pre .2 (l .y) (omega arith)),
       record { long = omega (arith, g .pre .3 .long); small = λ z h. g .pre .3 .small z (omega arith) },
+      record { long = omega (arith, g .pre .4 .long); small = λ z h. g .pre .4 .small z (omega arith) },
     )
 
 add-at-3 : tie.Need-add-at-3 Inv-loop μ-loop

@@ -7,13 +7,13 @@ along-row-requires : tie.Need-along-row-requires
 along-row-requires c κs = let (few, _, low) = score-asked (c .pre .0) (c .pre .1) (c .pre .1) in (
   few,
   low,
-  c .pre .0 .small,
-  record { long = omega (arith, c .pre .2 .long); small = λ z h. c .pre .2 .small z (omega arith) },
+  λ y h. c .pre .2 y (omega arith),
   record { long = omega (arith, c .pre .3 .long); small = λ z h. c .pre .3 .small z (omega arith) },
+  record { long = omega (arith, c .pre .4 .long); small = λ z h. c .pre .4 .small z (omega arith) },
 )
 
 down-column-requires : tie.Need-down-column-requires
-down-column-requires c κs = let g = c .before .pre in (g .0, g .1, g .2, g .3, c .along-row .ensures)
+down-column-requires c κs = let g = c .before .pre in (g .0, g .1, g .2, g .3, g .4, c .along-row .ensures)
 
 returns : tie.Need-returns
 returns c = c .down-column .ensures

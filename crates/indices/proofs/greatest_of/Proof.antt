@@ -3,7 +3,6 @@ use borrow.Author.Needs.{needs, sfits-of}
 use mir.Syntax.{w32}
 use mir.Facts.{toZ-ofZ}
 use Rattle.integers.proofs.Linear.{zarith}
-use Rattle.matrix.proofs.Scores.{score-within}
 use Rattle.indices.proofs.Seen.{seen-greatest}
 use Rattle.indices.proofs.greatest_of.Statement.{statement}
 use Rattle.indices.proofs.greatest_of.Tie as tie
@@ -17,7 +16,7 @@ returns c = let d = c .before in
     λ y h. omega (
       zarith,
       toZ-ofZ {w = w32} {z = d .extremes-of .result .greatest} (sfits-of (c .struct-told .given .1 .0 .1)),
-      seen-greatest (score-within (g .pre .0 .small) (g .args .x)) (omega arith) (g .pre .2) (g .pre .3) (d .extremes-of .ensures) y h,
+      seen-greatest (g .pre .2) (omega arith) (g .pre .3) (g .pre .4) (d .extremes-of .ensures) y h,
     )
 
 pub greatest-of-spec : {M : Type 1} → statement M

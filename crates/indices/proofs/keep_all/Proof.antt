@@ -29,8 +29,8 @@ keep-before-requires c κs = let t = c .before in
     let s = t .before .before .before in
     let g = s .before in
     let r = s .loop .inv .1 in
-    let (scores, few, rise, long, near) = g .pre in (
-      (scores, omega arith, omega (arith, r .long), kept-sorted r (sorted-before (g .args .n) (score (g .args .pairs .now)) (g .args .set) (g .args .k)) rise),
+    let (scores, small, few, rise, long, near) = g .pre in (
+      (scores, small, omega arith, omega (arith, r .long), kept-sorted r (sorted-before (g .args .n) (score (g .args .pairs .now)) (g .args .set) (g .args .k)) rise),
       (long, near, has-yes (g .args .set) (s .loop .a) (true-T (sym (t .before .has .ensures) ∙ t .if1 .taken))),
     )
 

@@ -29,10 +29,11 @@ keep-pair-requires c κs = let t = c .before in
     let s = t .before .before .before in
     let g = s .before in
     let r = s .loop .inv .1 in
-    let (scores, low, few, rise) = g .pre .0 in
+    let (scores, small, low, few, rise) = g .pre .0 in
     let (long, near, member) = g .pre .1 in (
       (
         scores,
+        small,
         low,
         omega arith,
         omega (arith, r .long),

@@ -64,18 +64,18 @@ difference-requires c κs = let m = c .before in
     let v = m .before .before .value in
     let u = m .before .value2 in
     let s = m .before .before .before .before .before .before .before .before .before in
-    let g = s .before .pre .0 in (
-      within-equal (passed w64 (s .score .ok) (s .score .ensures)) (score-safe g _ _),
+    let small = s .before .pre .1 in (
+      within-equal (passed w64 (s .score .ok) (s .score .ensures)) (score-safe small _ _),
       within-equal (passed w64 (m .larger .ok) (m .larger .ensures))
-          (within-max (within-equal (passed w64 (v .ok) (v .ensures)) (value-safe g _)) (within-equal (passed w64 (u .ok) (u .ensures)) (value-safe g _))),
+          (within-max (within-equal (passed w64 (v .ok) (v .ensures)) (value-safe small _)) (within-equal (passed w64 (u .ok) (u .ensures)) (value-safe small _))),
     )
 
 keep-smallest-requires : tie.Need-keep-smallest-requires Inv-loop μ-loop
 keep-smallest-requires c κs = let s = c .before .before .before .before .before .before .before .before in
     let g = s .before .before .before .before in
     let r = s .loop .inv .3 in (
-      omega (arith, g .pre .3, r .long),
-      kept-sorted r (sorted-triple (g .args .n) (score (g .args .pairs .now)) (g .args .set) (g .args .k) (g .args .a) (g .args .b)) (g .pre .4),
+      omega (arith, g .pre .4, r .long),
+      kept-sorted r (sorted-triple (g .args .n) (score (g .args .pairs .now)) (g .args .set) (g .args .k) (g .args .a) (g .args .b)) (g .pre .5),
     )
 
 next-place-requires : tie.Need-next-place-requires Inv-loop μ-loop

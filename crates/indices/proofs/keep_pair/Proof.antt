@@ -22,10 +22,10 @@ mul-at-most : tie.Need-mul-at-most
 mul-at-most c = search needs
 
 slice-copy-out-at-most : tie.Need-slice-copy-out-at-most
-slice-copy-out-at-most c = omega (arith, c .before .pre .0 .3)
+slice-copy-out-at-most c = omega (arith, c .before .pre .0 .4)
 
 least-weight-requires : tie.Need-least-weight-requires
-least-weight-requires c κs = let g = c .before .before .pre in (g .0 .0, g .0 .1, g .0 .2, g .1 .0)
+least-weight-requires c κs = let g = c .before .before .pre in (g .0 .0, g .0 .1, g .0 .2, g .0 .3, g .1 .0)
 
 at-most-requires : tie.Need-at-most-requires
 at-most-requires c κs = search needs
@@ -35,7 +35,7 @@ returns c = let m = c .before in
     let v = m .before in
     let g = v .before .before .before in
     let x = g .args in
-    let (_, ha, hb, few, rise) = g .pre .0 in
+    let (_, _, ha, hb, few, rise) = g .pre .0 in
     let (_, near, ma, mb) = g .pre .1 in
     let last = getD-take (x .k) (x .kept .now) (x .k - 1) (pos 0) (omega arith) ∙ sym (toZ-ofZ (sfits-of (v .before .at-most-arg .given))) in
     let least = passed w64 (v .least-weight .ok) (v .least-weight .ensures) in

@@ -5,6 +5,7 @@ use Prim.Native.Nat.{_-_, _≤_}
 use native.Mathlib.Omega.{arith}
 use borrow.Author.Needs.{needs}
 use mir.Syntax.{w64}
+use Rattle.lists.proofs.Tests.{true-T}
 use Rattle.integers.specs.Integers.{minZ}
 use Rattle.integers.proofs.Held.{passed}
 use Rattle.integers.proofs.Running.{Run, run-start, run-yes, run-no}
@@ -39,10 +40,12 @@ slice-aggregate-spread-2 : tie.Need-slice-aggregate-spread-2 Inv-loop μ-loop
 slice-aggregate-spread-2 c = search needs
 
 spread-requires : tie.Need-spread-requires Inv-loop μ-loop
-spread-requires c κs = let h = c .before .before .before .before .before .before .before .before in
-    let g = h .before .pre in
-    let (inside, outside) = tables (g .0) (g .1) _ (g .2) (h .part .ensures) in
-    (g .0, omega arith, search (inside, outside), search (inside, outside))
+spread-requires c κs = let t = c .before .before in
+    let h = t .before .before .before .before .before .before in
+    let g = h .before in
+    let (inside, outside) = tables (h .part .ensures) (g .pre .2) in
+    let side = ap (λ (b : Bool). Bool·beq b (g .args .inner)) (t .before .has .ensures) in
+    (g .pre .0, omega arith, g .pre .3 _ (omega arith) (true-T (sym side ∙ t .if1 .taken)), search (inside, outside), search (inside, outside))
 
 smaller-requires : tie.Need-smaller-requires Inv-loop μ-loop
 smaller-requires c κs = search needs
@@ -70,7 +73,7 @@ returns : tie.Need-returns Inv-loop μ-loop
 returns c = let s = c .before in
     let h = s .before .before .before in
     let g = h .before in
-    least-spread (g .pre .0) (g .pre .1) _ (g .pre .2) (h .part .ensures) (omega arith) (g .args .inner) (s .loop .inv .1)
+    least-spread (g .args .pairs .now) (g .pre .1) _ (g .pre .2) (h .part .ensures) (omega arith) (g .args .inner) (g .pre .3) (s .loop .inv .1)
 
 pub least-margin-spec : {M : Type 1} → statement M
 least-margin-spec =

@@ -33,7 +33,7 @@ wide-requires : tie.Need-wide-requires
 wide-requires c κs = search needs
 
 score-requires : tie.Need-score-requires
-score-requires c κs = let g = c .before .before .before .before .pre in score-asked (g .0) (g .1) (g .2)
+score-requires c κs = let g = c .before .before .before .before .pre in score-asked (g .0) (g .2) (g .3)
 
 -- the larger of the two that are read
 other-is : (c : tie.After-wide) → let a = c .before .before .before .before .args in
@@ -45,7 +45,7 @@ other-is c = let m = c .before in
 difference-requires : tie.Need-difference-requires
 difference-requires c κs = let m = c .before .before in
     let g = m .before .before .before in (
-      within-equal (passed w64 (c .score .ok) (c .score .ensures)) (score-safe (g .pre .0) _ _),
+      within-equal (passed w64 (c .score .ok) (c .score .ensures)) (score-safe (g .pre .1) _ _),
       within-equal (other-is (c .before)) (within-grow (lit≤ tt) (within-max
           (fits-within w32 (sfits-of (m .before .before .larger-i32-arg .given))) (fits-within w32 (sfits-of (m .before .larger-i32-arg2 .given))))),
     )

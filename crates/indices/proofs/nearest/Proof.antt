@@ -15,6 +15,7 @@ use Rattle.clusters.specs.PairList.{score}
 use Rattle.indices.specs.Smallest.{Near}
 use Rattle.indices.proofs.Parted.{zeros, tables, near-most}
 use Rattle.indices.proofs.Smallest.{near-more, near-none}
+use Rattle.indices.proofs.Values.{small-row}
 use Rattle.indices.proofs.nearest.Statement.{statement}
 use Rattle.indices.proofs.nearest.Tie as tie
 
@@ -42,8 +43,8 @@ slice-aggregate-greatest-of-2 c = search needs
 greatest-of-requires : tie.Need-greatest-of-requires Inv-loop μ-loop
 greatest-of-requires c κs = let h = c .before .before .before .before .before .before .before .before in
     let g = h .before .pre in
-    let (inside, outside) = tables (g .0) (g .1) _ (zeros _) (h .part .ensures) in
-    (g .0, omega arith, inside, outside)
+    let (inside, outside) = tables (h .part .ensures) (zeros _) in
+    (g .0, omega arith, small-row (g .2) _, inside, outside)
 
 mul-found : tie.Need-mul-found Inv-loop μ-loop
 mul-found c = search needs
@@ -69,7 +70,7 @@ loop-again c = let s = c .before .before .before in
       omega arith,
       ap length (w .4) ∙ length-set (l .found) (l .a) _ ∙ l .inv .1,
       subst near (sym (w .4)) (near-more (l .found) (l .inv .2) (omega (arith, l .inv .1, g .pre .0 .few)) λ c k o.
-          omega (zarith, passed w32 {z = w .3 .result} (w .3 .ok) refl, near-most (g .pre .0) (g .pre .1) (h .part .ensures) (l .a) (w .3 .ensures) c k o)),
+          omega (zarith, passed w32 {z = w .3 .result} (w .3 .ok) refl, near-most (g .args .pairs .now) (h .part .ensures) (l .a) (w .3 .ensures) c k o)),
     ))
     (λ w. (
       omega arith,

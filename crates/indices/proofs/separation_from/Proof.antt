@@ -3,8 +3,8 @@ use native.Mathlib.Omega.{arith}
 use mir.Syntax.{w64}
 use Rattle.integers.proofs.Held.{passed}
 use Rattle.integers.proofs.Range.{within-equal}
-use Rattle.matrix.proofs.Scores.{score-within}
 use Rattle.indices.proofs.Parted.{separation-least}
+use Rattle.indices.proofs.Values.{small-row}
 use Rattle.indices.proofs.separation_from.Statement.{statement}
 use Rattle.indices.proofs.separation_from.Tie as tie
 
@@ -13,7 +13,7 @@ row-requires c κs = (c .pre .0, omega arith)
 
 least-margin-requires : tie.Need-least-margin-requires
 least-margin-requires c κs = let g = c .before in
-    (g .pre .0, g .pre .1, λ y h. within-equal (c .row .ensures y h) (score-within (g .pre .0 .small) _ y))
+    (g .pre .0, g .pre .1, λ y h. within-equal (c .row .ensures y h) (small-row (g .pre .2) _ y h), λ x _ _. small-row (g .pre .2) x)
 
 returns : tie.Need-returns
 returns c = let r = c .before in

@@ -28,7 +28,7 @@ has-requires : tie.Need-has-requires Inv-loop μ-loop
 has-requires c κs = search needs
 
 separation-from-requires : tie.Need-separation-from-requires Inv-loop μ-loop
-separation-from-requires c κs = let g = c .before .before .before .before .pre in (g .0, g .1, omega arith)
+separation-from-requires c κs = let g = c .before .before .before .before .pre in (g .0, g .1, g .2, omega arith)
 
 smaller-requires : tie.Need-smaller-requires Inv-loop μ-loop
 smaller-requires c κs = search needs
@@ -53,7 +53,7 @@ loop-again c = let s = c .before .before .before in
 returns : tie.Need-returns Inv-loop μ-loop
 returns c = let s = c .before in
     let g = s .before in
-    least-member (g .pre .1) (separation-beyond (g .pre .0) (g .pre .1)) (omega arith) (s .loop .inv .1)
+    least-member (g .pre .1) (omega arith) (separation-beyond (g .pre .2) (g .pre .1)) (s .loop .inv .1)
     ∙ separation-margins (g .args .n) (score (g .args .pairs .now)) (g .args .set) (g .pre .1)
 
 pub separation-index-spec : {M : Type 1} → statement M

@@ -7,7 +7,6 @@ use mir.Val.{ofZ, toZ}
 use mir.Facts.{toZ-ofZ}
 use Rattle.integers.proofs.Held.{passed}
 use Rattle.integers.proofs.Range.{within-equal}
-use Rattle.matrix.proofs.Scores.{score-within}
 use Rattle.indices.proofs.Seen.{seen-within, seen-spread}
 use Rattle.indices.proofs.spread.Statement.{statement}
 use Rattle.indices.proofs.spread.Tie as tie
@@ -31,14 +30,14 @@ widened c = let w = c .before .before in (
 difference-requires : tie.Need-difference-requires
 difference-requires c κs = let d = c .before .before .before .before in
     let g = d .before in
-    let (low, high) = seen-within (score-within (g .pre .0 .small) (g .args .x)) (omega arith) (g .pre .2) (g .pre .3) (d .extremes-of .ensures) in
+    let (low, high) = seen-within (g .pre .2) (omega arith) (g .pre .3) (g .pre .4) (d .extremes-of .ensures) in
     (within-equal (widened c .0) low, within-equal (widened c .1) high)
 
 returns : tie.Need-returns
 returns c = let d = c .before .before .before .before .before in
     let g = d .before in
     passed w64 (c .difference .ok) (c .difference .ensures ∙ ap₂ _-ℤ_ (widened (c .before) .0) (widened (c .before) .1)
-    ∙ seen-spread (score-within (g .pre .0 .small) (g .args .x)) (omega arith) (g .pre .2) (g .pre .3) (d .extremes-of .ensures))
+    ∙ seen-spread (g .pre .2) (omega arith) (g .pre .3) (g .pre .4) (d .extremes-of .ensures))
 
 pub spread-spec : {M : Type 1} → statement M
 spread-spec = tie.close (tie.spec extremes-of-requires wide-requires wide-requires-2 difference-requires returns)

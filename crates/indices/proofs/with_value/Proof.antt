@@ -7,7 +7,7 @@ use mir.Val.{ofZ, toZ}
 use mir.Facts.{toZ-ofZ}
 use Rattle.integers.specs.Integers.{minZ, maxZ}
 use Rattle.integers.proofs.Held.{passed}
-use Rattle.integers.proofs.Range.{within-equal, value-within}
+use Rattle.integers.proofs.Range.{within-equal}
 use Rattle.indices.specs.Margins.{number}
 use Rattle.indices.proofs.with_value.Statement.{statement}
 use Rattle.indices.proofs.with_value.Tie as tie
@@ -39,7 +39,7 @@ shared-slice-copy-out-difference-i32 c = omega (arith, c .before .pre .2 .long)
 
 difference-i32-requires : tie.Need-difference-i32-requires
 difference-i32-requires c κs = let g = c .before .before in (
-  within-equal (value-told (c .before)) (value-within _ (g .args .at) (g .pre .0)),
+  within-equal (value-told (c .before)) (g .pre .1),
   within-equal (inside-told c) (g .pre .2 .small (g .args .y) (omega arith)),
 )
 
@@ -55,7 +55,7 @@ shared-slice-copy-out-difference-i32-2 c = omega (arith, c .before .before .befo
 difference-i32-requires-2 : tie.Need-difference-i32-requires-2
 difference-i32-requires-2 c κs = let v = c .before .before .before .before .before in
     let g = v .before in
-    (within-equal (value-told v) (value-within _ (g .args .at) (g .pre .0)), within-equal (outside-told c) (g .pre .3 .small (g .args .y) (omega arith)))
+    (within-equal (value-told v) (g .pre .1), within-equal (outside-told c) (g .pre .3 .small (g .args .y) (omega arith)))
 
 larger-i32-requires : tie.Need-larger-i32-requires
 larger-i32-requires c κs = search needs

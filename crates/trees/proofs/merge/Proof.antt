@@ -1,7 +1,7 @@
 use borrow.Author.Needs.{needs}
+use Rattle.matrix.proofs.Scores.{range-bounded}
 use Rattle.linkage.specs.Blocks.{linkageOf}
 use Rattle.kinds.specs.Kinds.{kindFor}
-use Rattle.kinds.proofs.Listed.{checked-scores}
 use Rattle.trees.proofs.Merging.{merged-strong, merged-clean}
 use Rattle.trees.proofs.merge.Statement.{statement}
 use Rattle.trees.proofs.merge.Tie as tie
@@ -10,11 +10,11 @@ enum-told : tie.Need-enum-told
 enum-told c = search needs
 
 merge-all-requires : tie.Need-merge-all-requires
-merge-all-requires c κs = let s = c .before .before .before .before in let p = checked-scores (s .pre .0) in (
-  s .pre .0 .some,
-  s .pre .0 .few,
+merge-all-requires c κs = let s = c .before .before .before .before in let p = s .pre .0 in (
+  p .some,
+  p .few,
   p .long,
-  p .small,
+  range-bounded _ (p .range),
   s .pre .1,
 )
 
@@ -22,11 +22,11 @@ enum-told-2 : tie.Need-enum-told-2
 enum-told-2 c = search needs
 
 merge-all-requires-2 : tie.Need-merge-all-requires-2
-merge-all-requires-2 c κs = let s = c .before .before .before .before in let p = checked-scores (s .pre .0) in (
-  s .pre .0 .some,
-  s .pre .0 .few,
+merge-all-requires-2 c κs = let s = c .before .before .before .before in let p = s .pre .0 in (
+  p .some,
+  p .few,
   p .long,
-  p .small,
+  range-bounded _ (p .range),
   s .pre .1,
 )
 
