@@ -105,5 +105,5 @@ difference-fits h l = within-fits w64 (lit< tt) (within-difference h l)
 pub difference-fits-i32 : {a b : ℤ} → Within (2 ^ 22) a → Within (2 ^ 30) b → SFits w32 (a -ℤ b)
 difference-fits-i32 h l = within-fits w32 (lit< tt) (within-difference h l)
 
-pub times-fits : {z : ℤ} (m : ℕ) → m ≤ 1024 → Within (2 ^ 40) z → SFits w64 (pos m *ℤ z)
+pub times-fits : {z : ℤ} (m : ℕ) → m ≤ 1024 → Within (2 ^ 47) z → SFits w64 (pos m *ℤ z)
 times-fits m l h = within-fits w64 (lit< tt) (within-times m l h)

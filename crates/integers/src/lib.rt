@@ -79,7 +79,7 @@ pub fn difference(x: i64, y: i64) -> i64
 }
 
 pub fn times(k: usize, x: i64) -> i64
-    requires { ⌜ (k ≤ 1024) × Within (2 ^ 40) x ⌝ }
+    requires { ⌜ (k ≤ 1024) × Within (2 ^ 47) x ⌝ }
     ensures { λ r. ⌜ r ≡ pos k *ℤ x ⌝ }
 {
     (k as i64) * x

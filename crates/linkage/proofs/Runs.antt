@@ -88,7 +88,7 @@ module _ (avg : Bool) (n : ℕ) (s : Similarity)
 
   -- the same for blocks that the code counts, with what it finds, writes and merges
   module _ (few : n ≤ 32) (c : ℕ) (counted : length bs ≡ c) where
-    pub run-small : k ≤ 32 → ((a b : ℕ) → a < n → b < n → Within (2 ^ 22) (s a b)) → Small c t
+    pub run-small : k ≤ 32 → ((a b : ℕ) → a < n → b < n → Within (2 ^ 31) (s a b)) → Small c t
     run-small l h = subst (λ (m : ℕ). Small m t) counted (holds-small avg n s (r .partition) (r .table) few h l (r .own))
 
     pub run-weights : (w : List ℕ) → Weighed avg c bs w → Weights c w

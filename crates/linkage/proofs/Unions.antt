@@ -132,14 +132,14 @@ unfolding sumOf up dn
 within-sumOf [] f h = within (omega arith) (omega arith)
 within-sumOf (x ∷ l) f h = within-grow (omega arith) (within-sum (h x (List·Memᴰ·head refl)) (within-sumOf l f (λ y m. h y (List·Memᴰ·tail m))))
 
--- with scores of up to 2 ^ 22, the numerators of the links of 32 entries stay far below what 64 bits hold
-pub link-within : (avg : Bool) (n : ℕ) (s : Similarity) (U W : ℕ) → n ≤ 32 → ((a b : ℕ) → a < n → b < n → Within (2 ^ 22) (s a b)) → Some n U → Some n W
-    → Within (2 ^ 35) (link (linkageOf avg) n s U W .num)
+-- with scores of up to 2 ^ 31, the numerators of the links of 32 entries stay far below what 64 bits hold
+pub link-within : (avg : Bool) (n : ℕ) (s : Similarity) (U W : ℕ) → n ≤ 32 → ((a b : ℕ) → a < n → b < n → Within (2 ^ 31) (s a b)) → Some n U → Some n W
+    → Within (2 ^ 42) (link (linkageOf avg) n s U W .num)
 unfolding link linkageOf size
 link-within true n s U W h k _ _ =
     let hu : size n U ≤ 32 = omega (arith, size-le n U) in
     let hw : size n W ≤ 32 = omega (arith, size-le n W) in
-    let one : 2 ^ 22 ≤ 2 ^ 22 = lit≤ tt in
+    let one : 2 ^ 31 ≤ 2 ^ 31 = lit≤ tt in
     rw sum-between (within-grow (omega (arith, mul-le-mul hu (mul-le-mul hw one)))
     (within-sumOf (members n U) (λ u. sumOf (members n W) (s u))
     (λ u m. within-sumOf (members n W) (s u) (λ w l. k u w (of-members n U m .0) (of-members n W l .0)))))

@@ -23,7 +23,7 @@ use Rattle.linkage.proofs.Places.{places-apart, some-at, joinedAt, join
 
 -- what stands in the table for a place and itself, which is no link, after k merges
 pub record Own (k c : ℕ) (t : List ℤ) : Type 0 where
-  pub own : (a : ℕ) → a < c → Within (k * 2 ^ 35) (entry t a a)
+  pub own : (a : ℕ) → a < c → Within (k * 2 ^ 42) (entry t a a)
 
 pub own-start : (n : ℕ) {t : List ℤ} → n ≤ 32 → OwnKept (replicate 1024 (pos 0)) t → Own 0 n t
 unfolding up dn
@@ -31,7 +31,7 @@ own-start n h o = record {
   own = λ a l. rw (o .own a (omega arith), getD-replicate 1024 (a * 32 + a) (pos 0) (pos 0) (omega arith)) (within (omega arith) (omega arith));
 }
 
-joined-within : (avg : Bool) {m : ℕ} {x y : ℤ} → Within m x → Within (2 ^ 35) y → Within (m + 2 ^ 35) (joined avg x y)
+joined-within : (avg : Bool) {m : ℕ} {x y : ℤ} → Within m x → Within (2 ^ 42) y → Within (m + 2 ^ 42) (joined avg x y)
 unfolding joined
 joined-within true h l = within-sum h l
 joined-within false h l = within-max (within-grow (omega arith) h) (within-grow (omega arith) l)
@@ -41,7 +41,7 @@ pub own-merged : (avg : Bool) (i j : ℕ) {k c : ℕ} → i < j → j < c → c 
 unfolding joinedRow
 own-merged avg i j {k} {c} hi hj hc {t} {t₁} {t₂} s o w v = record { own = λ a h. at a h (ℕ-discrete a j) (ℕ-discrete a i) }
   where
-    at : (a : ℕ) → a < c - 1 → Dec (a ≡ j) → Dec (a ≡ i) → Within ((k + 1) * 2 ^ 35) (entry t₂ a a)
+    at : (a : ℕ) → a < c - 1 → Dec (a ≡ j) → Dec (a ≡ i) → Within ((k + 1) * 2 ^ 42) (entry t₂ a a)
     at a h (yes e) _ = rw (e, v .row j (omega arith), w .rest (c - 1) j (omega arith) (omega arith) (λ r. omega arith) (λ r. omega arith))
         (within-grow (omega arith) (s .within (c - 1) j (omega arith) hj (λ r. omega arith)))
     at a h (no d) (yes e) = rw (e, v .rest i i (omega arith) (omega arith) (λ r. omega arith) (λ r. omega arith), w .row i (omega arith))
@@ -66,7 +66,7 @@ holds-singles avg n s h = record {
 }
 
 module _ (avg : Bool) (n : ℕ) (s : Similarity) {bs : List ℕ} (p : Partition n bs) {t : List ℤ} (h : Holds (length bs) (numerators avg n s bs) t) where
-  pub holds-small : n ≤ 32 → ((a b : ℕ) → a < n → b < n → Within (2 ^ 22) (s a b)) → {m : ℕ} → m ≤ 32 → Own m (length bs) t → Small (length bs) t
+  pub holds-small : n ≤ 32 → ((a b : ℕ) → a < n → b < n → Within (2 ^ 31) (s a b)) → {m : ℕ} → m ≤ 32 → Own m (length bs) t → Small (length bs) t
   unfolding numerators
   holds-small l k few o = record {
     size = h .size;

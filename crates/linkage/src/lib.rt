@@ -63,7 +63,7 @@ fn merge_weights(weights: &mut [usize; 32], union: usize, i: usize, j: usize, la
 
 // All merges of a tree: each merged block goes into the next slot.
 pub fn merge_all(average: bool, n: usize, pairs: &[i32], out: &mut [u32])
-    requires { ⌜ (1 ≤ n) × (n ≤ 32) × (length (now pairs) ≡ rowStart n) × Bounded (2 ^ 22) (now pairs)
+    requires { ⌜ (1 ≤ n) × (n ≤ 32) × (length (now pairs) ≡ rowStart n) × Bounded (2 ^ 31) (now pairs)
         × (n - 1 ≤ length (now out)) ⌝ }
     ensures { λ _. ⌜ Merged (linkageOf average) n (now (pairs .entry)) (now (out .entry)) (now (out .exit)) ⌝ }
 {

@@ -86,11 +86,11 @@ pub own-next : {k : ℕ} {g : ℕ → ℤ} {t₀ t₁ t : List ℤ} → OwnKept 
 own-next o w = record { own = λ a h. w .rest a a h h (λ e. omega arith) (λ e. omega arith) ∙ o .own a h }
 
 -- what is joined is of bounded size
-pub small-any : {k : ℕ} {t : List ℤ} → Small k t → (a b : ℕ) → a < k → b < k → Within (2 ^ 40) (entry t a b)
+pub small-any : {k : ℕ} {t : List ℤ} → Small k t → (a b : ℕ) → a < k → b < k → Within (2 ^ 47) (entry t a b)
 small-any {t} s a b ha hb = go (ℕ-discrete a b)
   where
-    go : Dec (a ≡ b) → Within (2 ^ 40) (entry t a b)
-    go (yes e) = subst (λ (x : ℕ). Within (2 ^ 40) (entry t a x)) e (s .own a ha)
+    go : Dec (a ≡ b) → Within (2 ^ 47) (entry t a b)
+    go (yes e) = subst (λ (x : ℕ). Within (2 ^ 47) (entry t a x)) e (s .own a ha)
     go (no d) = within-grow (lit≤ tt) (s .within a b ha hb d)
 
 -- a pair stands in its row of the pair list

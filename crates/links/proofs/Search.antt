@@ -44,7 +44,7 @@ found-first w t e h = record { rising = omega arith; inside = omega arith; num-i
 module _ {w : List ℕ} {t : List ℤ} {m : ℕ} {f : Found} (g : FoundBefore w t m f) where
   -- what is computed of it stays far below what 64 bits hold
   module _ {k : ℕ} (s : Small k t) (h : m ≤ k * 32) where
-    pub found-within : Within (2 ^ 35) (f .num)
+    pub found-within : Within (2 ^ 42) (f .num)
     found-within = rw (g .num-is) (s .within (f .j) (f .i) (omega (arith, g .inside)) (omega (arith, g .inside, g .rising)) (λ e. omega (arith, g .rising)))
 
     pub found-value : toZ w64 (ofZ w64 (f .num)) ≡ f .num

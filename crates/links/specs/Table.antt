@@ -33,8 +33,8 @@ pub record OwnKept (t₀ t : List ℤ) : Type 0 where
 -- what it has for any two of the first k places is of bounded size, and so is what stands for a place and itself
 pub record Small (k : ℕ) (t : List ℤ) : Type 0 where
   pub size : length t ≡ 1024
-  pub within : (a b : ℕ) → a < k → b < k → a ≢ b → Within (2 ^ 35) (entry t a b)
-  pub own : (a : ℕ) → a < k → Within (2 ^ 40) (entry t a a)
+  pub within : (a b : ℕ) → a < k → b < k → a ≢ b → Within (2 ^ 42) (entry t a b)
+  pub own : (a : ℕ) → a < k → Within (2 ^ 47) (entry t a a)
 
 -- in row i and column i, the first k numbers have become those of g; the rest stands
 pub record Written (i : ℕ) (g : ℕ → ℤ) (k : ℕ) (t₀ t : List ℤ) : Type 0 where

@@ -59,7 +59,7 @@ pub fn fill(pairs: &[i32], n: usize, t: &mut [i64; 1024])
 }
 
 fn join(average: bool, x: i64, y: i64) -> i64
-    requires { ⌜ Within (2 ^ 40) x × Within (2 ^ 40) y ⌝ }
+    requires { ⌜ Within (2 ^ 47) x × Within (2 ^ 47) y ⌝ }
     ensures { λ r. ⌜ r ≡ joined average x y ⌝ }
 {
     if average {

@@ -35,7 +35,7 @@ num : (c : tie.After-get Inv-loop μ-loop) → let l = at-loop c in
 unfolding at-loop start
 num c = passed w64 (c .get .ok) (c .get .ensures)
 
-small : (c : tie.After-get Inv-loop μ-loop) → Within (2 ^ 40) (toZ w64 (ofZ w64 (c .get .result)))
+small : (c : tie.After-get Inv-loop μ-loop) → Within (2 ^ 47) (toZ w64 (ofZ w64 (c .get .result)))
 unfolding at-loop start
 small c = let l = at-loop c in
     rw (num c) (within-grow (lit≤ tt) (start l .pre .1 .within (start l .args .j) (l .loop .i) (omega arith) (omega arith) (λ e. omega arith)))
