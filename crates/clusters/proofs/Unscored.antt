@@ -89,8 +89,7 @@ scoring-keeps n s later symm more A z m =
     let (h, t, e) = in-groups strong n s A z .0 m in
     let i = listed-index strong n s A t in
     let k = scoring-raises scoreLimit n s later symm more A in
-    let y = index strong n later A in
-    (
+    let y = index strong n later A in (
       y,
       in-groups strong n later A y .1 (h, is-listed strong n later A (of-listed strong n s A t .0) (omega zarith), refl),
       omega zarith,

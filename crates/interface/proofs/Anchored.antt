@@ -10,11 +10,12 @@ use lib.Dec.{T, leb, ltb, lit<, le→leb, lt→ltb, leb→le, ltb→lt, T-not}
 use lib.IntN.{ℤ, pos}
 use lib.ListN.{length}
 use Rattle.lists.specs.Lists.{all}
-use Rattle.lists.proofs.Tests.{T-true, true-T, T-false, T-or-not, or-T, T-or-left, T-or-right, or-none, eqb-yes}
+use Rattle.lists.proofs.Tests.{T-true, true-T, T-false, false-T, T-or-not, or-T, T-or-left, T-or-right, or-none, eqb-yes}
 use Rattle.integers.specs.Integers.{eqZ}
-use Rattle.clusters.specs.PairList.{rowStart, score, hasLength, inRange, areDistances}
+use Rattle.clusters.specs.PairList.{rowStart, score, hasLength, inRange, scoresInRange, hasUnscored, areDistances}
 use Rattle.clusters.specs.Farris.{farris, anchoredScores, distancesBack, isAnchored}
 use Rattle.clusters.proofs.PairList.{length-pairList}
+use Rattle.clusters.proofs.Scored.{scored-in-range}
 use Rattle.clusters.proofs.Farris.{anchored-back, anchored-iff}
 use Rattle.interface.specs.Refusals.{
   firstOf,
@@ -58,14 +59,15 @@ unfolding anchoredRefusal anchoredChecks
 anchored-passes n x l slots e =
     let (c₆, e₆) = no-first 6 (wrongCount n) _ (lit< tt) e in
     let (c₁₀, e₁₀) = no-first 10 (not (hasLength n l)) _ (lit< tt) e₆ in
-    let (c₁₁, e₁₁) = no-first 11 (not (inRange l)) _ (lit< tt) e₁₀ in
-    let (c₁₂, e₁₂) = no-first 12 (wrongDistances (pos 3) n l) _ (lit< tt) e₁₁ in
+    let (c₁₁, e₁₁) = no-first 11 (not (scoresInRange l)) _ (lit< tt) e₁₀ in
+    let (c₁₆, e₁₆) = no-first 16 (hasUnscored l) _ (lit< tt) e₁₁ in
+    let (c₁₂, e₁₂) = no-first 12 (wrongDistances (pos 3) n l) _ (lit< tt) e₁₆ in
     let (c₁₅, _) = no-first 15 (wrongAnchor n x || shortSlice slots (rowStart n)) _ (lit< tt) e₁₂ in
     let (hx, hr) = in-place n x slots c₁₅ in
     record {
       count = c₆;
       long = right-length n l c₁₀;
-      range = true-T (not-false (inRange l) c₁₁);
+      range = scored-in-range l (true-T (not-false (scoresInRange l) c₁₁)) (false-T c₁₆);
       distances = true-T (not-false (areDistances n l) (sym (judged n l) ∙ c₁₂));
       anchor = hx;
       room = hr;

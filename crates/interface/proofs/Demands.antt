@@ -8,6 +8,7 @@ use Prim.Native.Nat.{ℕ, zero, suc, _-_, _^_, _<_, _≤_}
 use native.Mathlib.Nat.{pow-le-pow-right}
 use native.Mathlib.Omega.{arith}
 use lib.IntN.{ℤ, pos, negℤ}
+use lib.Signed.{_≤ℤ_}
 use lib.Dec.{T, lit<, lit≤}
 use lib.ListN.{length, take, drop, replicate, length-map}
 use lib.Seq.{take-append-seam, drop-append-seam}
@@ -17,14 +18,17 @@ use Rattle.lists.proofs.Tests.{T-false}
 use Rattle.integers.specs.Integers.{eqZ}
 use Rattle.integers.proofs.Linear.{zarith, up, dn}
 use Rattle.sets.specs.Sets.{size}
-use Rattle.clusters.specs.PairList.{Similarity, Symmetric, rowStart, score}
-use Rattle.clusters.specs.Farris.{unfarris, anchoredScores, distancesBack}
+use Rattle.clusters.specs.PairList.{Similarity, Symmetric, rowStart, score, scoreLimit}
+use Rattle.clusters.specs.Fillings.{Fills}
+use Rattle.clusters.specs.Farris.{farris, unfarris, anchoredScores, distancesBack}
 use Rattle.sets.specs.Sets.{_∪_}
 use Rattle.clusters.specs.Linkage.{Linkage, singles, Tree, mergedBlocks, blocks}
 use Rattle.clusters.proofs.Exists.{tree-length}
-use Rattle.clusters.specs.Groups.{Kind, kindOf, index, groupSets, groups, treeLinkage, treeScores}
+use Rattle.clusters.specs.Groups.{Kind, strong, clean, splits, kindOf, index, groupSets, groups, treeLinkage, TreeScores}
 use Rattle.clusters.proofs.PairList.{score-symm, length-pairList}
 use Rattle.clusters.proofs.Groups.{in-groups, in-groupSets, groups-rise, rising-distinct, of-listed, listed-index, is-listed, groups-sets}
+use Rattle.clusters.proofs.Scored.{AllAllowed}
+use Rattle.clusters.proofs.Fillings.{least-is, scored-fills}
 use Rattle.clusters.proofs.Theorems.{group-in-tree, groups-nested, groups-bound}
 use Rattle.clusters.proofs.Reordering.{groups-image}
 use Rattle.answers.specs.declared.Answer.{Answer}
@@ -57,6 +61,7 @@ use Rattle.interface.specs.Demands.{
   Wrote,
   in-lines,
   in-slots,
+  IndexIs,
   Indices,
   Demand2,
   SameGroups,
@@ -66,6 +71,7 @@ use Rattle.interface.specs.Demands.{
 use Rattle.interface.proofs.Refusals.{first-iff, first-none, passes, few-count}
 use Rattle.interface.proofs.Lines.{Readable, listing-read}
 use Rattle.interface.proofs.Slots.{groups-slots}
+use Rattle.interface.proofs.Accepted.{Passed, passed-allowed, sheet-passed, numbers-passed, linkage-scored}
 use Rattle.interface.proofs.Anchored.{length-anchored, way-back}
 
 -- what a number in C says of the answer: a length, if nothing is refused; minus the number of the refusal
@@ -264,45 +270,72 @@ wrote (in-lines {sheet} {ls = ls} l e) =
     (ap (map {B = ℕ × ℤ} (λ x. (x .set, x .index))) same ∙ lines-groups l, score-symm (pairs sheet))
 wrote (in-slots {l = l} c) = (slots-counted c .0, score-symm l)
 
+-- what a call wrote is of scores that are all allowed
+pub wrote-allowed : {kind : ℤ} {n : ℕ} {s : Similarity} {found : List (ℕ × ℤ)} → Wrote kind n s found → AllAllowed scoreLimit n s
+wrote-allowed {kind} (in-lines {sheet} l e) = let a = accepted l in passed-allowed (sheet-passed kind sheet (a .buffer) (a .passed))
+wrote-allowed {kind} (in-slots {n} {l = l} c) = passed-allowed (go c)
+  where
+    go : {count : ℕ} {indices : List ℤ} {sets : List ℕ} → Counted kind n l count sets indices → Passed kind n l
+    go (by-numbers-call {lentSets} {lentIndices = lentIndices} c z) = numbers-passed kind n l (length lentSets) (length lentIndices)
+        (not-refused (numbersRefusal kind n l (length lentSets) (length lentIndices)) (length (groupsFound kind n l)) (c .answered) z)
+    go (by-numbers-in-C {lentSets} {lentIndices = lentIndices} c count e) =
+        let k = numbersRefusal kind n l (length lentSets) (length lentIndices) in
+        let (z, _) = not-refused-in-C c k (length (groupsFound kind n l)) (c .outcome .answered) e in
+        numbers-passed kind n l (length lentSets) (length lentIndices) (not-refused k (length (groupsFound kind n l)) (c .outcome .answered) z)
+
+-- what computes the index of a set gives its index
+index-is : (k : Kind) (n : ℕ) (s : Similarity) → Symmetric s → (A : ℕ) (z : ℤ) → IndexIs k n s A z ↔ (z ≡ index k n s A)
+unfolding index
+index-is strong n s symm A z = least-is scoreLimit n s symm A z
+index-is clean n s symm A z = (λ e. e, λ e. e)
+index-is splits n s symm A z = (λ e. e, λ e. e)
+
 -- demands 2 and 3 of the groups
-module _ (kind : ℤ) (n : ℕ) (s : Similarity) where
+module _ (kind : ℤ) (n : ℕ) (s : Similarity) (symm : Symmetric s) where
   abbrev these : List (ℕ × ℤ)
   these = groups (kindOf kind) n s
 
   indices-right : Indices kind n s these
-  unfolding index kindOf eqZ
-  indices-right = record {
-    strong-index = λ e A z m. in-groups (kindOf kind) n s A z .0 m .2 ∙ ap (λ (j : ℤ). index (kindOf j) n s A) e;
-    clean-index = λ e A z m. in-groups (kindOf kind) n s A z .0 m .2 ∙ ap (λ (j : ℤ). index (kindOf j) n s A) e;
-    separation-index = λ e A z m. in-groups (kindOf kind) n s A z .0 m .2 ∙ ap (λ (j : ℤ). index (kindOf j) n s A) e;
-  }
+  unfolding kindOf eqZ
+  indices-right = record { strong-index = right (pos 1); clean-index = right (pos 2); separation-index = right (pos 3) }
+    where
+      right : (j : ℤ) → kind ≡ j → (A : ℕ) (z : ℤ) → these lists (A, z) → IndexIs (kindOf j) n s A z
+      right j e A z m = subst (λ (i : ℤ). IndexIs (kindOf i) n s A z) e (index-is (kindOf kind) n s symm A z .1 (in-groups (kindOf kind) n s A z .0 m .2))
 
   member : (A : ℕ) (z : ℤ) → these lists (A, z) → A ∈ groupSets (kindOf kind) n s
   member A z m = let (h, t, _) = in-groups (kindOf kind) n s A z .0 m in in-groupSets (kindOf kind) n s A .1 (h, t)
 
-  module _ (symm : Symmetric s) where
-    in-tree : (j : ℤ) → kind ≡ j → (A : ℕ) (z : ℤ) → these lists (A, z)
-        → (ms : List (ℕ × ℕ)) → Tree (treeLinkage (kindOf j)) n (treeScores (kindOf j) s) ms → A ∈ blocks n ms
-    in-tree j e A z m ms t = group-in-tree (kindOf kind) n s symm A (member A z m) ms
-        (subst (λ (i : ℤ). Tree (treeLinkage (kindOf i)) n (treeScores (kindOf i) s) ms) (sym e) t)
+  in-tree : (j : ℤ) → kind ≡ j → (A : ℕ) (z : ℤ) → these lists (A, z) → (f : Similarity) → TreeScores (kindOf j) n s f
+      → (ms : List (ℕ × ℕ)) → Tree (treeLinkage (kindOf j)) n f ms → A ∈ blocks n ms
+  in-tree j e A z m f h ms t = group-in-tree (kindOf kind) n s symm A (member A z m) f
+      (subst (λ (i : ℤ). TreeScores (kindOf i) n s f) (sym e) h) ms
+      (subst (λ (i : ℤ). Tree (treeLinkage (kindOf i)) n f ms) (sym e) t)
 
-    complete : Complete kind n s these
-    unfolding kindOf eqZ treeLinkage treeScores
-    complete = record {
-      exactly = λ A z. (
-        λ m.
-            let (h, t, e) = in-groups (kindOf kind) n s A z .0 m in
-            (record { fits = h; spoken = of-listed (kindOf kind) n s A t .0; positive = listed-index (kindOf kind) n s A t }, e),
-        λ (p, e). in-groups (kindOf kind) n s A z .1 (p .fits, is-listed (kindOf kind) n s A (p .spoken) (p .positive), e),
-      );
-      once = rw (groups-sets (kindOf kind) n s) (rising-distinct n (groupSets (kindOf kind) n s) (groups-rise (kindOf kind) n s));
-      rising = rw (groups-sets (kindOf kind) n s) (groups-rise (kindOf kind) n s);
-      few = groups-bound (kindOf kind) n s symm;
-      strong-in-trees = in-tree (pos 1);
-      clean-in-trees = in-tree (pos 2);
-      splits-in-trees = in-tree (pos 3);
-      nested = λ A B y z a b. groups-nested (kindOf kind) n s symm A B (member A y a) (member B z b);
-    }
+  complete : Complete kind n s these
+  unfolding kindOf eqZ treeLinkage
+  complete = record {
+    exactly = λ A z.
+        let is = index-is (kindOf kind) n s symm A z in (
+          λ m.
+              let (h, t, e) = in-groups (kindOf kind) n s A z .0 m in
+              record {
+                fits = h;
+                spoken = of-listed (kindOf kind) n s A t .0;
+                index-is = is .1 e;
+                positive = subst (λ y. pos 1 ≤ℤ y) (sym e) (listed-index (kindOf kind) n s A t);
+              },
+          λ p.
+              let e = is .0 (p .index-is) in
+              in-groups (kindOf kind) n s A z .1 (p .fits, is-listed (kindOf kind) n s A (p .spoken) (subst (λ y. pos 1 ≤ℤ y) e (p .positive)), e),
+        );
+    once = rw (groups-sets (kindOf kind) n s) (rising-distinct n (groupSets (kindOf kind) n s) (groups-rise (kindOf kind) n s));
+    rising = rw (groups-sets (kindOf kind) n s) (groups-rise (kindOf kind) n s);
+    few = groups-bound (kindOf kind) n s symm;
+    strong-in-trees = in-tree (pos 1);
+    clean-in-trees = λ e A z m. in-tree (pos 2) e A z m s refl;
+    splits-in-trees = λ e A z m. in-tree (pos 3) e A z m (farris s 0) refl;
+    nested = λ A B y z a b. groups-nested (kindOf kind) n s symm A B (member A y a) (member B z b);
+  }
 
 -- demand 2: the anchored scores, and the way back from what was written
 module _ {n x : ℕ} {distances lent after : List ℤ} {r : Answer} (a : AnchoredCall n x distances lent r after) (z : numberOf r ≡ 0)
@@ -331,7 +364,7 @@ count-in-C (Refused k) z = ap (λ (j : ℕ). negℤ (pos j)) z
 
 pub demand-2 : Demand2
 demand-2 = record {
-  indices = λ {kind} {n} {s} w. subst (λ (g : List (ℕ × ℤ)). Indices kind n s g) (sym (wrote w .0)) (indices-right kind n s);
+  indices = λ {kind} {n} {s} w. let (e, symm) = wrote w in subst (λ (g : List (ℕ × ℤ)). Indices kind n s g) (sym e) (indices-right kind n s symm);
   back = λ a z b room. let (z′, _, e) = back-again a z b room in (z′, e);
   back-in-C = λ {n} {x} {count} {distances} {lent} {after} a q {lent′} {after′} b room.
       let (z, is) = not-refused-in-C a (anchoredRefusal n x distances (length lent)) (rowStart n) (a .outcome .answered) q in
@@ -358,14 +391,23 @@ linked {linkage} {n} {l} {lent} {r = r} c none =
 wrote-all : {kind : ℤ} {n : ℕ} {s : Similarity} {found : List (ℕ × ℤ)} → Wrote kind n s found → Complete kind n s found
 wrote-all {kind} {n} {s} w = let (e, symm) = wrote w in subst (λ (g : List (ℕ × ℤ)). Complete kind n s g) (sym e) (complete kind n s symm)
 
+-- a list of which a linkage call wrote blocks has every pair scored, so it is its own filling
+linked-fills : {linkage : Linkage} {n : ℕ} {l : List ℤ} {lent after : List ℕ} {r : Answer} → LinkageCall linkage n l lent r after → numberOf r ≡ 0
+    → Fills scoreLimit n (score l) (score l)
+linked-fills {n = n} {l} {lent} c none =
+    scored-fills scoreLimit n (score l) (score-symm l)
+    (linkage-scored n l (length lent) (not-refused (linkageRefusal n l (length lent)) (n - 1) (c .answered) none))
+
 -- demand 3
 pub demand-3 : (kind : ℤ) → Demand3 kind
 demand-3 kind = record {
   lines = λ l. (lines l, lines-read l, line-size l);
   slots = λ c. let (e, is) = slots-counted c in ap length e ∙ sym is;
   complete = wrote-all;
-  strong-linked = λ e c none w A z m. let (b, t) = linked c none in
-      subst (λ (bs : List ℕ). A ∈ bs) (sym b) (wrote-all w .strong-in-trees e A z m (c .merges) t);
+  strong-linked = λ e {n} {l} c none w A z m. let (b, t) = linked c none in
+      subst (λ (bs : List ℕ). A ∈ bs) (sym b) (wrote-all w .strong-in-trees e A z m (score l) (linked-fills c none) (c .merges) t);
+  filled-linked = λ e {n} {l} c none fills w A z m. let (b, t) = linked c none in
+      subst (λ (bs : List ℕ). A ∈ bs) (sym b) (wrote-all w .strong-in-trees e A z m (score l) fills (c .merges) t);
   clean-linked = λ e c none w A z m. let (b, t) = linked c none in
       subst (λ (bs : List ℕ). A ∈ bs) (sym b) (wrote-all w .clean-in-trees e A z m (c .merges) t);
   reordered = λ {n} {s} {s′} w w′ p m.

@@ -1,5 +1,6 @@
 -- Document 01's worked example, from the sheet's bytes to the listing's bytes, and one refusal of each number of the C call: by computing.
 use mathlib.Core.Path.{_≡_, refl, ap, ap₂, _∙_}
+use mathlib.Core.Bool.{xor}
 use mathlib.Core.List.{List, [], _∷_, _++_, map, append-nil}
 use mathlib.Core.Option.{some}
 use Prim.Native.Nat.{ℕ, _+_, _/_, _%_, _<_, _≤_}
@@ -11,8 +12,11 @@ use Rattle.lists.specs.Lists.{_∈_, below, each, keep, all}
 use Rattle.lists.proofs.Lists.{all-in, of-map-cong}
 use Rattle.integers.specs.Integers.{minZ, maxZ, eqZ, least}
 use Rattle.sets.specs.Sets.{has, members, others, size}
-use Rattle.clusters.specs.PairList.{rowStart, place, score, pairList, scoreLimit, inRange, areDistances}
+use Rattle.pairs.specs.Pairs.{mark, numberFor, listNumber, carried, isScored}
+use Rattle.clusters.specs.PairList.{rowStart, place, score, pairList, scoreLimit, isInRange, scoresInRange, hasUnscored, areDistances}
+use Rattle.clusters.specs.PairList as PairList
 use Rattle.clusters.specs.Indices.{strongValues, strongIndex}
+use Rattle.clusters.specs.Fillings.{low, high, worst, filledIndex}
 use Rattle.clusters.specs.Groups.{kindOf, index, proper, speaksOf, listed, sets, groupSets, groups}
 use Rattle.answers.specs.declared.Answer.{Answer}
 use Rattle.answers.specs.declared.Answer.the-variants.{Count}
@@ -24,9 +28,12 @@ use Rattle.interface.specs.Sheet.{
   isName,
   isNumeral,
   isValue,
+  isLoneMinus,
+  isCell,
   digitValue,
   numberFrom,
   valueOf,
+  pairSaid,
   longer,
   cut,
   lines,
@@ -80,6 +87,7 @@ use Rattle.interface.specs.Refusals.{
   wrongLines,
   isRow,
   wrongValues,
+  wrongUnscored,
   wrongDistances,
   sheetCallChecks,
   sheetRefusal,
@@ -126,6 +134,24 @@ six =
 unfoldable pub signed : List ℕ
 signed = 65 ∷ 32 ∷ 66 ∷ 10 ∷ 48 ∷ 32 ∷ 45 ∷ 53 ∷ 10 ∷ 45 ∷ 53 ∷ 32 ∷ 48 ∷ 10 ∷ []
 
+-- document 01's example, with C and D never compared, and what is then listed: no set that has C or D
+unfoldable pub unscored : List ℕ
+unscored =
+    65 ∷ 32 ∷ 66 ∷ 32 ∷ 67 ∷ 32 ∷ 68 ∷ 10
+    ∷ 57 ∷ 32 ∷ 56 ∷ 32 ∷ 54 ∷ 32 ∷ 50 ∷ 10
+    ∷ 56 ∷ 32 ∷ 57 ∷ 32 ∷ 53 ∷ 32 ∷ 51 ∷ 10
+    ∷ 54 ∷ 32 ∷ 53 ∷ 32 ∷ 57 ∷ 32 ∷ 45 ∷ 10
+    ∷ 50 ∷ 32 ∷ 51 ∷ 32 ∷ 45 ∷ 32 ∷ 57 ∷ 10
+    ∷ []
+
+unfoldable pub unscoredText : List ℕ
+unscoredText =
+    115 ∷ 101 ∷ 116 ∷ 32 ∷ 115 ∷ 105 ∷ 122 ∷ 101 ∷ 32 ∷ 105 ∷ 110 ∷ 100 ∷ 101 ∷ 120 ∷ 10
+    ∷ 48 ∷ 48 ∷ 48 ∷ 48 ∷ 48 ∷ 48 ∷ 48 ∷ 49 ∷ 32 ∷ 49 ∷ 32 ∷ 49 ∷ 10
+    ∷ 48 ∷ 48 ∷ 48 ∷ 48 ∷ 48 ∷ 48 ∷ 48 ∷ 50 ∷ 32 ∷ 49 ∷ 32 ∷ 49 ∷ 10
+    ∷ 48 ∷ 48 ∷ 48 ∷ 48 ∷ 48 ∷ 48 ∷ 48 ∷ 51 ∷ 32 ∷ 50 ∷ 32 ∷ 50 ∷ 10
+    ∷ []
+
 -- names of which one is a part of the other: `BA A`, `0 0`, `0 0`
 unfoldable pub parted : List ℕ
 parted = 66 ∷ 65 ∷ 32 ∷ 65 ∷ 10 ∷ 48 ∷ 32 ∷ 48 ∷ 10 ∷ 48 ∷ 32 ∷ 48 ∷ 10 ∷ []
@@ -159,10 +185,19 @@ refused =
     ∷ record { kind = pos 1; sheet = 65 ∷ 10 ∷ []; buffer = 15; number = 7 }
     -- the value `-0`
     ∷ record { kind = pos 1; sheet = 65 ∷ 10 ∷ 45 ∷ 48 ∷ 10 ∷ []; buffer = 15; number = 8 }
+    -- two minus signs; the digits of the mark's number
+    ∷ record { kind = pos 1; sheet = 65 ∷ 10 ∷ 45 ∷ 45 ∷ 10 ∷ []; buffer = 15; number = 8 }
+    ∷ record { kind = pos 1; sheet = 65 ∷ 10 ∷ 45 ∷ 50 ∷ 49 ∷ 52 ∷ 55 ∷ 52 ∷ 56 ∷ 51 ∷ 54 ∷ 52 ∷ 56 ∷ 10 ∷ []; buffer = 15; number = 8 }
+    -- one mirrored mark
+    ∷ record { kind = pos 1; sheet = 65 ∷ 32 ∷ 66 ∷ 10 ∷ 48 ∷ 32 ∷ 45 ∷ 10 ∷ 48 ∷ 32 ∷ 48 ∷ 10 ∷ []; buffer = 15; number = 9 }
     -- mirrored values `1` and `2`
     ∷ record { kind = pos 1; sheet = 65 ∷ 32 ∷ 66 ∷ 10 ∷ 48 ∷ 32 ∷ 49 ∷ 10 ∷ 50 ∷ 32 ∷ 48 ∷ 10 ∷ []; buffer = 15; number = 9 }
     -- the value `1000001`
     ∷ record { kind = pos 1; sheet = 65 ∷ 10 ∷ 49 ∷ 48 ∷ 48 ∷ 48 ∷ 48 ∷ 48 ∷ 49 ∷ 10 ∷ []; buffer = 15; number = 11 }
+    -- kind 2, the mark
+    ∷ record { kind = pos 2; sheet = 65 ∷ 10 ∷ 45 ∷ 10 ∷ []; buffer = 0; number = 16 }
+    -- kind 3, the mark, and an own value `1`
+    ∷ record { kind = pos 3; sheet = 65 ∷ 32 ∷ 66 ∷ 10 ∷ 49 ∷ 32 ∷ 45 ∷ 10 ∷ 45 ∷ 32 ∷ 48 ∷ 10 ∷ []; buffer = 15; number = 16 }
     -- kind 3, an own value `1`
     ∷ record { kind = pos 3; sheet = 65 ∷ 10 ∷ 49 ∷ 10 ∷ []; buffer = 15; number = 12 }
     -- a buffer of 14 bytes
@@ -175,11 +210,14 @@ record Computed : Type 0 where
   long : length text ≡ 93
   read : listingRead text ≡ some six
   given : map (λ c. sheetRefusal (c .kind) (c .sheet) (c .buffer)) refused ≡ map (λ c. c .number) refused
-  numbers : map (λ c. c .number) refused ≡ 1 ∷ 2 ∷ 3 ∷ 4 ∷ 5 ∷ 6 ∷ 7 ∷ 8 ∷ 9 ∷ 11 ∷ 12 ∷ 14 ∷ []
+  numbers : map (λ c. c .number) refused ≡ 1 ∷ 2 ∷ 3 ∷ 4 ∷ 5 ∷ 6 ∷ 7 ∷ 8 ∷ 8 ∷ 8 ∷ 9 ∷ 9 ∷ 11 ∷ 16 ∷ 16 ∷ 12 ∷ 14 ∷ []
   positive : T (all (λ c. ltb 0 (c .number)) refused)
   signed-is : pairs signed ≡ pos 0 ∷ negsuc 4 ∷ pos 0 ∷ []
   signed-passes : readerRefusal signed ≡ 0
   signed-two : entries signed ≡ 2
+  unscored-written : sheetListing (pos 1) unscored ≡ unscoredText
+  unscored-passes : sheetRefusal (pos 1) unscored 54 ≡ 0
+  unscored-long : length unscoredText ≡ 54
   name : nameOf parted 1 ≡ 65 ∷ []
   start : nameStart parted 1 ≡ 3
 
@@ -188,7 +226,8 @@ unfolding sheet text six signed parted refused many isUpper isDigit isName isNum
     words value mirrored pairs sameBytes isAmong hasEqual kindOf index proper speaksOf listed sets groupSets groups strongValues strongIndex score place
     rowStart pairList has members others size minZ maxZ eqZ least below each keep all lineOf digit digits hexadecimal decimalFrom decimal signedDecimal
     firstText lineText firstLine listing groupsFound pairsListing sheetListing isHexDigit isSet isDecimal isLine lineRead isFirst lineWords isListing
-    listingRead inRange scoreLimit areDistances firstOf mostBytes mostEntries wrongKind wrongLength isAllowed wrongByte wrongNames equalNames wrongCount
+    listingRead isInRange PairList.isAllowed scoresInRange hasUnscored mark numberFor listNumber carried isScored low high worst xor filledIndex
+    isLoneMinus isCell pairSaid wrongUnscored unscored unscoredText scoreLimit areDistances firstOf mostBytes mostEntries wrongKind wrongLength isAllowed wrongByte wrongNames equalNames wrongCount
     wrongLines isRow wrongValues wrongDistances sheetCallChecks sheetRefusal readerChecks readerRefusal hasName nameOf startOf nameStart
 computed = record {
   written = refl;
@@ -201,21 +240,31 @@ computed = record {
   signed-is = refl;
   signed-passes = refl;
   signed-two = refl;
+  unscored-written = refl;
+  unscored-passes = refl;
+  unscored-long = refl;
   name = refl;
   start = refl;
 }
 
--- the C call on the example's sheet, with a buffer of as many bytes as the listing has
-pub example : (lent after : List ℕ) (r : ℤ) → length lent ≡ 93 → CCall (pos 1) sheet lent r after → (r ≡ pos 93) × (after ≡ text)
+-- the C call on a sheet whose listing is this text of k bytes, with a buffer of as many
+listed-as : (s t : List ℕ) (k : ℕ) → sheetListing (pos 1) s ≡ t → sheetRefusal (pos 1) s k ≡ 0 → length t ≡ k
+    → (lent after : List ℕ) (r : ℤ) → length lent ≡ k → CCall (pos 1) s lent r after → (r ≡ pos k) × (after ≡ t)
 unfolding cNumber answer
-example lent after r long c =
-    let passes : sheetRefusal (pos 1) sheet (length lent) ≡ 0 = ap (sheetRefusal (pos 1) sheet) long ∙ computed .passes in
-    let all : length lent ≤ length text = omega (arith, computed .long) in (
-      answered c (sheetRefusal (pos 1) sheet (length lent)) (length (sheetListing (pos 1) sheet)) (c .outcome .answered)
-          ∙ ap₂ (λ (k : ℕ) (t : List ℕ). cNumber (answer k (length t))) passes (computed .written) ∙ ap pos (computed .long),
-      c .outcome .written ∙ ap₂ (λ (k : ℕ) (t : List ℕ). slots k t lent) passes (computed .written) ∙ slots-written text lent
-          ∙ ap (λ (l : List ℕ). text ++ l) (drop-of-length-le lent all) ∙ append-nil text,
+listed-as s t k written passes size lent after r long c =
+    let none : sheetRefusal (pos 1) s (length lent) ≡ 0 = ap (sheetRefusal (pos 1) s) long ∙ passes in
+    let all : length lent ≤ length t = omega (arith, size) in (
+      answered c (sheetRefusal (pos 1) s (length lent)) (length (sheetListing (pos 1) s)) (c .outcome .answered)
+          ∙ ap₂ (λ (k : ℕ) (t : List ℕ). cNumber (answer k (length t))) none written ∙ ap pos size,
+      c .outcome .written ∙ ap₂ (λ (k : ℕ) (t : List ℕ). slots k t lent) none written ∙ slots-written t lent
+          ∙ ap (λ (l : List ℕ). t ++ l) (drop-of-length-le lent all) ∙ append-nil t,
     )
+
+pub example : (lent after : List ℕ) (r : ℤ) → length lent ≡ 93 → CCall (pos 1) sheet lent r after → (r ≡ pos 93) × (after ≡ text)
+example = listed-as sheet text 93 (computed .written) (computed .passes) (computed .long)
+
+pub unscored-example : (lent after : List ℕ) (r : ℤ) → length lent ≡ 54 → CCall (pos 1) unscored lent r after → (r ≡ pos 54) × (after ≡ unscoredText)
+unscored-example = listed-as unscored unscoredText 54 (computed .unscored-written) (computed .unscored-passes) (computed .unscored-long)
 
 -- and read back, without the writer
 pub example-read : listingRead text ≡ some six
@@ -234,7 +283,7 @@ refused-with c m lent after r long call =
     let minus = demand .refusal (c .number) more .1 (first-iff checks (c .number) more .0 first) in
     (minus, demand .refused (c .number) more minus)
 
-pub every-number : map (λ c. c .number) refused ≡ 1 ∷ 2 ∷ 3 ∷ 4 ∷ 5 ∷ 6 ∷ 7 ∷ 8 ∷ 9 ∷ 11 ∷ 12 ∷ 14 ∷ []
+pub every-number : map (λ c. c .number) refused ≡ 1 ∷ 2 ∷ 3 ∷ 4 ∷ 5 ∷ 6 ∷ 7 ∷ 8 ∷ 8 ∷ 8 ∷ 9 ∷ 9 ∷ 11 ∷ 16 ∷ 16 ∷ 12 ∷ 14 ∷ []
 every-number = computed .numbers
 
 -- a negative value is read as one; a name is told by its place, though its bytes stand elsewhere too

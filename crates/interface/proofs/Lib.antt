@@ -3,6 +3,7 @@ pub mod Digits
 pub mod Numerals
 pub mod Pieces
 pub mod Lines
+pub mod Accepted
 pub mod Anchored
 pub mod Slots
 pub mod Demands
@@ -10,4 +11,5 @@ pub mod Example
 pub mod Calls
 pub mod Unique
 pub mod Requests
+pub mod Unscored
 pub mod SharedExample

@@ -39,6 +39,7 @@ use Rattle.interface.specs.Refusals.{
   check6,
   check10,
   check11,
+  check16Of,
   check12,
   check13,
   check15,
@@ -54,7 +55,7 @@ use Rattle.interface.proofs.Demands.{c-count, c-refused, wrote}
 
 -- 2.1: the checks that this call and the numbers call both make, for a kind that is not 3
 common : ℤ → ℕ → List ℤ → List Check
-common kind n l = check1 kind ∷ check6 n ∷ check10 n l ∷ check11 l ∷ check12 kind n l ∷ []
+common kind n l = check1 kind ∷ check6 n ∷ check10 n l ∷ check11 l ∷ check16Of kind l ∷ check12 kind n l ∷ []
 
 numbered-common : (kind : ℤ) (n : ℕ) (l : List ℤ) → T (numbered (common kind n l))
 unfolding common all
@@ -142,6 +143,9 @@ answered {kind} {n} {l} {i} {j} (refused-in-C c number h e) =
       is-line = sym (shared-nothing (sharedFound kind n l i j .set) (sharedFound kind n l i j .line) k (λ z. omega arith) .1);
     }
 
+pub shared-given : {kind : ℤ} {n : ℕ} {l : List ℤ} {i j number set line : ℕ} → SharedAnswered kind n l i j number set line → number ≡ sharedRefusal kind n l i j
+shared-given c = answered c .is-number
+
 -- the sets gone down are the groups
 found-is : (kind : ℤ) (n : ℕ) (l : List ℤ) (i j : ℕ) → sharedFound kind n l i j ≡ smallestShared n i j (groupSets (kindOf kind) n (score l))
 unfolding sharedFound setsFound groupsFound
@@ -170,7 +174,7 @@ unfolding sharedRefusal sharedChecks all
 shared-left kind n l i j e =
     let checks = sharedChecks kind n l i j in
     let one : T (not (wrongGroupKind kind)) = passes checks tt e 0 (lit< tt) in
-    let fifteen : T (not (wrongEntries n i j)) = passes checks tt e 5 (lit< tt) in
+    let fifteen : T (not (wrongEntries n i j)) = passes checks tt e 6 (lit< tt) in
     let (hi, hj) = right-entries n i j (T-false {b = wrongEntries n i j} fifteen) in
     (T-false {b = wrongGroupKind kind} one, hi, hj)
 

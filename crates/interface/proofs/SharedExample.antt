@@ -1,6 +1,7 @@
 -- Examples of the smallest group that two entries share, by computing: document 01's four entries, whose strong groups stand on lines 1 to 6 and whose
 -- clean groups on lines 1 and 2.
 use mathlib.Core.Path.{_≡_, ap, _∙_, refl}
+use mathlib.Core.Bool.{xor}
 use mathlib.Core.List.{[], _∷_}
 use Prim.Native.Nat.{ℕ}
 use lib.IntN.{ℤ, pos, negℤ}
@@ -8,8 +9,10 @@ use lib.ListN.{getD}
 use Rattle.lists.specs.Lists.{below, each, keep, all}
 use Rattle.integers.specs.Integers.{minZ, maxZ, eqZ, least, sumOf, sum, insert, sort, sumOfSmallest}
 use Rattle.sets.specs.Sets.{has, members, others, size, mask, allEntries}
-use Rattle.clusters.specs.PairList.{rowStart, place, score, scoreLimit, hasLength, inRange}
+use Rattle.pairs.specs.Pairs.{mark, carried, isScored}
+use Rattle.clusters.specs.PairList.{rowStart, place, score, scoreLimit, hasLength, isInRange, isAllowed, scoresInRange, hasUnscored}
 use Rattle.clusters.specs.Indices.{strongValues, strongIndex, weight, pairsOf, weights, cleanIndex}
+use Rattle.clusters.specs.Fillings.{low, high, worst, filledIndex}
 use Rattle.clusters.specs.Groups.{kindOf, index, proper, speaksOf, listed, sets, groupSets, groups}
 use Rattle.clusters.specs.Nesting.{firstFrom, holdsBoth, smallestShared}
 use Rattle.clusters.specs.Bench.{four}
@@ -24,6 +27,7 @@ use Rattle.interface.specs.Refusals.{
   wrongKind,
   wrongGroupKind,
   wrongCount,
+  wrongUnscored,
   wrongDistances,
   wrongAnchor,
   wrongEntries,
@@ -46,7 +50,7 @@ pub record SharedExamples : Type 0 where
 
 pub shared-examples : SharedExamples
 unfolding four below each keep all minZ maxZ eqZ least sumOf sum insert sort sumOfSmallest has members others size mask allEntries rowStart place score
-    scoreLimit hasLength inRange strongValues strongIndex weight pairsOf weights cleanIndex kindOf index proper speaksOf listed sets groupSets groups
+    scoreLimit hasLength isInRange isAllowed scoresInRange hasUnscored mark carried isScored low high worst xor filledIndex wrongUnscored strongValues strongIndex weight pairsOf weights cleanIndex kindOf index proper speaksOf listed sets groupSets groups
     groupsFound firstFrom holdsBoth smallestShared firstOf mostEntries wrongKind wrongGroupKind wrongCount wrongDistances wrongAnchor wrongEntries
     sharedChecks sharedRefusal setsFound sharedFound sharedAnswer
 shared-examples = record { strong = refl; clean = refl }

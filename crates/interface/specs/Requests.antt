@@ -1,20 +1,28 @@
 -- The requests of document 02, said of what the calls answer and write.
 use mathlib.Core.Path.{_≡_}
 use mathlib.Core.Logic.{_⊎_, _≢_, _↔_}
-use mathlib.Core.List.{List, map}
+use mathlib.Core.List.{List, [], _∷_, _++_, map}
 use Prim.Native.Nat.{ℕ, _^_, _<_, _≤_}
 use lib.IntN.{ℤ, pos, negℤ}
-use Rattle.lists.specs.Lists.{_lists_}
+use lib.Signed.{_≤ℤ_}
+use lib.Dec.{T}
+use Rattle.lists.specs.Lists.{_∈_, _lists_}
 use Rattle.sets.specs.Sets.{_∋_, size, allEntries, Subset}
-use Rattle.clusters.specs.PairList.{score}
+use Rattle.pairs.specs.Pairs.{carried, isScored}
+use Rattle.clusters.specs.PairList.{Similarity, score, scoreLimit, hasUnscored}
+use Rattle.clusters.specs.Fillings.{Fills, AllScored, ScoredMore}
+use Rattle.clusters.specs.Linkage.{Linkage}
+use Rattle.clusters.specs.Groups.{plainSets, plainGroups}
 use Rattle.clusters.specs.Reordering.{Permutation, Reordered, image}
 use Rattle.clusters.specs.Nesting.{smallestOfAll, OnLine}
 use Rattle.answers.specs.declared.Answer.{Answer}
 use Rattle.answers.specs.Answers.{numberOf}
 use Rattle.answers.specs.declared.Shared.{Shared}
 use Rattle.answers.specs.Shared.{sharedNumber, sharedSet, sharedLine}
-use Rattle.interface.specs.Refusals.{Given, sharedChecks}
-use Rattle.interface.specs.Calls.{NumbersCall, SharedCall, SharedInC}
+use Rattle.interface.specs.Sheet.{pairs}
+use Rattle.interface.specs.Refusals.{Check, none, Given, check1, check6, check10, check11, check1Groups}
+use Rattle.interface.specs.Refusals.{readerChecks, sharedChecks}
+use Rattle.interface.specs.Calls.{CCall, NumbersCall, LinkageCall, AnchoredCall, SharedCall, SharedInC}
 use Rattle.interface.specs.Demands.{Wrote}
 
 -- 2.1, the smallest group two entries share: the refusal's number, 0 for none, the set and the line that the call
@@ -79,3 +87,38 @@ pub record Request-2-1 (kind : ℤ) : Type 0 where
   pub reordered : {n : ℕ} {l l′ : List ℤ} {i j set line set′ line′ : ℕ} (p : Permutation n)
       → SharedAnswered kind n l i j 0 set line → SharedAnswered kind n l′ (p .to i) (p .to j) 0 set′ line′
       → Reordered n p (score l) (score l′) → (set′ ≡ image n p set) × ((line ≡ 0) ↔ (line′ ≡ 0))
+
+-- 2.2, pairs that were never compared. "get 16 for a sheet with an unscored pair, placed right after 11": what passes
+-- the checks up to 11 gets 16 exactly if a pair is unscored
+abbrev pub Sixteen : (before : List Check) → List ℤ → Type 0
+Sixteen before l = T (none before) × T (hasUnscored l)
+
+pub record Request-2-2 : Type 0 where
+  -- "a set is listed exactly if every filling would list it"
+  pub every-filling : {n : ℕ} {s : Similarity} {found : List (ℕ × ℤ)} → Wrote (pos 1) n s found
+      → (A : ℕ) → ((z : ℤ) × (found lists (A, z))) ↔ ((f : Similarity) → Fills scoreLimit n s f → A ∈ plainSets n f)
+  -- "Scoring one more pair never removes a listed group", nor does scoring several; its index does not fall
+  pub scoring : {n : ℕ} {s later : Similarity} {found found′ : List (ℕ × ℤ)}
+      → Wrote (pos 1) n s found → Wrote (pos 1) n later found′ → ScoredMore scoreLimit n s later
+      → (A : ℕ) (z : ℤ) → found lists (A, z) → (y : ℤ) × (found′ lists (A, y)) × (z ≤ℤ y)
+  -- no set that an unscored pair touches is listed
+  pub touched : {n : ℕ} {s : Similarity} {found : List (ℕ × ℤ)} → Wrote (pos 1) n s found → (A : ℕ) (z : ℤ)
+      → found lists (A, z) → (a b : ℕ) → a < n → b < n → A ∋ a → T (isScored (carried (s a b)))
+  -- with every pair scored all is as document 01 has it
+  pub all-scored : {n : ℕ} {s : Similarity} {found : List (ℕ × ℤ)} → Wrote (pos 1) n s found → AllScored n s
+      → found ≡ plainGroups n s
+  -- "Kinds 2 and 3, the linkage calls and the anchored scores get 16"; kind 1 does not
+  pub of-sheet : {kind r : ℤ} {sheet lent after : List ℕ} → CCall kind sheet lent r after
+      → (r ≡ negℤ (pos 16))
+      ↔ ((kind ≢ pos 1) × Sixteen ((check1 kind ∷ readerChecks sheet) ++ (check11 (pairs sheet) ∷ [])) (pairs sheet))
+  pub of-numbers : {kind : ℤ} {n : ℕ} {l lentIndices indices : List ℤ} {lentSets sets : List ℕ} {r : Answer}
+      → NumbersCall kind n l lentSets lentIndices r sets indices
+      → (numberOf r ≡ 16) ↔ ((kind ≢ pos 1) × Sixteen (check1 kind ∷ check6 n ∷ check10 n l ∷ check11 l ∷ []) l)
+  pub of-shared : {kind : ℤ} {n : ℕ} {l : List ℤ} {i j number set line : ℕ}
+      → SharedAnswered kind n l i j number set line
+      → (number ≡ 16) ↔ ((kind ≢ pos 1) × Sixteen (check1Groups kind ∷ check6 n ∷ check10 n l ∷ check11 l ∷ []) l)
+  pub of-linkage : {linkage : Linkage} {n : ℕ} {l : List ℤ} {lent after : List ℕ} {r : Answer}
+      → LinkageCall linkage n l lent r after
+      → (numberOf r ≡ 16) ↔ Sixteen (check6 n ∷ check10 n l ∷ check11 l ∷ []) l
+  pub of-anchored : {n x : ℕ} {l lent after : List ℤ} {r : Answer} → AnchoredCall n x l lent r after
+      → (numberOf r ≡ 16) ↔ Sixteen (check6 n ∷ check10 n l ∷ check11 l ∷ []) l

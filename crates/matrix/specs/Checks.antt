@@ -6,20 +6,24 @@ use Prim.Native.Nat.{ℕ, _≤_}
 use lib.Dec.{T}
 use lib.IntN.{ℤ}
 use lib.ListN.{length}
-use Rattle.clusters.specs.PairList.{rowStart, inRange}
-use Rattle.interface.specs.Refusals.{Check, check6, check10, check11}
+use Rattle.clusters.specs.PairList.{rowStart, scoresInRange}
+use Rattle.interface.specs.Refusals.{Check, check6, check10, check11, check16}
 
 -- of the way back
 unfoldable pub lengthChecks : ℕ → List ℤ → List Check
 lengthChecks n l = check6 n ∷ check10 n l ∷ []
 
--- of the numbers call, the linkage calls and the anchored scores
+-- of the numbers call
 unfoldable pub pairChecks : ℕ → List ℤ → List Check
 pairChecks n l = check6 n ∷ check10 n l ∷ check11 l ∷ []
 
--- what checks 6, 10 and 11 pass: the pair list of 1 to 32 entries, its values in range
+-- of the linkage calls and the anchored scores
+unfoldable pub scoredChecks : ℕ → List ℤ → List Check
+scoredChecks n l = check6 n ∷ check10 n l ∷ check11 l ∷ check16 l ∷ []
+
+-- what checks 6, 10 and 11 pass: the pair list of 1 to 32 entries, its scores in range
 pub record Checked (n : ℕ) (l : List ℤ) : Type 0 where
   pub some : 1 ≤ n
   pub few : n ≤ 32
   pub long : length l ≡ rowStart n
-  pub range : T (inRange l)
+  pub range : T (scoresInRange l)

@@ -1,16 +1,20 @@
-// The pair list as lent: scores looked up by two entries, and checks 6 and 10 to 12 (document 01, Where a call is
-// turned away).
+// The pair list as lent: scores looked up by two entries, and checks 6, 10 to 12 and 16 (document 01, Where a call is
+// turned away; document 02, 2.2).
 ghost use mathlib.Core.Path.{_≡_};
-ghost use mathlib.Core.Bool.{_&&_};
+ghost use mathlib.Core.Bool.{not};
 ghost use Prim.Native.Nat.{_+_, _<_, _≤_};
-ghost use lib.IntN.{pos, negℤ};
+ghost use lib.IntN.{pos};
 ghost use lib.ListN.{length, getD};
 ghost use lib.Signed.{leZ};
 ghost use Rattle.lists.specs.Lists.{all, below};
 ghost use Rattle.integers.specs.Integers.{eqZ};
-ghost use Rattle.clusters.specs.PairList.{rowStart, place, score, scoreLimit, hasLength, inRange, areDistances};
+ghost use Rattle.pairs.specs.Pairs.{carried, pairOf, isScored};
+ghost use Rattle.clusters.specs.PairList.{rowStart, place, score, scoreLimit, hasLength, isInRange, isAllowed};
+ghost use Rattle.clusters.specs.PairList.{scoresInRange, hasUnscored, areDistances};
+ghost use Rattle.clusters.specs.Touched.{rowScored, touchedEntries};
 ghost use Rattle.interface.specs.Refusals.{firstOf, wrongCount, wrongEntries};
-ghost use Rattle.matrix.specs.Checks.{lengthChecks, pairChecks};
+ghost use Rattle.matrix.specs.Checks.{lengthChecks, pairChecks, scoredChecks};
+use pairs::Pair;
 
 // The row starts: row i of the lower triangle starts at i(i+1)/2.
 const ROW_STARTS: [u16; 32] = [
@@ -108,6 +112,14 @@ pub fn score(pairs: &[i32], a: usize, b: usize) -> i64
     value(pairs, place_of(a, b))
 }
 
+// The pair of a and b, as the list has it.
+pub fn pair(pairs: &[i32], a: usize, b: usize) -> Pair
+    requires { ⌜ (a < 32) × (b < 32) × (place a b < length (now pairs)) ⌝ }
+    ensures { λ r. ⌜ r ≡ pairOf (score (now (pairs .entry)) a b) ⌝ }
+{
+    pairs::pair_of(pairs[place_of(a, b)])
+}
+
 // Check 6.
 pub fn is_wrong_count(n: usize) -> bool
     ensures { λ r. ⌜ r ≡ wrongCount n ⌝ }
@@ -127,21 +139,48 @@ pub fn has_length(n: usize, pairs: &[i32]) -> bool
 }
 
 fn is_in_range(v: i64) -> bool
-    ensures { λ r. ⌜ r ≡ (leZ (negℤ (pos scoreLimit)) v && leZ v (pos scoreLimit)) ⌝ }
+    ensures { λ r. ⌜ r ≡ isInRange scoreLimit v ⌝ }
 {
-    integers::at_most(-1000000, v) && integers::at_most(v, 1000000)
+    integers::at_most(-1000000, v) & integers::at_most(v, 1000000)
 }
 
-// Check 11.
-pub fn in_range(pairs: &[i32]) -> bool
-    ensures { λ r. ⌜ r ≡ inRange (now (pairs .entry)) ⌝ }
+// A score in the range, or the mark.
+fn is_allowed(v: i32) -> bool
+    ensures { λ r. ⌜ r ≡ isAllowed scoreLimit (carried v) ⌝ }
 {
-    for i in 0..pairs.len() {
-        if !is_in_range(value(pairs, i)) {
-            return false;
-        }
+    pairs::is_mark(v) | is_in_range(integers::wide(v))
+}
+
+// Check 11. Without an early exit the loop becomes vector code, as in has_unscored.
+pub fn scores_in_range(pairs: &[i32]) -> bool
+    ensures { λ r. ⌜ r ≡ scoresInRange (now (pairs .entry)) ⌝ }
+{
+    let mut good = true;
+    let mut i: usize = 0;
+    while i < pairs.len() {
+        good = good & is_allowed(pairs[i]);
+        i += 1;
     }
-    true
+    good
+}
+
+fn is_scored(v: i32) -> bool
+    ensures { λ r. ⌜ r ≡ isScored (carried v) ⌝ }
+{
+    !pairs::is_mark(v)
+}
+
+// Check 16.
+pub fn has_unscored(pairs: &[i32]) -> bool
+    ensures { λ r. ⌜ r ≡ hasUnscored (now (pairs .entry)) ⌝ }
+{
+    let mut scored = true;
+    let mut i: usize = 0;
+    while i < pairs.len() {
+        scored = scored & is_scored(pairs[i]);
+        i += 1;
+    }
+    !scored
 }
 
 // Checks 6 and 10: the first number whose condition holds, 0 if none does.
@@ -165,10 +204,57 @@ pub fn refusal(n: usize, pairs: &[i32]) -> usize
     if refused != 0 {
         return refused;
     }
-    if !in_range(pairs) {
+    if !scores_in_range(pairs) {
         return 11;
     }
     0
+}
+
+// Checks 6, 10, 11 and 16, of the calls that take no unscored pair.
+pub fn scored_refusal(n: usize, pairs: &[i32]) -> usize
+    ensures { λ r. ⌜ r ≡ firstOf (scoredChecks n (now (pairs .entry))) ⌝ }
+{
+    let refused = refusal(n, pairs);
+    if refused != 0 {
+        return refused;
+    }
+    if has_unscored(pairs) {
+        return 16;
+    }
+    0
+}
+
+// Every pair of a is scored.
+fn is_row_scored(n: usize, pairs: &[i32], a: usize) -> bool
+    requires { ⌜ (n ≤ 32) × (length (now pairs) ≡ rowStart n) × (a < n) ⌝ }
+    ensures { λ r. ⌜ r ≡ rowScored n (score (now (pairs .entry))) a ⌝ }
+{
+    let mut at = place_of(a, 0);
+    for b in 0..n {
+        if !is_scored(pairs[at]) {
+            return false;
+        }
+        at = next_place(at, a, b);
+    }
+    true
+}
+
+// The entries that an unscored pair touches.
+pub fn touched_entries(n: usize, pairs: &[i32]) -> u32
+    requires { ⌜ (n ≤ 32) × (length (now pairs) ≡ rowStart n) ⌝ }
+    ensures { λ r. ⌜ r ≡ touchedEntries n (score (now (pairs .entry))) ⌝ }
+{
+    if !has_unscored(pairs) {
+        return 0;
+    }
+    let mut touched = 0u32;
+    for a in 0..n {
+        if is_row_scored(n, pairs, a) {
+            continue;
+        }
+        touched = sets::union(touched, sets::single(a));
+    }
+    touched
 }
 
 fn are_not_negative(pairs: &[i32]) -> bool

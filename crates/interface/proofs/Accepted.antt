@@ -1,0 +1,88 @@
+-- What checks 11 and 16 leave of the pairs, for each call that makes them.
+use mathlib.Core.Path.{_≡_, sym, _∙_, subst}
+use mathlib.Core.Bool.{Bool, true, false, not, _&&_}
+use mathlib.Core.Logic.{_≢_}
+use mathlib.Core.List.{List}
+use Prim.Native.Nat.{ℕ}
+use lib.Dec.{T, lit<, not-T}
+use lib.IntN.{ℤ, pos}
+use lib.ListN.{length}
+use Rattle.lists.specs.Lists.{all}
+use Rattle.lists.proofs.Tests.{T-false, T-or-not}
+use Rattle.integers.specs.Integers.{eqZ}
+use Rattle.integers.proofs.Linear.{eqZ-yes}
+use Rattle.clusters.specs.PairList.{rowStart, score, scoreLimit, hasLength, scoresInRange, hasUnscored}
+use Rattle.clusters.specs.Fillings.{AllScored}
+use Rattle.clusters.proofs.PairList.{length-pairList}
+use Rattle.clusters.proofs.Scored.{AllAllowed, list-allowed, list-scored}
+use Rattle.interface.specs.Sheet.{entries, value, pairs}
+use Rattle.interface.specs.Refusals.{
+  wrongUnscored,
+  sheetCallChecks,
+  sheetRefusal,
+  numbersChecks,
+  numbersRefusal,
+  linkageChecks,
+  linkageRefusal,
+  sharedChecks,
+  sharedRefusal,
+}
+use Rattle.interface.proofs.Refusals.{passes, right-length}
+
+not-not : (b : Bool) → T (not (not b)) → T b
+not-not true t = tt
+not-not false t = absurd t
+
+-- what 16 leaves to a kind that is not 1
+unscored-left : (kind : ℤ) (l : List ℤ) → kind ≢ pos 1 → T (not (wrongUnscored kind l)) → T (not (hasUnscored l))
+unfolding wrongUnscored
+unscored-left kind l d t =
+    subst (λ b. T (not (not b && hasUnscored l))) (T-false {b = eqZ kind (pos 1)} (not-T (eqZ kind (pos 1)) (λ h. d (eqZ-yes kind (pos 1) h)))) t
+
+-- of n entries: every score is in range, and if the kind is not 1, every pair is scored
+pub record Passed (kind : ℤ) (n : ℕ) (l : List ℤ) : Type 0 where
+  pub long : length l ≡ rowStart n
+  pub range : T (scoresInRange l)
+  pub sixteen : T (not (wrongUnscored kind l))
+
+module _ {kind : ℤ} {n : ℕ} {l : List ℤ} (p : Passed kind n l) where
+  pub passed-allowed : AllAllowed scoreLimit n (score l)
+  passed-allowed = list-allowed n l (p .long) (p .range)
+
+  pub passed-scored : kind ≢ pos 1 → AllScored n (score l)
+  passed-scored d = list-scored n l (p .long) (unscored-left kind l d (p .sixteen))
+
+pub sheet-passed : (kind : ℤ) (s : List ℕ) (buffer : ℕ) → sheetRefusal kind s buffer ≡ 0 → Passed kind (entries s) (pairs s)
+unfolding sheetRefusal sheetCallChecks all pairs
+sheet-passed kind s buffer e = record {
+  long = length-pairList (entries s) (value s);
+  range = not-not (scoresInRange (pairs s)) (passes (sheetCallChecks kind s buffer) tt e 9 (lit< tt));
+  sixteen = passes (sheetCallChecks kind s buffer) tt e 10 (lit< tt);
+}
+
+pub numbers-passed : (kind : ℤ) (n : ℕ) (l : List ℤ) (sets indices : ℕ) → numbersRefusal kind n l sets indices ≡ 0 → Passed kind n l
+unfolding numbersRefusal numbersChecks all
+numbers-passed kind n l sets indices e =
+    let checks = numbersChecks kind n l sets indices in
+    record {
+      long = right-length n l (T-false {b = not (hasLength n l)} (passes checks tt e 2 (lit< tt)));
+      range = not-not (scoresInRange l) (passes checks tt e 3 (lit< tt));
+      sixteen = passes checks tt e 4 (lit< tt);
+    }
+
+pub shared-passed : (kind : ℤ) (n : ℕ) (l : List ℤ) (i j : ℕ) → sharedRefusal kind n l i j ≡ 0 → Passed kind n l
+unfolding sharedRefusal sharedChecks all
+shared-passed kind n l i j e =
+    let checks = sharedChecks kind n l i j in
+    record {
+      long = right-length n l (T-false {b = not (hasLength n l)} (passes checks tt e 2 (lit< tt)));
+      range = not-not (scoresInRange l) (passes checks tt e 3 (lit< tt));
+      sixteen = passes checks tt e 4 (lit< tt);
+    }
+
+-- a linkage call takes scores only
+pub linkage-scored : (n : ℕ) (l : List ℤ) (slots : ℕ) → linkageRefusal n l slots ≡ 0 → AllScored n (score l)
+unfolding linkageRefusal linkageChecks all
+linkage-scored n l slots e =
+    let checks = linkageChecks n l slots in
+    list-scored n l (right-length n l (T-false {b = not (hasLength n l)} (passes checks tt e 1 (lit< tt)))) (passes checks tt e 3 (lit< tt))

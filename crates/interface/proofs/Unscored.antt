@@ -1,0 +1,182 @@
+-- Request 2.2, from the outcomes of the calls and the theorems about fillings.
+use mathlib.Core.Path.{_≡_, refl, sym, ap, _∙_, subst}
+use mathlib.Core.Bool.{Bool, true, false, not, cond, _&&_, _||_}
+use mathlib.Core.Logic.{_≢_, _↔_}
+use mathlib.Core.List.{List, [], _∷_, _++_}
+use Prim.Native.Nat.{ℕ, _-_, _<_}
+use native.Mathlib.Omega.{arith}
+use lib.Dec.{T, T-not, not-T, eqb, lit<}
+use lib.IntN.{ℤ, pos, negℤ}
+use lib.ListN.{length}
+use Rattle.lists.specs.Lists.{_∈_, _lists_, all}
+use Rattle.lists.proofs.Tests.{and-T, T-and, eqb-no, eqb-yes}
+use Rattle.integers.specs.Integers.{eqZ}
+use Rattle.integers.proofs.Linear.{eqZ-yes}
+use Rattle.clusters.specs.PairList.{Similarity, Symmetric, rowStart, score, scoreLimit, hasUnscored}
+use Rattle.clusters.specs.Groups.{strong, kindOf, index, groupSets, groups}
+use Rattle.clusters.proofs.PairList.{score-symm}
+use Rattle.clusters.proofs.Groups.{in-groups, in-groupSets}
+use Rattle.clusters.proofs.Scored.{AllAllowed}
+use Rattle.clusters.proofs.Unscored.{group-every-filling, scoring-keeps, scored-groups, touched-unlisted}
+use Rattle.answers.specs.declared.Answer.{Answer}
+use Rattle.answers.specs.Answers.{numberOf, answer}
+use Rattle.answers.proofs.Answers.{number-answer}
+use Rattle.interface.specs.Sheet.{entries, pairs}
+use Rattle.interface.specs.Listing.{groupsFound, sheetListing}
+use Rattle.interface.specs.Refusals.{
+  Check,
+  firstOf,
+  none,
+  wrongUnscored,
+  wrongAnchor,
+  wrongEntries,
+  shortSlice,
+  check1,
+  check1Groups,
+  check6,
+  check10,
+  check11,
+  check12,
+  check13,
+  check14,
+  check15,
+  sheetCallChecks,
+  sheetRefusal,
+  numbersChecks,
+  numbersRefusal,
+  linkageChecks,
+  linkageRefusal,
+  anchoredChecks,
+  anchoredRefusal,
+  readerChecks,
+  sharedChecks,
+  sharedRefusal,
+}
+use Rattle.interface.specs.Demands.{Wrote}
+use Rattle.interface.specs.Requests.{Sixteen, Request-2-2}
+use Rattle.interface.proofs.Demands.{c-refused, answered, wrote, wrote-allowed}
+use Rattle.interface.proofs.Requests.{shared-given}
+
+-- a number that stands once in a table is given exactly if its condition holds and none before it does
+abbrev apart : ℕ → List Check → Bool
+apart k checks = all (λ c. not (eqb (c .0) k)) checks
+
+never : (k : ℕ) (checks : List Check) → 0 < k → T (apart k checks) → firstOf checks ≡ k → ⊥
+unfolding firstOf all
+never k [] h t e = absurd (omega arith)
+never k (c ∷ checks) h t e = go (c .0) (c .1) t e (never k checks h)
+  where
+    go : (m : ℕ) (b : Bool) → T (not (eqb m k) && apart k checks) → cond b m (firstOf checks) ≡ k → (T (apart k checks) → firstOf checks ≡ k → ⊥) → ⊥
+    go m true t e ih = eqb-no m k (and-T (not (eqb m k)) (apart k checks) t .0) e
+    go m false t e ih = ih (and-T (not (eqb m k)) (apart k checks) t .1) e
+
+first-at : (k : ℕ) → 0 < k → (before : List Check) (holds : Bool) (after : List Check) → T (apart k before) → T (apart k after)
+    → (firstOf (before ++ ((k, holds) ∷ after)) ≡ k) ↔ (T (none before) × T holds)
+unfolding firstOf all
+first-at k h [] true after t u = (λ _. (tt, tt), λ _. refl)
+first-at k h [] false after t u = (λ e. absurd (never k after h u e), λ (_, f). absurd f)
+first-at k h (c ∷ before) holds after t u = go (c .0) (c .1) t (λ v. first-at k h before holds after v u)
+  where
+    rest : ℕ
+    rest = firstOf (before ++ ((k, holds) ∷ after))
+
+    go : (m : ℕ) (b : Bool) → T (not (eqb m k) && apart k before) → (T (apart k before) → (rest ≡ k) ↔ (T (none before) × T holds))
+        → (cond b m rest ≡ k) ↔ (T (not b && none before) × T holds)
+    go m true t ih = (λ e. absurd (eqb-no m k (and-T (not (eqb m k)) (apart k before) t .0) e), λ (f, _). absurd f)
+    go m false t ih = ih (and-T (not (eqb m k)) (apart k before) t .1)
+
+-- the condition of 16 for a kind
+of-kind : (kind : ℤ) (l : List ℤ) (before : List Check) → (T (none before) × T (wrongUnscored kind l)) ↔ ((kind ≢ pos 1) × Sixteen before l)
+unfolding wrongUnscored eqZ
+of-kind kind l before = (
+  λ (x, t).
+      let (f, u) = and-T (not (eqZ kind (pos 1))) (hasUnscored l) t in
+      (λ e. T-not (eqZ kind (pos 1)) f (subst (λ k. T (eqZ k (pos 1))) (sym e) tt), (x, u)),
+  λ (d, (x, u)). (x, T-and (not (eqZ kind (pos 1))) (hasUnscored l) (not-T (eqZ kind (pos 1)) (λ t. d (eqZ-yes kind (pos 1) t))) u),
+)
+
+-- each table, parted at 16
+module _ (kind : ℤ) (n : ℕ) (l : List ℤ) where
+  numbers-sixteen : (sets indices : ℕ)
+      → (numbersRefusal kind n l sets indices ≡ 16) ↔ ((kind ≢ pos 1) × Sixteen (check1 kind ∷ check6 n ∷ check10 n l ∷ check11 l ∷ []) l)
+  unfolding numbersRefusal numbersChecks all
+  numbers-sixteen sets indices =
+      let before = check1 kind ∷ check6 n ∷ check10 n l ∷ check11 l ∷ [] in
+      let f = first-at 16 (lit< tt) before (wrongUnscored kind l) (check12 kind n l ∷ check13 n sets indices ∷ []) tt tt in
+      let g = of-kind kind l before in
+      (λ e. g .0 (f .0 e), λ x. f .1 (g .1 x))
+
+  shared-sixteen : (i j : ℕ)
+      → (sharedRefusal kind n l i j ≡ 16) ↔ ((kind ≢ pos 1) × Sixteen (check1Groups kind ∷ check6 n ∷ check10 n l ∷ check11 l ∷ []) l)
+  unfolding sharedRefusal sharedChecks all
+  shared-sixteen i j =
+      let before = check1Groups kind ∷ check6 n ∷ check10 n l ∷ check11 l ∷ [] in
+      let f = first-at 16 (lit< tt) before (wrongUnscored kind l) (check12 kind n l ∷ check15 (wrongEntries n i j) ∷ []) tt tt in
+      let g = of-kind kind l before in
+      (λ e. g .0 (f .0 e), λ x. f .1 (g .1 x))
+
+sheet-sixteen : (kind : ℤ) (s : List ℕ) (buffer : ℕ) → (sheetRefusal kind s buffer ≡ 16)
+    ↔ ((kind ≢ pos 1) × Sixteen ((check1 kind ∷ readerChecks s) ++ (check11 (pairs s) ∷ [])) (pairs s))
+unfolding sheetRefusal sheetCallChecks readerChecks all
+sheet-sixteen kind s buffer =
+    let before = (check1 kind ∷ readerChecks s) ++ (check11 (pairs s) ∷ []) in
+    let f = first-at 16 (lit< tt) before (wrongUnscored kind (pairs s)) (check12 kind (entries s) (pairs s) ∷ check14 buffer (sheetListing kind s) ∷ []) tt tt in
+    let g = of-kind kind (pairs s) before in
+    (λ e. g .0 (f .0 e), λ x. f .1 (g .1 x))
+
+linkage-sixteen : (n : ℕ) (l : List ℤ) (slots : ℕ) → (linkageRefusal n l slots ≡ 16) ↔ Sixteen (check6 n ∷ check10 n l ∷ check11 l ∷ []) l
+unfolding linkageRefusal linkageChecks all
+linkage-sixteen n l slots =
+    first-at 16 (lit< tt) (check6 n ∷ check10 n l ∷ check11 l ∷ []) (hasUnscored l) (check15 (shortSlice slots (n - 1)) ∷ []) tt tt
+
+anchored-sixteen : (n x : ℕ) (l : List ℤ) (slots : ℕ) → (anchoredRefusal n x l slots ≡ 16) ↔ Sixteen (check6 n ∷ check10 n l ∷ check11 l ∷ []) l
+unfolding anchoredRefusal anchoredChecks all
+anchored-sixteen n x l slots =
+    first-at 16 (lit< tt) (check6 n ∷ check10 n l ∷ check11 l ∷ []) (hasUnscored l)
+    (check12 (pos 3) n l ∷ check15 (wrongAnchor n x || shortSlice slots (rowStart n)) ∷ []) tt tt
+
+-- the number of an answer whose table gives k
+given : {r : Answer} (k c : ℕ) {j : ℕ} {X : Type 0} → r ≡ answer k c → (k ≡ j) ↔ X → (numberOf r ≡ j) ↔ X
+given k c e f =
+    let q = ap numberOf e ∙ number-answer k c in
+    (λ z. f .0 (sym q ∙ z), λ x. q ∙ f .1 x)
+
+-- what was written for kind 1 is the strong groups
+strong-wrote : {n : ℕ} {s : Similarity} {found : List (ℕ × ℤ)} → Wrote (pos 1) n s found → found ≡ groups strong n s
+unfolding kindOf eqZ
+strong-wrote w = wrote w .0
+
+pub request-2-2 : Request-2-2
+request-2-2 = record {
+  every-filling = λ {n} {s} w A.
+      let e = strong-wrote w in
+      let f = group-every-filling n s (wrote w .1) A in (
+        λ (z, m).
+            let (h, t, _) = in-groups strong n s A z .0 (subst (λ (g : List (ℕ × ℤ)). g lists (A, z)) e m) in
+            f .0 (in-groupSets strong n s A .1 (h, t)),
+        λ g.
+            let (h, t) = in-groupSets strong n s A .0 (f .1 g) in
+            let z = index strong n s A in
+            (z, subst (λ (g : List (ℕ × ℤ)). g lists (A, z)) (sym e) (in-groups strong n s A z .1 (h, t, refl))),
+      );
+  scoring = λ {n} {s} {later} w w′ more A z m.
+      let (y, k, h) = scoring-keeps n s later (wrote w′ .1) more A z (subst (λ (g : List (ℕ × ℤ)). g lists (A, z)) (strong-wrote w) m) in
+      (y, subst (λ (g : List (ℕ × ℤ)). g lists (A, y)) (sym (strong-wrote w′)) k, h);
+  touched = λ {n} {s} w A z m.
+      let (h, t, _) = in-groups strong n s A z .0 (subst (λ (g : List (ℕ × ℤ)). g lists (A, z)) (strong-wrote w) m) in
+      touched-unlisted n s (wrote-allowed w) A (in-groupSets strong n s A .1 (h, t));
+  all-scored = λ {n} {s} w scored. strong-wrote w ∙ scored-groups n s scored;
+  of-sheet = λ {kind} {r} {sheet} {lent} c.
+      let k = sheetRefusal kind sheet (length lent) in
+      let many = length (sheetListing kind sheet) in
+      let is = answered c k many (c .outcome .answered) in
+      let f = c-refused k many 16 (lit< tt) in
+      let g = sheet-sixteen kind sheet (length lent) in
+      (λ e. g .0 (f .0 (sym is ∙ e)), λ x. is ∙ f .1 (g .1 x));
+  of-numbers = λ {kind} {n} {l} {lentIndices} {indices} {lentSets} c. given _ _ (c .answered) (numbers-sixteen kind n l (length lentSets) (length lentIndices));
+  of-shared = λ {kind} {n} {l} {i} {j} c.
+      let f = shared-sixteen kind n l i j in
+      (λ e. f .0 (sym (shared-given c) ∙ e), λ x. shared-given c ∙ f .1 x);
+  of-linkage = λ {linkage} {n} {l} {lent} c. given _ _ (c .answered) (linkage-sixteen n l (length lent));
+  of-anchored = λ {n} {x} {l} {lent} c. given _ _ (c .answered) (anchored-sixteen n x l (length lent));
+}
