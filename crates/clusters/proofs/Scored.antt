@@ -1,10 +1,9 @@
 -- What checks 11 and 16 leave of a pair list.
-use mathlib.Core.Path.{_≡_, sym, subst}
-use mathlib.Core.Bool.{not, Bool·not-not}
+use mathlib.Core.Path.{_≡_, refl, subst}
+use mathlib.Core.Bool.{Bool, true, false, not, cond, _||_, Bool·not-not}
 use mathlib.Core.Logic.{_⊎_, inl, inr}
 use mathlib.Core.List.{List}
 use Prim.Native.Nat.{ℕ, _<_}
-use native.Mathlib.Omega.{arith}
 use lib.IntN.{ℤ, pos, negℤ}
 use lib.Signed.{leZ, leZ-yes}
 use lib.Dec.{T}
@@ -12,6 +11,7 @@ use lib.ListN.{length}
 use Rattle.lists.specs.Lists.{_∈_, all}
 use Rattle.lists.proofs.Tests.{and-T, T-and}
 use Rattle.lists.proofs.Lists.{all-in, in-all}
+use Rattle.integers.specs.Integers.{eqZ}
 use Rattle.integers.specs.Range.{Within}
 use Rattle.pairs.specs.declared.Carried.the-variants.{Scored, Unscored}
 use Rattle.pairs.specs.Pairs.{mark, carried, isScored}
@@ -43,6 +43,15 @@ allowed-cases {limit} {z} t = go (carried-cases z)
     go : Cases z → (z ≡ mark) ⊎ Within limit z
     go (inl e) = inr (allowed-within (subst (λ p. T (isAllowed limit p)) e t))
     go (inr (m, _)) = inl m
+
+-- the test as the code makes it
+pub allowed-test : (limit : ℕ) (z : ℤ) → eqZ z mark || isInRange limit z ≡ isAllowed limit (carried z)
+unfolding carried isAllowed
+allowed-test limit z = go (eqZ z mark)
+  where
+    go : (b : Bool) → b || isInRange limit z ≡ isAllowed limit (cond b Unscored (Scored z))
+    go true = refl
+    go false = refl
 
 -- a pair list of n entries that passes 11, and one that has no unscored pair
 module _ (n : ℕ) (l : List ℤ) (long : length l ≡ rowStart n) where

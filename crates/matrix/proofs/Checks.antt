@@ -4,15 +4,15 @@ use mathlib.Core.Bool.{not}
 use mathlib.Core.List.{List, [], _∷_}
 use Prim.Native.Nat.{ℕ, _≤_}
 use borrow.Author.Tests.{not-false}
-use lib.Dec.{lit<}
+use lib.Dec.{T, lit<}
 use lib.IntN.{ℤ}
 use lib.ListN.{length}
 use Rattle.lists.specs.Lists.{all}
-use Rattle.lists.proofs.Tests.{true-T}
-use Rattle.clusters.specs.PairList.{rowStart, hasLength, inRange}
-use Rattle.interface.specs.Refusals.{Check, firstOf, wrongCount, check6, check10, check11}
+use Rattle.lists.proofs.Tests.{true-T, false-T}
+use Rattle.clusters.specs.PairList.{rowStart, hasLength, scoresInRange, hasUnscored}
+use Rattle.interface.specs.Refusals.{Check, firstOf, wrongCount, check6, check10, check11, check16}
 use Rattle.interface.proofs.Refusals.{Gives, no-first, first-front, first-back, some-count, right-count, right-length}
-use Rattle.matrix.specs.Checks.{lengthChecks, pairChecks, Checked}
+use Rattle.matrix.specs.Checks.{lengthChecks, pairChecks, scoredChecks, Checked}
 
 -- a table that goes on behind them and gives 0, read backwards
 module _ (n : ℕ) (l : List ℤ) (rest : List Check) where
@@ -26,9 +26,17 @@ module _ (n : ℕ) (l : List ℤ) (rest : List Check) where
   pairs-none e =
       let (c₆, e₆) = no-first 6 (wrongCount n) _ (lit< tt) e in
       let (c₁₀, e₁₀) = no-first 10 (not (hasLength n l)) _ (lit< tt) e₆ in
-      let (c₁₁, e₁₁) = no-first 11 (not (inRange l)) _ (lit< tt) e₁₀ in
-      let range = true-T (not-false (inRange l) c₁₁) in
+      let (c₁₁, e₁₁) = no-first 11 (not (scoresInRange l)) _ (lit< tt) e₁₀ in
+      let range = true-T (not-false (scoresInRange l) c₁₁) in
       (record { some = some-count n c₆; few = right-count n c₆; long = right-length n l c₁₀; range = range }, e₁₁)
+
+-- the same with check 16
+pub scored-none : (n : ℕ) (l : List ℤ) (rest : List Check) → firstOf (check6 n ∷ check10 n l ∷ check11 l ∷ check16 l ∷ rest) ≡ 0
+    → Checked n l × T (not (hasUnscored l)) × (firstOf rest ≡ 0)
+scored-none n l rest e =
+    let (checked, e₁₁) = pairs-none n l (check16 l ∷ rest) e in
+    let (c₁₆, e₁₆) = no-first 16 (hasUnscored l) rest (lit< tt) e₁₁ in
+    (checked, false-T c₁₆, e₁₆)
 
 -- they give k, found by the code: what they leave if that is 0, and what the table gives
 module _ (n : ℕ) (l : List ℤ) {k : ℕ} (e : k ≡ firstOf (lengthChecks n l)) where
@@ -56,3 +64,16 @@ module _ (n : ℕ) (l : List ℤ) {k : ℕ} (e : k ≡ firstOf (pairChecks n l))
   pub pairs-passed : {rest : List Check} {r : ℕ} → k ≡ 0 → Gives rest r → Gives (check6 n ∷ check10 n l ∷ check11 l ∷ rest) r
   unfolding pairChecks all
   pairs-passed {rest} = first-back (pairChecks n l) rest tt e
+
+module _ (n : ℕ) (l : List ℤ) {k : ℕ} (e : k ≡ firstOf (scoredChecks n l)) where
+  pub scored-left : k ≡ 0 → Checked n l × T (not (hasUnscored l))
+  unfolding scoredChecks
+  scored-left z = let (checked, scored, _) = scored-none n l [] (sym e ∙ z) in (checked, scored)
+
+  pub scored-refused : {rest : List Check} → (k ≡ 0 → ⊥) → Gives (check6 n ∷ check10 n l ∷ check11 l ∷ check16 l ∷ rest) k
+  unfolding scoredChecks all
+  scored-refused {rest} = first-front (scoredChecks n l) rest tt e
+
+  pub scored-passed : {rest : List Check} {r : ℕ} → k ≡ 0 → Gives rest r → Gives (check6 n ∷ check10 n l ∷ check11 l ∷ check16 l ∷ rest) r
+  unfolding scoredChecks all
+  scored-passed {rest} = first-back (scoredChecks n l) rest tt e

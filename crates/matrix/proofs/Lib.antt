@@ -1,3 +1,5 @@
 pub mod Places
 pub mod Checks
 pub mod Scores
+pub mod Tested
+pub mod Touched

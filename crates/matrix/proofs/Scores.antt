@@ -1,29 +1,36 @@
--- The size of a score: what passes check 11 is within a million.
-use mathlib.Core.Bool.{Bool, _&&_}
+-- The size of a number of the pair list: a score that passes check 11 is within a million, the mark within 2 ^ 31.
+use mathlib.Core.Path.{_≡_, sym, subst}
+use mathlib.Core.Logic.{_⊎_, inl, inr}
 use mathlib.Core.List.{List}
 use Prim.Native.Nat.{ℕ, _^_}
 use lib.Dec.{T, lit≤}
-use lib.IntN.{ℤ, pos, negℤ}
-use lib.Signed.{leZ, leZ-yes}
+use lib.IntN.{ℤ}
 use Rattle.lists.proofs.Lists.{all-in}
-use Rattle.lists.proofs.Tests.{and-T}
 use Rattle.integers.specs.Range.{Within, Bounded}
-use Rattle.integers.proofs.Range.{within-grow, value-within}
-use Rattle.clusters.specs.PairList.{score, place, scoreLimit, inRange}
-
--- the test of one value
-abbrev test : ℤ → Bool
-test v = leZ (negℤ (pos scoreLimit)) v && leZ v (pos scoreLimit)
-
-test-within : (v : ℤ) → T (test v) → Within scoreLimit v
-test-within v t = let r = and-T (leZ (negℤ (pos scoreLimit)) v) (leZ v (pos scoreLimit)) t in record { top = leZ-yes (r .1); low = leZ-yes (r .0) }
+use Rattle.integers.proofs.Linear.{up, dn}
+use Rattle.integers.proofs.Range.{within, within-grow, value-within}
+use Rattle.pairs.specs.Pairs.{mark, carried}
+use Rattle.clusters.specs.PairList.{score, place, scoreLimit, isInRange, inRange, isAllowed, scoresInRange}
+use Rattle.clusters.proofs.Scored.{range-within, allowed-cases}
 
 pub million : (l : List ℤ) → T (inRange l) → Bounded 1000000 l
 unfolding inRange scoreLimit
-million l t z m = test-within z (all-in test l t m)
+million l t z m = range-within (all-in (isInRange scoreLimit) l t m)
 
 pub range-bounded : (l : List ℤ) → T (inRange l) → Bounded (2 ^ 22) l
 range-bounded l t z m = within-grow (lit≤ tt) (million l t z m)
+
+mark-within : Within (2 ^ 31) mark
+unfolding mark up dn
+mark-within = within (lit≤ tt) (lit≤ tt)
+
+pub lent-bounded : (l : List ℤ) → T (scoresInRange l) → Bounded (2 ^ 31) l
+unfolding scoresInRange scoreLimit
+lent-bounded l t z m = go (allowed-cases (all-in (λ v. isAllowed scoreLimit (carried v)) l t m))
+  where
+    go : (z ≡ mark) ⊎ Within scoreLimit z → Within (2 ^ 31) z
+    go (inl e) = subst (Within (2 ^ 31)) (sym e) mark-within
+    go (inr h) = within-grow (lit≤ tt) h
 
 pub score-within : {k : ℕ} {l : List ℤ} → Bounded k l → (a b : ℕ) → Within k (score l a b)
 unfolding score

@@ -1,7 +1,6 @@
 // The pair list as lent: scores looked up by two entries, and checks 6, 10 to 12 and 16 (document 01, Where a call is
 // turned away; document 02, 2.2).
 ghost use mathlib.Core.Path.{_≡_};
-ghost use mathlib.Core.Bool.{not};
 ghost use Prim.Native.Nat.{_+_, _<_, _≤_};
 ghost use lib.IntN.{pos};
 ghost use lib.ListN.{length, getD};
@@ -214,9 +213,9 @@ pub fn refusal(n: usize, pairs: &[i32]) -> usize
 pub fn scored_refusal(n: usize, pairs: &[i32]) -> usize
     ensures { λ r. ⌜ r ≡ firstOf (scoredChecks n (now (pairs .entry))) ⌝ }
 {
-    let refused = refusal(n, pairs);
-    if refused != 0 {
-        return refused;
+    let earlier = refusal(n, pairs);
+    if earlier != 0 {
+        return earlier;
     }
     if has_unscored(pairs) {
         return 16;

@@ -1,5 +1,6 @@
 -- What a number of the pair list stands for.
 use mathlib.Core.Path.{_≡_, refl, sym, ap, _∙_, subst}
+use mathlib.Core.Bool.{Bool, true, false, not, cond}
 use mathlib.Core.Logic.{_⊎_, inl, inr}
 use lib.IntN.{ℤ}
 use lib.Dec.{T}
@@ -43,3 +44,12 @@ scored-is {z} t = go (carried-cases z)
 pub is-scored : {z : ℤ} → carried z ≡ Scored z → T (isScored (carried z))
 unfolding isScored
 is-scored e = subst (λ p. T (isScored p)) (sym e) tt
+
+-- the test as the code makes it
+pub scored-test : (z : ℤ) → not (eqZ z mark) ≡ isScored (carried z)
+unfolding carried isScored
+scored-test z = go (eqZ z mark)
+  where
+    go : (b : Bool) → not b ≡ isScored (cond b Unscored (Scored z))
+    go true = refl
+    go false = refl

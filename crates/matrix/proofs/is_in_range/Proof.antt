@@ -1,7 +1,8 @@
+use mathlib.Core.Path.{ap₂}
+use mathlib.Core.Bool.{_&&_}
 use borrow.Author.Needs.{needs}
 use mir.Facts.{toZ-ofZ}
-use Rattle.integers.proofs.Tests.{and-second, and-first}
-use Rattle.clusters.specs.PairList.{scoreLimit}
+use Rattle.clusters.specs.PairList.{scoreLimit, isInRange}
 use Rattle.matrix.proofs.is_in_range.Statement.{statement}
 use Rattle.matrix.proofs.is_in_range.Tie as tie
 
@@ -12,13 +13,8 @@ at-most-requires-2 : tie.Need-at-most-requires-2
 at-most-requires-2 c κs = search needs
 
 returns : tie.Need-returns
-unfolding scoreLimit
-returns c = let f = toZ-ofZ (c .before .before .before .fits .v) in
-    and-second (rw f at (c .before .before .at-most .ensures)) (c .before .if1 .taken) (rw f at (c .at-most2 .ensures))
-
-returns-2 : tie.Need-returns-2
-unfolding scoreLimit
-returns-2 c = let f = toZ-ofZ (c .before .before .fits .v) in and-first _ (rw f at (c .before .at-most .ensures)) (c .if1 .left)
+unfolding isInRange scoreLimit
+returns c = let f = toZ-ofZ (c .before .before .fits .v) in ap₂ _&&_ (rw f at (c .before .at-most .ensures)) (rw f at (c .at-most2 .ensures))
 
 pub is-in-range-spec : {M : Type 1} → statement M
-is-in-range-spec = tie.close (tie.spec at-most-requires at-most-requires-2 returns returns-2)
+is-in-range-spec = tie.close (tie.spec at-most-requires at-most-requires-2 returns)

@@ -14,19 +14,19 @@ returns : tie.Need-returns
 unfolding pairChecks
 returns c = gives (length-refused _ _ (c .before .length-refusal .ensures) (c .if1 .taken))
 
-in-range-requires : tie.Need-in-range-requires
-in-range-requires c κs = search needs
+scores-in-range-requires : tie.Need-scores-in-range-requires
+scores-in-range-requires c κs = search needs
 
 returns-2 : tie.Need-returns-2
 unfolding pairChecks
 returns-2 c = let p = c .before .before in
-    gives (length-passed _ _ (p .before .length-refusal .ensures) (p .if1 .left) (first-yes (ap not (sym (c .before .in-range .ensures)) ∙ c .if2 .taken)))
+    gives (length-passed _ _ (p .before .length-refusal .ensures) (p .if1 .left) (first-yes (ap not (sym (c .before .scores-in-range .ensures)) ∙ c .if2 .taken)))
 
 returns-3 : tie.Need-returns-3
 unfolding pairChecks
 returns-3 c = let p = c .before .before in
     gives (length-passed _ _ (p .before .length-refusal .ensures) (p .if1 .left)
-    (first-no (ap not (sym (c .before .in-range .ensures)) ∙ c .if2 .left) no-more))
+    (first-no (ap not (sym (c .before .scores-in-range .ensures)) ∙ c .if2 .left) no-more))
 
 pub refusal-spec : {M : Type 1} → statement M
-refusal-spec = tie.close (tie.spec length-refusal-requires returns in-range-requires returns-2 returns-3)
+refusal-spec = tie.close (tie.spec length-refusal-requires returns scores-in-range-requires returns-2 returns-3)
