@@ -92,7 +92,7 @@ fn linkage(average: bool, n: usize, pairs: &[i32], blocks: &mut [u32]) -> Answer
     ensures { λ r. ⌜ LinkageCall (linkageOf average) n (now (pairs .entry))
         (now (blocks .entry)) r (now (blocks .exit)) ⌝ }
 {
-    let refused = matrix::refusal(n, pairs);
+    let refused = matrix::scored_refusal(n, pairs);
     if refused != 0 {
         return Answer::Refused(refused);
     }

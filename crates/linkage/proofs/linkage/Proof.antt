@@ -8,15 +8,15 @@ use lib.ListN.{length}
 use Rattle.interface.specs.Refusals.{shortSlice, linkageChecks}
 use Rattle.interface.proofs.Refusals.{first-yes, first-no, no-more}
 use Rattle.matrix.specs.Checks.{Checked}
-use Rattle.matrix.proofs.Scores.{range-bounded}
-use Rattle.matrix.proofs.Checks.{pairs-left, pairs-refused, pairs-passed}
+use Rattle.matrix.proofs.Scores.{lent-bounded}
+use Rattle.matrix.proofs.Checks.{scored-left, scored-refused, scored-passed}
 use Rattle.linkage.proofs.Answered.{refused, accepted}
 use Rattle.linkage.proofs.linkage.Statement.{statement}
 use Rattle.linkage.proofs.linkage.Tie as tie
 
 -- what the first checks leave
 left : (c : tie.Else1) → let a = c .before .before .before .args in Checked (a .n) (a .pairs .now)
-left c = pairs-left _ _ (c .before .refusal .ensures) (c .if1 .left)
+left c = scored-left _ _ (c .before .scored-refusal .ensures) (c .if1 .left) .0
 
 -- whether the slots are too few
 short : (c : tie.Then2) → let a = c .before .before .before .before .args in shortSlice (length (a .blocks .now)) (a .n - 1) ≡ true
@@ -27,12 +27,12 @@ enough : (c : tie.Else2) → let a = c .before .before .before .before .args in 
 unfolding shortSlice
 enough c = le-ltb _ _ (c .if2 .left)
 
-refusal-requires : tie.Need-refusal-requires
-refusal-requires c κs = search needs
+scored-refusal-requires : tie.Need-scored-refusal-requires
+scored-refusal-requires c κs = search needs
 
 returns : tie.Need-returns
 unfolding linkageChecks
-returns c = refused (pairs-refused _ _ (c .before .refusal .ensures) (c .if1 .taken)) (c .if1 .taken)
+returns c = refused (scored-refused _ _ (c .before .scored-refusal .ensures) (c .if1 .taken)) (c .if1 .taken)
 
 sub-count : tie.Need-sub-count
 sub-count c = omega (arith, left c .some)
@@ -40,10 +40,10 @@ sub-count c = omega (arith, left c .some)
 returns-2 : tie.Need-returns-2
 unfolding linkageChecks
 returns-2 c = let e = c .before in
-    refused (pairs-passed _ _ (e .before .refusal .ensures) (e .if1 .left) (first-yes (short c))) (λ z. omega arith)
+    refused (scored-passed _ _ (e .before .scored-refusal .ensures) (e .if1 .left) (first-yes (short c))) (λ z. omega arith)
 
 merge-all-requires : tie.Need-merge-all-requires
-merge-all-requires c κs = let l = left (c .before .before) in (l .some, l .few, l .long, range-bounded _ (l .range), omega arith)
+merge-all-requires c κs = let l = left (c .before .before) in (l .some, l .few, l .long, lent-bounded _ (l .range), omega arith)
 
 same-length : tie.Need-same-length
 same-length c = search needs
@@ -51,9 +51,9 @@ same-length c = search needs
 returns-3 : tie.Need-returns-3
 unfolding linkageChecks
 returns-3 c = let f = c .before .before .before .before in let e = f .before in
-    accepted (pairs-passed _ _ (e .before .refusal .ensures) (e .if1 .left) (first-no (enough f) no-more)) (c .before .before .merge-all .ensures)
+    accepted (scored-passed _ _ (e .before .scored-refusal .ensures) (e .if1 .left) (first-no (enough f) no-more)) (c .before .before .merge-all .ensures)
 
 pub linkage-spec : {M : Type 1} → statement M
 linkage-spec =
     tie.close
-    (tie.spec refusal-requires returns sub-count returns-2 merge-all-requires same-length returns-3)
+    (tie.spec scored-refusal-requires returns sub-count returns-2 merge-all-requires same-length returns-3)
