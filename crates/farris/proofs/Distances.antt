@@ -5,17 +5,18 @@ use mathlib.Core.List.{List}
 use Prim.Native.Nat.{ℕ, suc, _<_}
 use native.Mathlib.Omega.{arith}
 use lib.Dec.{T}
-use lib.IntN.{ℤ, pos, negsuc, negℤ, _+ℤ_, _-ℤ_}
+use lib.IntN.{ℤ, pos, negsuc, _+ℤ_, _-ℤ_}
 use lib.Signed.{leZ}
 use Rattle.lists.specs.Lists.{_∈_, below, all}
 use Rattle.lists.proofs.Tests.{and-T, T-and, T-same}
 use Rattle.lists.proofs.Lists.{below-lt, lt-below, all-in, in-all}
 use Rattle.integers.specs.Integers.{eqZ, half, even}
 use Rattle.integers.proofs.Linear.{up, dn, zarith, -at, yes-eqZ}
-use Rattle.clusters.specs.PairList.{Similarity, score, scoreLimit, inRange, areDistances}
+use Rattle.clusters.specs.PairList.{Similarity, score, scoreLimit, isInRange, inRange, areDistances}
 use Rattle.clusters.specs.Farris.{unfarris, distancesBack, isAnchored}
 use Rattle.clusters.proofs.PairList.{in-pairList, of-pairList}
 use Rattle.clusters.proofs.Farris.{score-back}
+use Rattle.clusters.proofs.Scored.{range-within}
 use Rattle.farris.specs.Distances.{isDistance}
 
 and-assoc : (a b c : Bool) → a && b && c ≡ a && (b && c)
@@ -31,22 +32,18 @@ own-zero : (S : Similarity) (a : ℕ) → unfarris S a a ≡ pos 0
 unfolding unfarris half
 own-zero S a = ap half (less-itself (S a a +ℤ S a a))
 
--- what check 11 asks of one value
-abbrev ranged : ℤ → Bool
-ranged z = leZ (negℤ (pos scoreLimit)) z && leZ z (pos scoreLimit)
-
 distance-parts : (z : ℤ) → T (isDistance z) → T (leZ (pos 0) z) × T (leZ z (pos scoreLimit))
 unfolding isDistance
 distance-parts z t = and-T (leZ (pos 0) z) (leZ z (pos scoreLimit)) t
 
-distance-ranged : (z : ℤ) → T (leZ (pos 0) z) × T (leZ z (pos scoreLimit)) → T (ranged z)
-unfolding scoreLimit
+distance-ranged : (z : ℤ) → T (leZ (pos 0) z) × T (leZ z (pos scoreLimit)) → T (isInRange scoreLimit z)
+unfolding isInRange scoreLimit
 distance-ranged (pos a) (t, u) = u
 distance-ranged (negsuc a) (t, u) = absurd t
 
-ranged-distance : (z : ℤ) → T (ranged z) → T (leZ (pos 0) z) → T (isDistance z)
+ranged-distance : (z : ℤ) → T (isInRange scoreLimit z) → T (leZ (pos 0) z) → T (isDistance z)
 unfolding isDistance
-ranged-distance z t u = T-and (leZ (pos 0) z) (leZ z (pos scoreLimit)) u (and-T (leZ (negℤ (pos scoreLimit)) z) (leZ z (pos scoreLimit)) t .1)
+ranged-distance z t u = T-and (leZ (pos 0) z) (leZ z (pos scoreLimit)) u (range-within t .top .le)
 
 module _ (n : ℕ) (l : List ℤ) where
   abbrev D : List ℤ
@@ -60,7 +57,7 @@ module _ (n : ℕ) (l : List ℤ) where
 
   fore : T (all row (below n)) → T (inRange D && areDistances n D)
   unfolding distancesBack inRange areDistances
-  fore t = T-and (inRange D) (areDistances n D) (in-all ranged D (λ z m. distance-ranged z (each z m)))
+  fore t = T-and (inRange D) (areDistances n D) (in-all (isInRange scoreLimit) D (λ z m. distance-ranged z (each z m)))
       (T-and (all (leZ (pos 0)) D) (all own (below n))
       (in-all (leZ (pos 0)) D (λ z m. each z m .0)) (in-all own (below n) (λ a m. own-passes a (below-lt n m))))
     where
@@ -81,7 +78,7 @@ module _ (n : ℕ) (l : List ℤ) where
       let (p, _) = and-T (all (leZ (pos 0)) D) (all own (below n)) d in
       in-all row (below n) (λ a m. in-all (λ b. isDistance (unfarris (score l) a b)) (below (suc a)) (λ b k.
       let e = in-pairList n (unfarris (score l)) (below-lt n m) (omega (arith, below-lt (suc a) k)) in
-      ranged-distance (unfarris (score l) a b) (all-in ranged D r e) (all-in (leZ (pos 0)) D p e)))
+      ranged-distance (unfarris (score l) a b) (all-in (isInRange scoreLimit) D r e) (all-in (leZ (pos 0)) D p e)))
 
   pub back-test : all (λ a. all (λ b. isDistance (unfarris (score l) a b)) (below (suc a))) (below n)
       ≡ inRange (distancesBack n l) && areDistances n (distancesBack n l)

@@ -11,17 +11,14 @@ use Rattle.lists.proofs.Tests.{true-T, or-none}
 use Rattle.clusters.specs.PairList.{rowStart, inRange}
 use Rattle.clusters.specs.Farris.{distancesBack, isAnchored}
 use Rattle.interface.specs.Refusals.{wrongAnchor, shortSlice, notAnchored, anchoredRefusal, backChecks, backRefusal}
-use Rattle.interface.proofs.Refusals.{no-first, some-count, right-count}
+use Rattle.interface.proofs.Refusals.{no-first, right-count}
 use Rattle.interface.proofs.Anchored.{in-place, anchored-passes}
-use Rattle.matrix.specs.Checks.{Checked}
 use Rattle.matrix.proofs.Checks.{length-none}
 use Rattle.farris.proofs.Distances.{anchored-ranged}
 
-pub anchored-checked : (n x : ℕ) (l : List ℤ) (room : ℕ) → anchoredRefusal n x l room ≡ 0 → Checked n l × (x < n) × (rowStart n ≤ room)
-anchored-checked n x l room e =
-    let p = anchored-passes n x l room e in
-    let checked : Checked n l = record { some = some-count n (p .count); few = right-count n (p .count); long = p .long; range = p .range } in
-    (checked, p .anchor, p .room)
+pub anchor-passes : (n x : ℕ) (l : List ℤ) (room : ℕ) → anchoredRefusal n x l room ≡ 0
+    → (n ≤ 32) × (length l ≡ rowStart n) × ((x < n) × T (inRange l)) × (rowStart n ≤ room)
+anchor-passes n x l room e = let p = anchored-passes n x l room e in (right-count n (p .count), p .long, (p .anchor, p .range), p .room)
 
 pub back-passes : (n x : ℕ) (l : List ℤ) (room : ℕ) → backRefusal n x l room ≡ 0
     → (n ≤ 32) × (length l ≡ rowStart n) × T (inRange (distancesBack n l)) × (rowStart n ≤ room)

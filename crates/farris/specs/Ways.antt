@@ -13,7 +13,7 @@ unfoldable pub converted : Way → Similarity → Similarity
 converted (Anchored x) s = farris s x
 converted Back s = unfarris s
 
--- what the checks 11 and 15 leave of a list, so that each value converted fits its slot
+-- what the checks 11, 16 and 15 leave of a list, so that each value converted fits its slot
 unfoldable pub Convertible : Way → ℕ → List ℤ → Type 0
 Convertible (Anchored x) n l = (x < n) × T (inRange l)
 Convertible Back n l = T (inRange (distancesBack n l))

@@ -129,7 +129,7 @@ fn is_out_of_place(n: usize, x: usize, room: usize) -> bool
 fn anchored_refusal(n: usize, x: usize, pairs: &[i32], room: usize) -> usize
     ensures { λ r. ⌜ r ≡ anchoredRefusal n x (now (pairs .entry)) room ⌝ }
 {
-    let refused = matrix::refusal(n, pairs);
+    let refused = matrix::scored_refusal(n, pairs);
     if refused != 0 {
         return refused;
     }

@@ -3,7 +3,7 @@ use borrow.Author.Needs.{needs}
 use lib.ListN.{length}
 use Rattle.clusters.specs.Farris.{anchoredScores}
 use Rattle.farris.specs.Ways.{converted, Convertible}
-use Rattle.farris.proofs.Refusals.{anchored-checked}
+use Rattle.farris.proofs.Refusals.{anchor-passes}
 use Rattle.farris.proofs.anchored_scores.Statement.{statement}
 use Rattle.farris.proofs.anchored_scores.Tie as tie
 
@@ -18,8 +18,7 @@ anchored-refusal-requires c κs = search needs
 answered-requires : tie.Need-answered-requires
 unfolding Convertible
 answered-requires c κs z = let r = c .before in let a = r .before .args in
-    let (k, x, room) = anchored-checked (a .n) (a .x) (a .pairs .now) (length (a .out .now)) (sym (r .anchored-refusal .ensures) ∙ z) in
-    (k .few, k .long, (x, k .range), room)
+    anchor-passes (a .n) (a .x) (a .pairs .now) (length (a .out .now)) (sym (r .anchored-refusal .ensures) ∙ z)
 
 same-length : tie.Need-same-length
 same-length c = search needs
