@@ -7,10 +7,10 @@ ghost use lib.ListN.{length};
 ghost use Rattle.integers.specs.Integers.{eqZ};
 ghost use Rattle.sets.specs.Sets.{size};
 ghost use Rattle.clusters.specs.PairList.{rowStart, score};
+ghost use Rattle.clusters.specs.Touched.{untouched};
 ghost use Rattle.clusters.specs.Groups.{index, proper, speaksOf, kindOf};
-ghost use Rattle.interface.specs.Refusals.{wrongKind, wrongGroupKind, wrongDistances};
-ghost use Rattle.kinds.specs.Kinds.{kindFor};
-ghost use Rattle.matrix.specs.Checks.{Checked};
+ghost use Rattle.interface.specs.Refusals.{wrongKind, wrongGroupKind, wrongUnscored, wrongDistances};
+ghost use Rattle.kinds.specs.Kinds.{kindFor, Accepted};
 
 // Strong groups, clean groups, Buneman splits.
 pub enum Kind {
@@ -61,6 +61,16 @@ pub fn kind_of(kind: i32) -> Kind
     Kind::Splits
 }
 
+// Check 16.
+pub fn has_wrong_unscored(kind: i32, pairs: &[i32]) -> bool
+    ensures { λ r. ⌜ r ≡ wrongUnscored kind (now (pairs .entry)) ⌝ }
+{
+    if is_number(kind, 1) {
+        return false;
+    }
+    matrix::has_unscored(pairs)
+}
+
 // Check 12.
 pub fn are_wrong_distances(kind: i32, n: usize, pairs: &[i32]) -> bool
     requires { ⌜ (n ≤ 32) × (length (now pairs) ≡ rowStart n) ⌝ }
@@ -96,9 +106,10 @@ pub fn speaks(kind: Kind, n: usize, set: u32) -> bool
     }
 }
 
-// The index of a set that the kind speaks of.
+// The index of a set that the kind speaks of and no unscored pair touches.
 pub fn index(kind: Kind, n: usize, pairs: &[i32], set: u32) -> i64
-    requires { ⌜ Checked n (now pairs) × (set < 2 ^ n) × T (speaksOf (kindFor kind) n set) ⌝ }
+    requires { ⌜ Accepted (kindFor kind) n (now pairs) × (set < 2 ^ n) × T (speaksOf (kindFor kind) n set)
+        × T (untouched n (score (now pairs)) set) ⌝ }
     ensures { λ r. ⌜ r ≡ index (kindFor kind) n (score (now (pairs .entry))) set ⌝ }
 {
     match kind {

@@ -1,6 +1,8 @@
 // Sets of up to 32 entries, as numbers: definitions in specs/, laws in proofs/.
 ghost use mathlib.Core.Path.{_≡_};
 ghost use Prim.Native.Nat.{_<_, _≤_, _^_};
+ghost use lib.Bits.{bitAnd};
+ghost use lib.Dec.{eqb};
 ghost use Rattle.sets.specs.Sets.{has, size, _∪_, allEntries};
 
 pub fn has(set: u32, i: usize) -> bool
@@ -35,4 +37,11 @@ pub fn all_entries(n: usize) -> u32
     ensures { λ r. ⌜ r ≡ allEntries n ⌝ }
 {
     4294967295u32 >> (32 - n)
+}
+
+// The two share no entry.
+pub fn are_disjoint(a: u32, b: u32) -> bool
+    ensures { λ r. ⌜ r ≡ eqb (bitAnd a b) 0 ⌝ }
+{
+    (a & b) == 0
 }
