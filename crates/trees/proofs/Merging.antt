@@ -3,14 +3,15 @@ use mathlib.Core.Path.{_≡_, sym, ap, subst, _∙_}
 use mathlib.Core.List.{List, _++_, append-assoc}
 use Prim.Native.Nat.{ℕ, _+_, _-_, _^_, _≤_}
 use native.Mathlib.Omega.{arith}
-use lib.Dec.{T}
+use lib.Dec.{T, lit≤}
 use lib.IntN.{ℤ}
 use lib.ListN.{length, take, drop, length-append, length-map}
 use lib.Seq.{take-at}
 use Rattle.integers.specs.Range.{Bounded}
+use Rattle.integers.proofs.Range.{within-grow}
 use Rattle.sets.specs.Sets.{_∪_}
 use Rattle.clusters.specs.Farris.{farris, anchoredScores}
-use Rattle.clusters.specs.Groups.{Kind, strong, clean, splits, treeLinkage, treeScores}
+use Rattle.clusters.specs.Groups.{Kind, strong, clean, splits, treeLinkage, lentScores}
 use Rattle.clusters.specs.Linkage.{Linkage, single, average, Tree, singles, mergedBlocks, blocks}
 use Rattle.clusters.specs.PairList.{rowStart, score, inRange}
 use Rattle.clusters.proofs.Exists.{tree-length, count-singles}
@@ -23,11 +24,11 @@ use Rattle.trees.proofs.Trees.{anchored-tree}
 -- the scores as lent
 module _ {n : ℕ} {l : List ℤ} {lent after : List ℕ} where
   pub merged-strong : Linkage.Merged single n l lent after → Merged strong n l lent after
-  unfolding treeLinkage treeScores
+  unfolding treeLinkage lentScores
   merged-strong m = record { merges = m .merges; tree = m .tree; written = m .written }
 
   pub merged-clean : Linkage.Merged average n l lent after → Merged clean n l lent after
-  unfolding treeLinkage treeScores
+  unfolding treeLinkage lentScores
   merged-clean m = record { merges = m .merges; tree = m .tree; written = m .written }
 
 -- the anchored scores are the first k numbers of a list
@@ -47,14 +48,14 @@ module _ {n : ℕ} {l all : List ℤ} {k : ℕ} (f : Front n l all k) where
   pub front-long : length (take k all) ≡ rowStart n
   front-long = ap length front ∙ long
 
-  pub front-bounded : T (inRange l) → Bounded (2 ^ 22) (take k all)
-  front-bounded t = subst (Bounded (2 ^ 22)) (sym front) (anchored-bounded n 0 l t)
+  pub front-bounded : T (inRange l) → Bounded (2 ^ 31) (take k all)
+  front-bounded t = subst (Bounded (2 ^ 31)) (sym front) (λ z m. within-grow (lit≤ tt) (anchored-bounded n 0 l t z m))
 
   pub front-fits : k ≤ length all
   front-fits = omega (arith, ap length (f .are), length-append (anchoredScores n 0 l) (f .rest), long)
 
   pub merged-splits : {lent after : List ℕ} → Linkage.Merged single n (take k all) lent after → Merged splits n l lent after
-  unfolding treeLinkage treeScores
+  unfolding treeLinkage lentScores
   merged-splits m = record {
     merges = m .merges;
     tree = anchored-tree n 0 l single (m .merges) (subst (λ (s : List ℤ). Tree single n (score s) (m .merges)) front (m .tree));
@@ -73,7 +74,7 @@ blocks-written {kind} {n} {l} {mid} all rest post e m =
       length-append (singles n) (mergedBlocks ms),
       count-singles n,
       length-map ms (λ (m : ℕ × ℕ). m .0 ∪ m .1),
-      tree-length (treeLinkage kind) n (treeScores kind (score l)) ms (m .tree),
+      tree-length (treeLinkage kind) n (lentScores kind (score l)) ms (m .tree),
     ) in
     record {
       merges = ms;

@@ -5,8 +5,7 @@ ghost use Prim.Native.Nat.{_+_, _-_, _≤_};
 ghost use lib.ListN.{length, take, drop};
 ghost use Rattle.clusters.specs.Linkage.{singles};
 ghost use Rattle.clusters.specs.Groups.{splits};
-ghost use Rattle.kinds.specs.Kinds.{kindFor};
-ghost use Rattle.matrix.specs.Checks.{Checked};
+ghost use Rattle.kinds.specs.Kinds.{kindFor, Accepted};
 ghost use Rattle.trees.specs.Trees.{Merged, Blocks};
 use kinds::Kind;
 
@@ -22,7 +21,7 @@ fn put_singles(n: usize, out: &mut [u32])
 
 // The merged blocks for splits: the tree is that of the scores anchored at the first entry.
 fn merge_anchored(n: usize, pairs: &[i32], out: &mut [u32])
-    requires { ⌜ Checked n (now pairs) × (n - 1 ≤ length (now out)) ⌝ }
+    requires { ⌜ Accepted splits n (now pairs) × (n - 1 ≤ length (now out)) ⌝ }
     ensures { λ _. ⌜ Merged splits n (now (pairs .entry)) (now (out .entry)) (now (out .exit)) ⌝ }
 {
     let mut anchored = [0i32; 528];
@@ -32,7 +31,7 @@ fn merge_anchored(n: usize, pairs: &[i32], out: &mut [u32])
 }
 
 fn merge(kind: Kind, n: usize, pairs: &[i32], out: &mut [u32])
-    requires { ⌜ Checked n (now pairs) × (n - 1 ≤ length (now out)) ⌝ }
+    requires { ⌜ Accepted (kindFor kind) n (now pairs) × (n - 1 ≤ length (now out)) ⌝ }
     ensures { λ _. ⌜ Merged (kindFor kind) n (now (pairs .entry)) (now (out .entry)) (now (out .exit)) ⌝ }
 {
     match kind {
@@ -44,7 +43,7 @@ fn merge(kind: Kind, n: usize, pairs: &[i32], out: &mut [u32])
 
 // The single entries and the merged blocks.
 pub fn put_blocks(kind: Kind, n: usize, pairs: &[i32], out: &mut [u32])
-    requires { ⌜ Checked n (now pairs) × (n + (n - 1) ≤ length (now out)) ⌝ }
+    requires { ⌜ Accepted (kindFor kind) n (now pairs) × (n + (n - 1) ≤ length (now out)) ⌝ }
     ensures { λ _. ⌜ Blocks (kindFor kind) n (now (pairs .entry)) (take (n + (n - 1)) (now (out .exit))) ⌝ }
 {
     put_singles(n, out);

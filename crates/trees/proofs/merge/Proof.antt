@@ -1,7 +1,9 @@
+use mathlib.Core.Path.{subst}
 use borrow.Author.Needs.{needs}
-use Rattle.matrix.proofs.Scores.{range-bounded}
+use Rattle.matrix.proofs.Scores.{lent-bounded}
 use Rattle.linkage.specs.Blocks.{linkageOf}
-use Rattle.kinds.specs.Kinds.{kindFor}
+use Rattle.kinds.specs.Kinds.{kindFor, Accepted}
+use Rattle.kinds.specs.declared.Kind.{Kind}
 use Rattle.trees.proofs.Merging.{merged-strong, merged-clean}
 use Rattle.trees.proofs.merge.Statement.{statement}
 use Rattle.trees.proofs.merge.Tie as tie
@@ -10,11 +12,11 @@ enum-told : tie.Need-enum-told
 enum-told c = search needs
 
 merge-all-requires : tie.Need-merge-all-requires
-merge-all-requires c κs = let s = c .before .before .before .before in let p = s .pre .0 in (
+merge-all-requires c κs = let s = c .before .before .before .before in let p = s .pre .0 .checked in (
   p .some,
   p .few,
   p .long,
-  range-bounded _ (p .range),
+  lent-bounded _ (p .range),
   s .pre .1,
 )
 
@@ -22,11 +24,11 @@ enum-told-2 : tie.Need-enum-told-2
 enum-told-2 c = search needs
 
 merge-all-requires-2 : tie.Need-merge-all-requires-2
-merge-all-requires-2 c κs = let s = c .before .before .before .before in let p = s .pre .0 in (
+merge-all-requires-2 c κs = let s = c .before .before .before .before in let p = s .pre .0 .checked in (
   p .some,
   p .few,
   p .long,
-  range-bounded _ (p .range),
+  lent-bounded _ (p .range),
   s .pre .1,
 )
 
@@ -34,7 +36,9 @@ enum-told-3 : tie.Need-enum-told-3
 enum-told-3 c = search needs
 
 merge-anchored-requires : tie.Need-merge-anchored-requires
-merge-anchored-requires c κs = search needs
+unfolding kindFor
+merge-anchored-requires c κs = let s = c .before .before .before .before in
+    (subst (λ (k : Kind). Accepted (kindFor k) (s .args .n) (s .args .pairs .now)) (c .before .enum-told3 .given .1) (s .pre .0), s .pre .1)
 
 same-length : tie.Need-same-length
 same-length c = search needs

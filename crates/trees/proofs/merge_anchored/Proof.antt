@@ -3,6 +3,7 @@ use borrow.Author.Needs.{needs}
 use lib.Seq.{length-take-le}
 use Rattle.clusters.proofs.PairList.{rowStart-le}
 use Rattle.linkage.specs.Blocks.{linkageOf}
+use Rattle.kinds.proofs.Listed.{accepted-range}
 use Rattle.trees.proofs.Merging.{Front, front-fits, front-long, front-bounded, merged-splits}
 use Rattle.trees.proofs.merge_anchored.Statement.{statement}
 use Rattle.trees.proofs.merge_anchored.Tie as tie
@@ -16,7 +17,8 @@ anchored : (c : tie.After-pair-count) → let s = c .before .before .before .bef
 anchored c = record { count = c .pair-count .ensures; rest = _; are = c .before .before .anchor .ensures }
 
 anchor-requires : tie.Need-anchor-requires
-anchor-requires c κs = let p = c .before .before .pre .0 in (p .few, p .some, p .long, p .range, rowStart-le _ (p .few))
+anchor-requires c κs = let a = c .before .before .pre .0 in let p = a .checked in
+    (p .few, p .some, p .long, accepted-range p (a .scored), rowStart-le _ (p .few))
 
 pair-count-requires : tie.Need-pair-count-requires
 pair-count-requires c κs = search needs
@@ -29,7 +31,8 @@ slice-aggregate-merge-all c = sym (length-take-le _ _ (front-fits (anchored (c .
 
 merge-all-requires : tie.Need-merge-all-requires
 merge-all-requires c κs = let f = anchored (c .before .before) in let s = c .before .before .before .before .before .before .before in
-    (s .pre .0 .some, s .pre .0 .few, front-long f, front-bounded f (s .pre .0 .range), s .pre .1)
+    let p = s .pre .0 .checked in
+    (p .some, p .few, front-long f, front-bounded f (accepted-range p (s .pre .0 .scored)), s .pre .1)
 
 same-length : tie.Need-same-length
 same-length c = search needs
