@@ -1,3 +1,4 @@
+pub mod Candidates
 pub mod Filled
 pub mod Listing
 pub mod WaysOut

@@ -11,12 +11,13 @@ use lib.ListN.{length, replicate, length-take, length-map}
 use Rattle.lists.proofs.Tests.{or-none}
 use Rattle.clusters.specs.Groups.{Kind, index, groupSets, groups, kindOf}
 use Rattle.clusters.specs.PairList.{score}
-use Rattle.interface.specs.Refusals.{wrongKind, wrongDistances, fewSlots, numbersChecks, numbersRefusal}
+use Rattle.interface.specs.Refusals.{wrongKind, wrongUnscored, wrongDistances, fewSlots, numbersChecks, numbersRefusal}
 use Rattle.interface.proofs.Refusals.{no-first}
 use Rattle.answers.specs.Answers.{answer, filled}
 use Rattle.answers.specs.declared.Answer.the-variants.{Count, Refused}
 use Rattle.answers.proofs.WaysOut.{refused}
-use Rattle.matrix.specs.Checks.{Checked}
+use Rattle.kinds.specs.Kinds.{Accepted}
+use Rattle.kinds.proofs.Listed.{accepted}
 use Rattle.matrix.proofs.Checks.{pairs-none}
 use Rattle.interface.specs.Listing.{groupsFound}
 use Rattle.interface.specs.Calls.{setsFound, indicesFound, NumbersCall}
@@ -32,15 +33,16 @@ room n sets indices e =
     (ltb-false sets (2 * n) p, ltb-false indices (2 * n) q)
 
 pub numbers-pass : (kind : ℤ) (n : ℕ) (l : List ℤ) (sets indices : ℕ) → numbersRefusal kind n l sets indices ≡ 0
-    → Checked n l × (2 * n ≤ sets) × (2 * n ≤ indices)
+    → Accepted (kindOf kind) n l × (2 * n ≤ sets) × (2 * n ≤ indices)
 unfolding numbersRefusal numbersChecks
 numbers-pass kind n l sets indices e =
     let (c₁, e₁) = no-first 1 (wrongKind kind) _ (lit< tt) e in
     let (checked, e₁₁) = pairs-none n l _ e₁ in
-    let (c₁₂, e₁₂) = no-first 12 (wrongDistances kind n l) _ (lit< tt) e₁₁ in
+    let (c₁₆, e₁₆) = no-first 16 (wrongUnscored kind l) _ (lit< tt) e₁₁ in
+    let (c₁₂, e₁₂) = no-first 12 (wrongDistances kind n l) _ (lit< tt) e₁₆ in
     let (c₁₃, _) = no-first 13 (fewSlots n sets indices) _ (lit< tt) e₁₂ in
     let (p, q) = room n sets indices c₁₃ in
-    (checked, p, q)
+    (accepted kind checked c₁₆, p, q)
 
 -- the sets and the indices of the groups
 sets-found : (kind : ℤ) (n : ℕ) (l : List ℤ) → setsFound kind n l ≡ groupSets (kindOf kind) n (score l)

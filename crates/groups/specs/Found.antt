@@ -1,11 +1,14 @@
 -- The code's own vocabulary, which nobody need believe: groups as the code holds them.
 use mathlib.Core.Path.{_≡_}
+use mathlib.Core.Bool.{Bool, _&&_}
 use mathlib.Core.List.{List, map}
 use Prim.Native.Nat.{ℕ, _≤_}
+use lib.Bits.{bitAnd}
+use lib.Dec.{eqb}
 use lib.IntN.{ℤ}
 use lib.ListN.{length, take}
 use Rattle.lists.specs.Lists.{keep}
-use Rattle.clusters.specs.Groups.{Kind, index, listed, groupSets}
+use Rattle.clusters.specs.Groups.{Kind, speaksOf, index, listed, groupSets}
 use Rattle.clusters.specs.PairList.{score}
 use Rattle.groups.specs.declared.Found.{Found}
 
@@ -14,6 +17,10 @@ setsOf f = take (f .count) (f .sets)
 
 abbrev pub indicesOf : Found → List ℤ
 indicesOf f = take (f .count) (f .indices)
+
+-- a set that may be listed: the kind speaks of it, and it shares no entry with those touched
+unfoldable pub isCandidate : Kind → ℕ → (touched : ℕ) → ℕ → Bool
+isCandidate kind n touched A = speaksOf kind n A && eqb (bitAnd A touched) 0
 
 -- they are the listed ones of these sets, each with its index
 pub record Listed (kind : Kind) (n : ℕ) (l : List ℤ) (sets : List ℕ) (f : Found) : Type 0 where
