@@ -18,11 +18,12 @@ use Rattle.answers.specs.declared.Shared.{Shared}
 use Rattle.answers.specs.declared.Shared.the-variants.{Set, Refused}
 use Rattle.answers.specs.Shared.{sharedAnswer}
 use Rattle.interface.specs.Listing.{groupsFound}
-use Rattle.interface.specs.Refusals.{wrongKind, wrongGroupKind, wrongDistances, sharedChecks, sharedRefusal}
+use Rattle.interface.specs.Refusals.{wrongKind, wrongGroupKind, wrongUnscored, wrongDistances, sharedChecks, sharedRefusal}
 use Rattle.interface.specs.Calls.{setsFound, sharedFound, SharedCall}
 use Rattle.interface.proofs.Refusals.{no-first}
 use Rattle.interface.proofs.Requests.{shared-left}
-use Rattle.matrix.specs.Checks.{Checked}
+use Rattle.kinds.specs.Kinds.{Accepted}
+use Rattle.kinds.proofs.Listed.{accepted}
 use Rattle.matrix.proofs.Checks.{pairs-none}
 
 -- the answer of a search that found this
@@ -54,13 +55,14 @@ pub no-distances : (kind : ℤ) (n : ℕ) (l : List ℤ) → wrongGroupKind kind
 unfolding wrongGroupKind wrongDistances
 no-distances kind n l e = rw (or-none (wrongKind kind) (eqZ kind (pos 3)) e .1)
 
-pub shared-pass : (kind : ℤ) (n : ℕ) (l : List ℤ) (i j : ℕ) → sharedRefusal kind n l i j ≡ 0 → Checked n l × (i < n) × (j < n)
+pub shared-pass : (kind : ℤ) (n : ℕ) (l : List ℤ) (i j : ℕ) → sharedRefusal kind n l i j ≡ 0 → Accepted (kindOf kind) n l × (i < n) × (j < n)
 unfolding sharedRefusal sharedChecks
 shared-pass kind n l i j e =
     let (c₁, e₁) = no-first 1 (wrongGroupKind kind) _ (lit< tt) e in
-    let (checked, _) = pairs-none n l _ e₁ in
+    let (checked, e₁₁) = pairs-none n l _ e₁ in
+    let (c₁₆, _) = no-first 16 (wrongUnscored kind l) _ (lit< tt) e₁₁ in
     let (_, hi, hj) = shared-left kind n l i j e in
-    (checked, hi, hj)
+    (accepted kind checked c₁₆, hi, hj)
 
 module _ {kind : ℤ} {n : ℕ} {l : List ℤ} {i j r : ℕ} (e : r ≡ sharedRefusal kind n l i j) where
   pub shared-refused : (r ≡ 0 → ⊥) → SharedCall kind n l i j (Refused r)

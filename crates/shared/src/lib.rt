@@ -19,6 +19,9 @@ fn shared_refusal(kind: i32, n: usize, pairs: &[i32], a: usize, b: usize) -> usi
     if refused != 0 {
         return refused;
     }
+    if kinds::has_wrong_unscored(kind, pairs) {
+        return 16;
+    }
     if matrix::are_wrong_entries(n, a, b) {
         return 15;
     }

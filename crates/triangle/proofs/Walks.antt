@@ -30,6 +30,9 @@ use denote.Triple.Clauses.{Ended, Lasts, atExit, lasts, ensured, closing}
 use denote.Struct.Declared.{Declared}
 use denote.Struct.Laws as LL
 use denote.Triple.Table.{entered}
+use Rattle.pairs.specs.declared.Pair.{Pair}
+use Rattle.pairs.proofs.Pair as P
+use Rattle.pairs.proofs.Pair.Laws as P′
 use Rattle.triangle.specs.declared.Triangle.{Triangle}
 use Rattle.triangle.proofs.Triangle as T
 use Rattle.triangle.proofs.Triangle.Laws as T′
@@ -56,7 +59,6 @@ pub use denote.RattleType.{owns}
 pub use denote.Laws.{Is}
 pub use denote.Builtin.{usize}
 pub use denote.Plain.{uint-vals, uint-tells, uint-makes}
-pub use denote.Signed.{sint-lawful}
 pub use denote.Ref.{RefT, now}
 pub use denote.Slice.{slice-vals}
 pub use denote.Steps.{nothing, owned}
@@ -98,6 +100,9 @@ module _ {M : Type 1} {𝓤 : URA M} {H : Heap 𝓤} {A : Atoms 𝓤} (W : Given
   -- the machine values have the types that MIR writes
   pub pairs-typed : (κ : Lft) (s : RefT (List ℤ)) → Is (Pairs κ) s (slice-vals s) → Typed (Pairs κ .mir) (slice-vals s)
   pairs-typed κ s = shr-slice-lawful 𝓤 H A W (named 0) κ i32 .typed s (slice-vals s)
+
+  pub pair-typed : (r : Pair) {v : Val} → Is P.the-row r (v ∷ []) → Holds (hasTy P′.mir v) × WT v
+  pair-typed r {v} p = LL.lawful P.the-type P′.the-laws 𝓤 H A W .typed r (v ∷ []) p .0
 
   -- a view's: that of a parameter, and that of a local, whose lifetime is erased
   module _ (κ : Lft) (d : Triangle) {v : Val} where

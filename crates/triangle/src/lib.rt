@@ -1,30 +1,35 @@
 // The triangle view: the pair list as lent, with its number of entries (document 01, The sheet).
 ghost use mathlib.Core.Path.{_≡_};
 ghost use Rattle.interface.specs.Refusals.{scoreRefusal};
-ghost use Rattle.interface.specs.Calls.{scoreAmong};
+ghost use Rattle.interface.specs.Calls.{pairAmong};
+use pairs::Carried;
+use pairs::Pair;
 
 pub struct Triangle<'a> {
     pub pairs: &'a [i32],
     pub n: usize,
 }
 
-// The score of a and b, 0 if they are not two entries of a pair list of n.
-pub fn score_among(pairs: &[i32], n: usize, a: usize, b: usize) -> i64
-    ensures { λ r. ⌜ r ≡ scoreAmong n (now (pairs .entry)) a b ⌝ }
+// The pair of a and b; a score of 0 if they are not two entries of a pair list of n.
+pub fn pair_among(pairs: &[i32], n: usize, a: usize, b: usize) -> Pair
+    ensures { λ r. ⌜ r ≡ pairAmong n (now (pairs .entry)) a b ⌝ }
 {
+    let none = Pair {
+        carries: Carried::Scored(0),
+    };
     if n > 32 {
-        return 0;
+        return none;
     }
     if !matrix::has_length(n, pairs) {
-        return 0;
+        return none;
     }
     if a >= n {
-        return 0;
+        return none;
     }
     if b >= n {
-        return 0;
+        return none;
     }
-    matrix::score(pairs, a, b)
+    matrix::pair(pairs, a, b)
 }
 
 pub fn view<'a>(pairs: &'a [i32], n: usize) -> Triangle<'a>
@@ -41,19 +46,19 @@ impl<'a> Triangle<'a> {
         self.n
     }
 
-    // The score of a and b.
-    pub fn score(self, a: usize, b: usize) -> i64
-        ensures { λ r. ⌜ r ≡ scoreAmong (self .entry .n) (now (self .entry .pairs)) a b ⌝ }
+    // The pair of a and b.
+    pub fn pair(self, a: usize, b: usize) -> Pair
+        ensures { λ r. ⌜ r ≡ pairAmong (self .entry .n) (now (self .entry .pairs)) a b ⌝ }
     {
-        score_among(self.pairs, self.n, a, b)
+        pair_among(self.pairs, self.n, a, b)
     }
 }
 
-// The score of a and b in the view of a pair list.
-pub fn score_of(pairs: &[i32], n: usize, a: usize, b: usize) -> i64
-    ensures { λ r. ⌜ r ≡ scoreAmong n (now (pairs .entry)) a b ⌝ }
+// The pair of a and b in the view of a pair list.
+pub fn pair_of(pairs: &[i32], n: usize, a: usize, b: usize) -> Pair
+    ensures { λ r. ⌜ r ≡ pairAmong n (now (pairs .entry)) a b ⌝ }
 {
-    view(pairs, n).score(a, b)
+    view(pairs, n).pair(a, b)
 }
 
 // Why two numbers have no score in a pair list: 6 or 10, or 15 if one is n or more; 0 if they have one.

@@ -4,7 +4,7 @@ use borrow.Author.Needs.{needs}
 use mir.Facts.{toZ-ofZ}
 use Rattle.clusters.specs.Groups.{kindOf}
 use Rattle.interface.specs.Refusals.{sharedRefusal}
-use Rattle.matrix.specs.Checks.{Checked}
+use Rattle.kinds.specs.Kinds.{Accepted}
 use Rattle.groups.specs.Found.{Groups}
 use Rattle.groups.proofs.WaysOut.{sets-long, sets-fit}
 use Rattle.shared.proofs.Answers.{shared-pass, shared-refused, shared-answered}
@@ -16,7 +16,7 @@ refusal-is : (c : tie.After-shared-refusal) → let a = c .before .args in
     c .shared-refusal .result ≡ sharedRefusal (a .kind) (a .n) (a .pairs .now) (a .a) (a .b)
 refusal-is c = rw (toZ-ofZ (c .before .fits .kind)) at (c .shared-refusal .ensures)
 
-passes : (c : tie.Else1) → let a = c .before .before .args in Checked (a .n) (a .pairs .now) × (a .a < a .n) × (a .b < a .n)
+passes : (c : tie.Else1) → let a = c .before .before .args in Accepted (kindOf (a .kind)) (a .n) (a .pairs .now) × (a .a < a .n) × (a .b < a .n)
 passes c = let a = c .before .before .args in
     shared-pass (a .kind) (a .n) (a .pairs .now) (a .a) (a .b) (sym (refusal-is (c .before)) ∙ c .if1 .left)
 
@@ -31,7 +31,7 @@ returns : tie.Need-returns
 returns c = shared-refused (refusal-is (c .before)) (c .if1 .taken)
 
 find-requires : tie.Need-find-requires
-find-requires c κs = passes c .0
+find-requires c κs = rw (toZ-ofZ (c .before .before .fits .kind)) (passes c .0)
 
 array-share-prefix-sets : tie.Need-array-share-prefix-sets
 array-share-prefix-sets c = sets-fit (groups-are (c .before))
@@ -40,7 +40,7 @@ slice-aggregate-first-shared : tie.Need-slice-aggregate-first-shared
 slice-aggregate-first-shared c = sym (sets-long (groups-are (c .before .before)))
 
 first-shared-requires : tie.Need-first-shared-requires
-first-shared-requires c κs = let (checked, ha, hb) = passes (c .before .before .before) in (checked .some, checked .few, ha, hb)
+first-shared-requires c κs = let (a, ha, hb) = passes (c .before .before .before) in (a .checked .some, a .checked .few, ha, hb)
 
 returns-2 : tie.Need-returns-2
 returns-2 c = let f = c .before .before .before in
