@@ -12,7 +12,9 @@ use lib.ListN.{length, set, drop}
 use lib.Seq.{sets}
 use Rattle.lists.specs.Lists.{all}
 use Rattle.lists.proofs.Tests.{true-T, and-T}
-use Rattle.interface.specs.Sheet.{cut, isValue, valueOf}
+use Rattle.pairs.specs.declared.Pair.{Pair}
+use Rattle.pairs.specs.Pairs.{listNumber}
+use Rattle.interface.specs.Sheet.{cut, isCell, pairSaid}
 use Rattle.interface.specs.Refusals.{isRow}
 use Rattle.interface.proofs.Pieces.{some-piece}
 use Rattle.text.specs.Reading.{pieceAt, ValueCall}
@@ -22,34 +24,36 @@ use Rattle.text.specs.declared.ValueRead.the-variants.{Value, Refused}
 use Rattle.text.proofs.Pieces.{pieces-more, pieces-last}
 use Rattle.text.proofs.Values.{valueIf, valueAt, call-value}
 use Rattle.sheet.proofs.Lines.{pieces-from}
+use Rattle.reader.specs.Square.{numberSaid}
 
 -- what an answer of `read_value` says
-pub record Got (s : List ℕ) (at : ℕ) (v : ℤ) (next : Cursor) : Type 0 where
-  pub good : isValue (pieceAt 32 s at) ≡ true
-  pub is : v ≡ valueOf (pieceAt 32 s at)
+pub record Got (s : List ℕ) (at : ℕ) (p : Pair) (next : Cursor) : Type 0 where
+  pub good : isCell (pieceAt 32 s at) ≡ true
+  pub number : listNumber p ≡ numberSaid (pieceAt 32 s at)
   pub end : next .at ≡ at + length (pieceAt 32 s at)
 
-pub value-got : {s : List ℕ} {at : ℕ} {r : ValueRead} (v : ℤ) (next : Cursor) → ValueCall s at r → r ≡ Value v next → Got s at v next
-unfolding valueAt
-value-got {s} {at} v next h q = go (isValue w) refl (sym q ∙ call-value h)
+pub value-got : {s : List ℕ} {at : ℕ} {r : ValueRead} (p : Pair) (next : Cursor) → ValueCall s at r → r ≡ Value p next → Got s at p next
+unfolding valueAt numberSaid
+value-got {s} {at} p next h q = go (isCell w) refl (sym q ∙ call-value h)
   where
     w : List ℕ
     w = pieceAt 32 s at
 
-    go : (b : Bool) → isValue w ≡ b → Value v next ≡ valueIf b (valueOf w) (at + length w) → Got s at v next
+    go : (b : Bool) → isCell w ≡ b → Value p next ≡ valueIf b (pairSaid w) (at + length w) → Got s at p next
     go true t e =
+        let is : p ≡ pairSaid w = cc in
         let x : next ≡ record { at = at + length w } = cc in
-        record { good = t; is = cc; end = ap (λ (c : Cursor). c .at) x }
+        record { good = t; number = ap listNumber is; end = ap (λ (c : Cursor). c .at) x }
     go false t e = let z : _≡_ {A = ℕ} 0 1 = cc in absurd (omega arith)
 
-pub value-not : {s : List ℕ} {at : ℕ} {r : ValueRead} → ValueCall s at r → r ≡ Refused → isValue (pieceAt 32 s at) ≡ false
+pub value-not : {s : List ℕ} {at : ℕ} {r : ValueRead} → ValueCall s at r → r ≡ Refused → isCell (pieceAt 32 s at) ≡ false
 unfolding valueAt
-value-not {s} {at} h q = go (isValue w) refl (sym q ∙ call-value h)
+value-not {s} {at} h q = go (isCell w) refl (sym q ∙ call-value h)
   where
     w : List ℕ
     w = pieceAt 32 s at
 
-    go : (b : Bool) → isValue w ≡ b → Refused ≡ valueIf b (valueOf w) (at + length w) → isValue w ≡ false
+    go : (b : Bool) → isCell w ≡ b → Refused ≡ valueIf b (pairSaid w) (at + length w) → isCell w ≡ false
     go true t e = let z : _≡_ {A = ℕ} 0 1 = cc in absurd (omega arith)
     go false t e = t
 
@@ -59,31 +63,30 @@ row-none m t z = rw (z, ne-eqb (length (cut 32 t)) 0 (λ e. omega (arith, some-p
 
 pub row-length : (n : ℕ) (ws : List (List ℕ)) → isRow n ws ≡ true → length ws ≡ n
 unfolding isRow
-row-length n ws e = eqb→eq (length ws) n (and-T (eqb (length ws) n) (all isValue ws) (true-T e) .0)
+row-length n ws e = eqb→eq (length ws) n (and-T (eqb (length ws) n) (all isCell ws) (true-T e) .0)
 
-pub row-refused : (m : ℕ) (line : List ℕ) (at : ℕ) → isValue (pieceAt 32 line at) ≡ false → isRow m (cut 32 (drop at line)) ≡ false
+pub row-refused : (m : ℕ) (line : List ℕ) (at : ℕ) → isCell (pieceAt 32 line at) ≡ false → isRow m (cut 32 (drop at line)) ≡ false
 unfolding isRow all
 row-refused m line at e = rw (pieces-from 32 line at, e) (and-false (eqb (suc (length (drop 1 (cut 32 (drop at line))))) m))
 
 module _ (line : List ℕ) (at end : ℕ) (inside : at ≤ length line) (is : end ≡ at + length (pieceAt 32 line at)) where
-  pub row-last : (m : ℕ) → length line ≤ end → isValue (pieceAt 32 line at) ≡ true
+  pub row-last : (m : ℕ) → length line ≤ end → isCell (pieceAt 32 line at) ≡ true
       → isRow m (cut 32 (drop at line)) ≡ eqb 1 m
   unfolding isRow all
   row-last m h e = rw (pieces-last 32 line at end inside is h, e) (and-true _)
 
-  pub row-more : (m k : ℕ) → m ≡ suc k → end < length line → isValue (pieceAt 32 line at) ≡ true
+  pub row-more : (m k : ℕ) → m ≡ suc k → end < length line → isCell (pieceAt 32 line at) ≡ true
       → isRow m (cut 32 (drop at line)) ≡ isRow k (cut 32 (drop (end + 1) line))
   unfolding isRow all
   row-more m k z h e = rw (z, pieces-more 32 line at end inside is h, e, eqb·suc-suc (length (cut 32 (drop (end + 1) line))) k)
 
-  pub store-last : (l : List ℤ) (i : ℕ) → length line ≤ end
-      → set l i (valueOf (pieceAt 32 line at)) ≡ sets l i (map valueOf (cut 32 (drop at line)))
-  store-last l i h = rw (pieces-last 32 line at end inside is h)
+  pub store-last : (l : List ℤ) (i : ℕ) {v : ℤ} → v ≡ numberSaid (pieceAt 32 line at) → length line ≤ end
+      → set l i v ≡ sets l i (map numberSaid (cut 32 (drop at line)))
+  store-last l i e h = rw (pieces-last 32 line at end inside is h, e)
 
-  pub store-more : (l : List ℤ) (i : ℕ) → end < length line
-      → sets (set l i (valueOf (pieceAt 32 line at))) (i + 1) (map valueOf (cut 32 (drop (end + 1) line)))
-      ≡ sets l i (map valueOf (cut 32 (drop at line)))
-  store-more l i h = rw (pieces-more 32 line at end inside is h, add-one i)
+  pub store-more : (l : List ℤ) (i : ℕ) {v : ℤ} → v ≡ numberSaid (pieceAt 32 line at) → end < length line
+      → sets (set l i v) (i + 1) (map numberSaid (cut 32 (drop (end + 1) line))) ≡ sets l i (map numberSaid (cut 32 (drop at line)))
+  store-more l i e h = rw (pieces-more 32 line at end inside is h, add-one i, e)
 
 -- a refusal by check 8, or none
 pub refuses : (b : Bool) (r : ℕ) → r ≡ cond b 8 0 → (r ≡ 0 → ⊥) → b ≡ true

@@ -15,12 +15,13 @@ use lib.ListN.{length, getD, take, drop, length-append, length-drop, length-map,
 use lib.Seq.{sets, sets-eq, getD-take, getD-drop, getD-append-add, length-take-le, drop-drop}
 use Rattle.lists.specs.Lists.{below, all}
 use Rattle.lists.proofs.Tests.{or-none}
+use Rattle.pairs.specs.Pairs.{numberFor, listNumber}
 use Rattle.clusters.specs.PairList.{Similarity}
-use Rattle.interface.specs.Sheet.{cut, valueOf, lines, entries, words, value}
+use Rattle.interface.specs.Sheet.{cut, isLoneMinus, valueOf, pairSaid, lines, entries, words, value}
 use Rattle.text.specs.Reading.{pieceAt}
 use Rattle.text.proofs.Pieces.{piece-part, pieces-more, pieces-last}
 use Rattle.interface.specs.Refusals.{isRow, wrongLines, wrongValues}
-use Rattle.reader.specs.Square.{square}
+use Rattle.reader.specs.Square.{numberSaid, square}
 
 -- what check 7 leaves
 pub line-count : (s : List ℕ) → wrongLines s ≡ false → length (lines s) ≡ entries s + 2
@@ -86,27 +87,36 @@ inside-sets vs l i k h p =
     (List·getD-append (take i l ++ vs) (drop (i + length vs) l) (pos 0) (length (take i l) + k) (omega (arith, length-append (take i l) vs))
     ∙ getD-append-add (take i l) vs k (pos 0))
 
+-- a word that is not there
+said-none : numberSaid [] ≡ pos 0
+unfolding numberSaid listNumber numberFor pairSaid isLoneMinus valueOf
+said-none = refl
+
 -- one more row in the square
 module _ (v : Similarity) (l m : List ℤ) (ws : List (List ℕ)) (n i : ℕ) (few : n ≤ 32) (row : i < 32) (size : length l ≡ 1024)
-    (count : length ws ≡ n) (stored : m ≡ sets l (i * 32) (map valueOf ws)) (is : (j : ℕ) → valueOf (getD ws j []) ≡ v i j) where
-  long : i * 32 + length (map valueOf ws) ≤ length l
-  long = omega (arith, length-map ws valueOf)
+    (count : length ws ≡ n) (stored : m ≡ sets l (i * 32) (map numberSaid ws)) (is : (j : ℕ) → numberSaid (getD ws j []) ≡ v i j) where
+  long : i * 32 + length (map numberSaid ws) ≤ length l
+  long = omega (arith, length-map ws numberSaid)
 
   old : (a b : ℕ) → a < i → b < n → square m a b ≡ square l a b
   unfolding square
-  old a b p q = rw stored (before-sets (map valueOf ws) l (i * 32) (a * 32 + b) long (omega arith))
+  old a b p q = rw stored (before-sets (map numberSaid ws) l (i * 32) (a * 32 + b) long (omega arith))
 
   new : (b : ℕ) → b < n → square m i b ≡ v i b
-  unfolding square valueOf
+  unfolding square
   new b q =
-      let h : b < length (map valueOf ws) = omega (arith, length-map ws valueOf) in
-      rw stored (inside-sets (map valueOf ws) l (i * 32) b long h ∙ List·getD-map valueOf ws b [] ∙ is b)
+      let h : b < length (map numberSaid ws) = omega (arith, length-map ws numberSaid) in
+      rw stored
+      (inside-sets (map numberSaid ws) l (i * 32) b long h
+      ∙ ap (getD (map numberSaid ws) b) (sym said-none)
+      ∙ List·getD-map numberSaid ws b []
+      ∙ is b)
 
   pub square-next : ((a b : ℕ) → a < i → b < n → square l a b ≡ v a b) → (a b : ℕ) → a < i + 1 → b < n → square m a b ≡ v a b
   square-next f a b p q =
       let r : suc a ≤ suc i = omega arith in
       ⊎-elim (λ e. rw e (new b q)) (λ h. old a b h q ∙ f a b h q) (eq-or-lt-of-le (le-of-suc-le-suc r))
 
-pub value-at : (s : List ℕ) (i j : ℕ) → valueOf (getD (words s i) j []) ≡ value s i j
-unfolding value
+pub value-at : (s : List ℕ) (i j : ℕ) → numberSaid (getD (words s i) j []) ≡ value s i j
+unfolding value numberSaid
 value-at s i j = refl

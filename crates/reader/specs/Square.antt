@@ -4,7 +4,13 @@ use mathlib.Core.List.{List}
 use Prim.Native.Nat.{ℕ, _+_, _*_, _<_}
 use lib.IntN.{ℤ, pos}
 use lib.ListN.{getD}
+use Rattle.pairs.specs.Pairs.{listNumber}
 use Rattle.clusters.specs.PairList.{Similarity}
+use Rattle.interface.specs.Sheet.{pairSaid}
+
+-- the number in the pair list of the pair that a word stands for
+unfoldable pub numberSaid : List ℕ → ℤ
+numberSaid w = listNumber (pairSaid w)
 
 -- row i stands in the 32 slots from 32·i on
 unfoldable pub square : List ℤ → Similarity

@@ -7,10 +7,10 @@ ghost use lib.Seq.{sets};
 ghost use Rattle.lists.specs.Lists.{all, below};
 ghost use Rattle.integers.specs.Integers.{eqZ};
 ghost use Rattle.clusters.specs.PairList.{rowStart, pairList};
-ghost use Rattle.interface.specs.Sheet.{space, cut, valueOf, entries, value, mirrored};
+ghost use Rattle.interface.specs.Sheet.{space, cut, entries, value, mirrored};
 ghost use Rattle.interface.specs.Refusals.{isRow, wrongLines, wrongValues, readerRefusal};
 ghost use Rattle.interface.specs.Calls.{ReaderCall, startOf, NameCall};
-ghost use Rattle.reader.specs.Square.{square, Holds};
+ghost use Rattle.reader.specs.Square.{numberSaid, square, Holds};
 ghost use Rattle.reader.specs.Names.{NamePart};
 use answers::Answer;
 use text::ValueRead;
@@ -20,15 +20,16 @@ fn read_row(line: &[u8], n: usize, base: usize, values: &mut [i32]) -> usize
     requires { ⌜ base + n ≤ length (now values) ⌝ }
     ensures { λ r. ⌜ r ≡ cond (not (isRow n (cut space (now (line .entry))))) 8 0 ⌝ }
     ensures { λ r. ⌜ (r ≡ 0 →
-        now (values .exit) ≡ sets (now (values .entry)) base (map valueOf (cut space (now (line .entry))))) ⌝ }
+        now (values .exit) ≡ sets (now (values .entry)) base (map numberSaid (cut space (now (line .entry))))) ⌝ }
 {
     let mut at: usize = 0;
     let mut k: usize = 0;
     while k < n {
-        let ValueRead::Value(v, next) = text::read_value(line, at) else {
+        let ValueRead::Value(pair, next) = text::read_value(line, at) else {
             return 8;
         };
-        values[base + k] = v;
+        let number = pairs::list_number(pair);
+        values[base + k] = number;
         k += 1;
         let end = next.at;
         if end >= line.len() {

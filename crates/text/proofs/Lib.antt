@@ -3,3 +3,4 @@ pub mod Bytes
 pub mod Words
 pub mod Values
 pub mod Numerals
+pub mod Cells

@@ -16,13 +16,12 @@ use mir.Syntax.{w32}
 use mir.Facts.{toZ-pos}
 use Rattle.lists.specs.Lists.{all}
 use Rattle.interface.specs.Sheet.{isDigit, isNumeral, isValue, digitValue, numberFrom, valueOf}
-use Rattle.text.specs.Reading.{pieceAt, digits, readOn, isEnd}
+use Rattle.text.specs.Reading.{pieceAt, digits, readOn, isEnd, numberAt}
 use Rattle.text.specs.declared.Digits.{Digits}
-use Rattle.text.specs.declared.ValueRead.{ValueRead}
-use Rattle.text.specs.declared.ValueRead.the-variants.{Refused}
+use Rattle.text.specs.declared.NumberRead.{NumberRead}
+use Rattle.text.specs.declared.NumberRead.the-variants.{Number, IllFormed}
 use Rattle.text.proofs.Pieces.{here, piece-none, piece-stop, piece-step}
 use Rattle.text.proofs.Words.{and-both, empty}
-use Rattle.text.proofs.Values.{valueIf, valueAt}
 
 -- a digit
 pub digit-low : (b : ℕ) → isDigit b ≡ true → 48 ≤ b
@@ -92,11 +91,11 @@ unfolding readOn
 digits-read r v at ds e = (ap (λ (d : Digits). d .number) e, ap (λ (d : Digits). d .end) e)
 
 -- the first piece of a list that does not start with its end, and of one that does
-first-step : (b : ℕ) (t : List ℕ) → eqb b 32 ≡ false → pieceAt 32 (b ∷ t) 0 ≡ b ∷ pieceAt 32 t 0
+pub first-step : (b : ℕ) (t : List ℕ) → eqb b 32 ≡ false → pieceAt 32 (b ∷ t) 0 ≡ b ∷ pieceAt 32 t 0
 unfolding pieceAt
 first-step b t e = piece-step 32 (b ∷ t) 0 (omega arith) (eqb-false b 32 e)
 
-first-end : (t : List ℕ) → isEnd t ≡ true → pieceAt 32 t 0 ≡ []
+pub first-end : (t : List ℕ) → isEnd t ≡ true → pieceAt 32 t 0 ≡ []
 unfolding isEnd
 first-end [] e = piece-none 32 [] 0 (omega arith)
 first-end (b ∷ t) e = piece-stop 32 (b ∷ t) 0 (omega arith) (eqb-true b 32 e)
@@ -254,34 +253,35 @@ signed true n = negℤ (pos n)
 signed false n = pos n
 
 -- what is read where digits that stand for n end at a place, if they are a numeral
-abbrev pub numberRead : (negative good : Bool) (n place : ℕ) → ValueRead
-numberRead negative good n place = valueIf (good && not (negative && eqb n 0)) (signed negative n) place
+abbrev pub numberRead : (negative good : Bool) (n place : ℕ) → NumberRead
+numberRead negative good n place =
+    cond (good && not (negative && eqb n 0)) (Number (signed negative n) (record { at = place })) IllFormed
 
 module _ (s : List ℕ) (at : ℕ) (h : at < length s) where
-  first-byte : eqb (getD s at 0) 45 ≡ false → eqb (getD (pieceAt 32 s at) 0 0) 45 ≡ false
+  pub first-byte : eqb (getD s at 0) 45 ≡ false → eqb (getD (pieceAt 32 s at) 0 0) 45 ≡ false
   first-byte e = go (eqb (getD s at 0) 32) refl
     where
       go : (x : Bool) → eqb (getD s at 0) 32 ≡ x → eqb (getD (pieceAt 32 s at) 0 0) 45 ≡ false
       go true t = rw (piece-stop 32 s at h (eqb-true _ 32 t))
       go false t = rw (piece-step 32 s at h (eqb-false _ 32 t)) e
 
-  pub value-is : (x : Bool) (w : List ℕ) → eqb (getD s at 0) 45 ≡ x → pieceAt 32 s (at + boolByte x) ≡ w
-      → valueAt s at ≡ numberRead x (isNumeral w) (numberFrom 10 0 w) (at + boolByte x + length w)
-  unfolding valueAt isValue valueOf
-  value-is true w e p =
+  pub number-is : (x : Bool) (w : List ℕ) → eqb (getD s at 0) 45 ≡ x → pieceAt 32 s (at + boolByte x) ≡ w
+      → numberAt s at ≡ numberRead x (isNumeral w) (numberFrom 10 0 w) (at + boolByte x + length w)
+  unfolding numberAt isValue valueOf
+  number-is true w e p =
       let b = eqb-true (getD s at 0) 45 e in
       let q : pieceAt 32 s at ≡ 45 ∷ w = piece-step 32 s at h (λ z. absurd (omega (arith, b, z))) ∙ rw (b, p) in
       let z : at + suc (length w) ≡ at + 1 + length w = omega arith in
       rw (q, minus-test w, z)
-  value-is false w e p =
+  number-is false w e p =
       let z : at + 0 ≡ at = omega arith in
       let q : pieceAt 32 s at ≡ w = ap (pieceAt 32 s) (sym z) ∙ p in
       let f : eqb (getD w 0 0) 45 ≡ false = rw q at (first-byte e) in
       rw (q, plain-test w f, plain-value w f, and-true (isNumeral w), z)
 
-pub no-value : (s : List ℕ) (at : ℕ) → length s ≤ at → Refused ≡ valueAt s at
-unfolding valueAt isValue
-no-value s at h = rw (piece-none 32 s at h)
+pub no-number : (s : List ℕ) (at : ℕ) → length s ≤ at → IllFormed ≡ numberAt s at
+unfolding numberAt isValue
+no-number s at h = rw (piece-none 32 s at h)
 
 -- a minus takes one byte; signed values of at most 7 digits
 pub one-byte : (x : Bool) → boolByte x ≤ 1

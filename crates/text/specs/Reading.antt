@@ -3,14 +3,18 @@ use mathlib.Core.Path.{_≡_}
 use mathlib.Core.Bool.{Bool, true, cond, _||_}
 use mathlib.Core.List.{List, [], _∷_}
 use Prim.Native.Nat.{ℕ, zero, suc, _+_}
-use lib.IntN.{ℤ, pos}
+use lib.IntN.{pos}
 use lib.Dec.{eqb}
 use lib.ListN.{length, getD, drop}
-use Rattle.interface.specs.Sheet.{space, isUpper, isDigit, cut, isValue, numberFrom, valueOf}
+use Rattle.pairs.specs.declared.Carried.the-variants.{Scored}
+use Rattle.pairs.specs.declared.Pair.{Pair}
+use Rattle.interface.specs.Sheet.{space, isUpper, isDigit, cut, isValue, isCell, numberFrom, valueOf, pairSaid}
 use Rattle.interface.specs.Refusals.{isAllowed}
 use Rattle.text.specs.declared.Class.{Class}
 use Rattle.text.specs.declared.Class.the-variants.{NameByte, Allowed}
 use Rattle.text.specs.declared.Digits.{Digits}
+use Rattle.text.specs.declared.NumberRead.{NumberRead}
+use Rattle.text.specs.declared.NumberRead.the-variants.{Number, IllFormed}
 use Rattle.text.specs.declared.ValueRead.{ValueRead}
 use Rattle.text.specs.declared.ValueRead.the-variants.{Value, Refused}
 
@@ -38,22 +42,30 @@ unfoldable pub isEnd : List ℕ → Bool
 isEnd [] = true
 isEnd (b ∷ s) = eqb b space
 
+-- the number at a place of a line with the place after it, if the piece there is a value
+unfoldable pub numberAt : List ℕ → ℕ → NumberRead
+numberAt line at =
+    cond (isValue (pieceAt space line at))
+    (Number (valueOf (pieceAt space line at)) (record { at = at + length (pieceAt space line at) }))
+    IllFormed
+
 -- "a value is read with the place after it, or the line is refused": for each case of what was read, the number of the
--- refusal, 0 for none; the value; and the place after it
+-- refusal, 0 for none; the pair; and the place after it
 unfoldable pub refusalOf : ValueRead → ℕ
-refusalOf (Value v next) = 0
+refusalOf (Value p next) = 0
 refusalOf Refused = 8
 
-unfoldable pub valueIn : ValueRead → ℤ
-valueIn (Value v next) = v
-valueIn Refused = pos 0
+unfoldable pub pairIn : ValueRead → Pair
+pairIn (Value p next) = p
+pairIn Refused = record { carries = Scored (pos 0) }
 
 unfoldable pub placeIn : ValueRead → ℕ
-placeIn (Value v next) = next .at
+placeIn (Value p next) = next .at
 placeIn Refused = 0
 
 -- what is read at a place of a line
 pub record ValueCall (line : List ℕ) (at : ℕ) (r : ValueRead) : Type 0 where
-  pub number : refusalOf r ≡ cond (isValue (pieceAt space line at)) 0 8
-  pub value : valueIn r ≡ cond (isValue (pieceAt space line at)) (valueOf (pieceAt space line at)) (pos 0)
-  pub place : placeIn r ≡ cond (isValue (pieceAt space line at)) (at + length (pieceAt space line at)) 0
+  pub number : refusalOf r ≡ cond (isCell (pieceAt space line at)) 0 8
+  pub pair : pairIn r
+      ≡ cond (isCell (pieceAt space line at)) (pairSaid (pieceAt space line at)) (record { carries = Scored (pos 0) })
+  pub place : placeIn r ≡ cond (isCell (pieceAt space line at)) (at + length (pieceAt space line at)) 0

@@ -3,8 +3,10 @@ ghost use Prim.Native.Nat.{_+_, _≤_};
 ghost use lib.Dec.{ltb};
 ghost use lib.ListN.{length, drop};
 ghost use Rattle.lists.specs.Lists.{all};
-ghost use Rattle.interface.specs.Sheet.{lineFeed, space, isUpper, isDigit, cut, isName, isNumeral};
-ghost use Rattle.text.specs.Reading.{inClass, pieceAt, digits, readOn, isEnd, ValueCall};
+ghost use Rattle.interface.specs.Sheet.{lineFeed, space, isUpper, isDigit, cut, isName, isNumeral, isLoneMinus};
+ghost use Rattle.text.specs.Reading.{inClass, pieceAt, digits, readOn, isEnd, numberAt, ValueCall};
+use pairs::Carried;
+use pairs::Pair;
 
 // Classes of bytes.
 pub enum Class {
@@ -17,10 +19,16 @@ pub struct Cursor {
     pub at: usize,
 }
 
-// A value and the place after it, or the line is refused.
+// A pair and the place after it, or the line is refused.
 pub enum ValueRead {
-    Value(i32, Cursor),
+    Value(Pair, Cursor),
     Refused,
+}
+
+// A number and the place after it, or no number is well formed.
+enum NumberRead {
+    Number(i32, Cursor),
+    IllFormed,
 }
 
 // Digits as a number, and the place after them.
@@ -207,13 +215,13 @@ fn is_numeral(line: &[u8], from: usize, end: usize) -> bool
     (line[from] != b'0') | (end - from == 1)
 }
 
-// The value that stands at a place of a line, with the place after it: a numeral, or a minus and one that is not 0.
-pub fn read_value(line: &[u8], at: usize) -> ValueRead
+// The number that stands at a place of a line, with the place after it: a numeral, or a minus and one that is not 0.
+fn read_number(line: &[u8], at: usize) -> NumberRead
     requires { ⌜ at ≤ length (now line) ⌝ }
-    ensures { λ r. ⌜ ValueCall (now (line .entry)) at r ⌝ }
+    ensures { λ r. ⌜ r ≡ numberAt (now (line .entry)) at ⌝ }
 {
     if at >= line.len() {
-        return ValueRead::Refused;
+        return NumberRead::IllFormed;
     }
     let negative = line[at] == b'-';
     let from = at + negative as usize;
@@ -221,13 +229,50 @@ pub fn read_value(line: &[u8], at: usize) -> ValueRead
     let number = digits.number;
     let end = digits.end;
     if !is_numeral(line, from, end) {
-        return ValueRead::Refused;
+        return NumberRead::IllFormed;
     }
     if !negative {
-        return ValueRead::Value(number as i32, Cursor { at: end });
+        return NumberRead::Number(number as i32, Cursor { at: end });
     }
     if number == 0 {
-        return ValueRead::Refused;
+        return NumberRead::IllFormed;
     }
-    ValueRead::Value(0 - number as i32, Cursor { at: end })
+    NumberRead::Number(0 - number as i32, Cursor { at: end })
+}
+
+// A lone minus stands at the place: the mark.
+fn is_lone_minus(line: &[u8], at: usize) -> bool
+    ensures { λ r. ⌜ r ≡ isLoneMinus (pieceAt space (now (line .entry)) at) ⌝ }
+{
+    if at >= line.len() {
+        return false;
+    }
+    if line[at] != b'-' {
+        return false;
+    }
+    is_end(line, at + 1)
+}
+
+// The pair that stands at a place of a line, with the place after it: the mark, or a number.
+pub fn read_value(line: &[u8], at: usize) -> ValueRead
+    requires { ⌜ at ≤ length (now line) ⌝ }
+    ensures { λ r. ⌜ ValueCall (now (line .entry)) at r ⌝ }
+{
+    if is_lone_minus(line, at) {
+        return ValueRead::Value(
+            Pair {
+                carries: Carried::Unscored,
+            },
+            Cursor { at: at + 1 },
+        );
+    }
+    let NumberRead::Number(number, next) = read_number(line, at) else {
+        return ValueRead::Refused;
+    };
+    ValueRead::Value(
+        Pair {
+            carries: Carried::Scored(number),
+        },
+        next,
+    )
 }

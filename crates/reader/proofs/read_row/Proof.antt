@@ -8,11 +8,13 @@ use borrow.Author.Needs.{needs}
 use lib.Dec.{eqb}
 use lib.ListN.{length, drop, length-set}
 use lib.Seq.{sets}
-use mir.Val.{SFits}
+use mir.Val.{ofZ, toZ}
 use mir.Syntax.{w32}
-use mir.Facts.{toZ-ofZ}
-use Rattle.interface.specs.Sheet.{cut, valueOf}
+use Rattle.interface.specs.Sheet.{cut}
 use Rattle.interface.specs.Refusals.{isRow}
+use Rattle.integers.proofs.Held.{passed}
+use Rattle.text.specs.Reading.{pieceAt}
+use Rattle.reader.specs.Square.{numberSaid}
 use Rattle.reader.proofs.Rows.{
   Got,
   value-got,
@@ -34,7 +36,7 @@ Inv-loop line n base values₀ at₀ k₀ values at k =
     (k ≤ n)
     × (at ≤ length line)
     × (isRow (n - k) (cut 32 (drop at line)) ≡ isRow n (cut 32 line))
-    × (sets values (base + k) (map valueOf (cut 32 (drop at line))) ≡ sets values₀ base (map valueOf (cut 32 line)))
+    × (sets values (base + k) (map numberSaid (cut 32 (drop at line))) ≡ sets values₀ base (map numberSaid (cut 32 line)))
     × (length values ≡ length values₀)
 
 abbrev μ-loop : tie.MeasureT-loop
@@ -48,15 +50,15 @@ loop-holds c =
       omega arith,
       omega arith,
       ap (λ (m : ℕ). isRow m (cut 32 (a .line .now))) p,
-      ap (λ (i : ℕ). sets (a .values .now) i (map valueOf (cut 32 (a .line .now)))) q,
+      ap (λ (i : ℕ). sets (a .values .now) i (map numberSaid (cut 32 (a .line .now)))) q,
       refl,
     )
 
 read-value-requires : tie.Need-read-value-requires Inv-loop μ-loop
 read-value-requires c κs = search needs
 
-enum-known-v : tie.Need-enum-known-v Inv-loop μ-loop
-enum-known-v c = search needs
+enum-known-pair : tie.Need-enum-known-pair Inv-loop μ-loop
+enum-known-pair c = search needs
 
 enum-told : tie.Need-enum-told Inv-loop μ-loop
 enum-told c = search needs
@@ -71,32 +73,41 @@ returns c =
     let e = row-refused _ _ (l .at) (value-not (p .read-value .ensures) (c .enum-told .given .1)) in
     (row-eight _ _ (sym (l .inv .2) ∙ e), λ z. absurd (omega (arith, z)))
 
-add-v : tie.Need-add-v Inv-loop μ-loop
-add-v c = search needs
+list-number-requires : tie.Need-list-number-requires Inv-loop μ-loop
+list-number-requires c κs = search needs
 
-mul-v : tie.Need-mul-v Inv-loop μ-loop
-mul-v c = search needs
+add-number : tie.Need-add-number Inv-loop μ-loop
+add-number c = search needs
 
-slice-set-from-v : tie.Need-slice-set-from-v Inv-loop μ-loop
-slice-set-from-v c = search needs
+mul-number : tie.Need-mul-number Inv-loop μ-loop
+mul-number c = search needs
+
+slice-set-from-number : tie.Need-slice-set-from-number Inv-loop μ-loop
+slice-set-from-number c = search needs
 
 add-k : tie.Need-add-k Inv-loop μ-loop
 add-k c = search needs
 
--- the value that was read and the place after it
-got : (c : tie.After-v Inv-loop μ-loop) →
+-- the pair that was read and the place after it
+got : (c : tie.After-pair Inv-loop μ-loop) →
     let l = c .before .before .before .before in
-    Got (l .before .before .args .line .now) (l .loop .at) (c .v .given .0 .0) (c .v .given .0 .1 .0)
-got c = value-got _ _ (c .before .before .read-value .ensures) (c .v .given .1)
+    Got (l .before .before .args .line .now) (l .loop .at) (c .pair .given .0 .0) (c .pair .given .0 .1 .0)
+got c = value-got _ _ (c .before .before .read-value .ensures) (c .pair .given .1)
+
+-- the number that is stored
+stored : (c : tie.After-list-number Inv-loop μ-loop) →
+    let l = c .before .before .before .before .before .before in
+    toZ w32 (ofZ w32 (c .list-number .result)) ≡ numberSaid (pieceAt 32 (l .before .before .args .line .now) (l .loop .at))
+stored c = passed w32 (c .list-number .ok) (c .list-number .ensures ∙ got (c .before .before) .number)
 
 -- the line ends behind the value: it is a row if no other value is wanted
 ends : (c : tie.Then1 Inv-loop μ-loop) →
-    let l = c .before .before .before .before .before .before in
+    let l = c .before .before .before .before .before .before .before in
     let a = l .before .before .args in
     isRow (a .n) (cut 32 (a .line .now)) ≡ eqb 1 (a .n - l .loop .k)
 ends c =
-    let l = c .before .before .before .before .before .before .loop in
-    let g = got (c .before .before) in
+    let l = c .before .before .before .before .before .before .before .loop in
+    let g = got (c .before .before .before) in
     sym (l .inv .2) ∙ row-last _ (l .at) _ (l .inv .1) (g .end) _ (c .if1 .taken) (g .good)
 
 same-length-2 : tie.Need-same-length-2 Inv-loop μ-loop
@@ -104,8 +115,8 @@ same-length-2 c = search needs
 
 returns-2 : tie.Need-returns-2 Inv-loop μ-loop
 returns-2 c =
-    let l = c .before .before .before .before .before .before .before .loop in
-    let a = c .before .before .before .before .before .before .before .before .before .args in
+    let l = c .before .before .before .before .before .before .before .before .loop in
+    let a = c .before .before .before .before .before .before .before .before .before .before .args in
     let e : eqb 1 (a .n - l .k) ≡ false = ne-eqb 1 (a .n - l .k) (λ z. omega arith) in
     (row-eight _ _ (ends (c .before) ∙ e), λ z. absurd (omega (arith, z)))
 
@@ -114,14 +125,13 @@ same-length-3 c = search needs
 
 returns-3 : tie.Need-returns-3 Inv-loop μ-loop
 returns-3 c =
-    let l = c .before .before .before .before .before .before .before .loop in
-    let a = c .before .before .before .before .before .before .before .before .before .args in
-    let g = got (c .before .before .before) in
-    let e : eqb 1 (a .n - l .k) ≡ true = eq-eqb 1 (a .n - l .k) (omega arith) in
-    let f : SFits w32 (c .before .before .before .v .given .0 .0) = search needs in (
+    let l = c .before .before .before .before .before .before .before .before .loop in
+    let a = c .before .before .before .before .before .before .before .before .before .before .args in
+    let g = got (c .before .before .before .before) in
+    let e : eqb 1 (a .n - l .k) ≡ true = eq-eqb 1 (a .n - l .k) (omega arith) in (
       row-zero _ _ (ends (c .before) ∙ e),
-      λ z. rw (toZ-ofZ f, g .is)
-          (store-last _ (l .at) _ (l .inv .1) (g .end) (l .values) (a .base + l .k) (c .before .if1 .taken) ∙ l .inv .3),
+      λ z. store-last _ (l .at) _ (l .inv .1) (g .end) (l .values) (a .base + l .k) (stored (c .before .before)) (c .before .if1 .taken)
+          ∙ l .inv .3,
     )
 
 add-at : tie.Need-add-at Inv-loop μ-loop
@@ -132,17 +142,15 @@ loop-less c = search needs
 
 loop-again : tie.Need-loop-again Inv-loop μ-loop
 loop-again c =
-    let l = c .before .before .before .before .before .before .loop in
-    let a = c .before .before .before .before .before .before .before .before .args in
-    let g = got (c .before .before) in
-    let f : SFits w32 (c .before .before .v .given .0 .0) = search needs in
+    let l = c .before .before .before .before .before .before .before .loop in
+    let a = c .before .before .before .before .before .before .before .before .before .args in
+    let g = got (c .before .before .before) in
     let e : a .n - l .k ≡ suc (a .n - (l .k + 1)) = omega arith in
     let i : a .base + (l .k + 1) ≡ a .base + l .k + 1 = omega arith in (
       omega arith,
       omega arith,
       sym (row-more _ (l .at) _ (l .inv .1) (g .end) _ _ e (c .if1 .left) (g .good)) ∙ l .inv .2,
-      rw (toZ-ofZ f, g .is, i)
-          (store-more _ (l .at) _ (l .inv .1) (g .end) (l .values) (a .base + l .k) (c .if1 .left) ∙ l .inv .3),
+      rw i (store-more _ (l .at) _ (l .inv .1) (g .end) (l .values) (a .base + l .k) (stored (c .before)) (c .if1 .left) ∙ l .inv .3),
       length-set (l .values) (a .base + l .k) _ ∙ l .inv .4,
     )
 
@@ -162,13 +170,14 @@ read-row-spec =
     μ-loop
     loop-holds
     read-value-requires
-    enum-known-v
+    enum-known-pair
     enum-told
     same-length
     returns
-    add-v
-    mul-v
-    slice-set-from-v
+    list-number-requires
+    add-number
+    mul-number
+    slice-set-from-number
     add-k
     same-length-2
     returns-2

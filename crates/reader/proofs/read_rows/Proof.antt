@@ -9,9 +9,9 @@ use lib.Seq.{sets}
 use lib.ListN.{length, drop}
 use Rattle.lists.specs.Lists.{below}
 use Rattle.lists.proofs.Walk.{Passed, started, next-below, failed-below, ended-below}
-use Rattle.interface.specs.Sheet.{valueOf, cut, lines, words, value}
+use Rattle.interface.specs.Sheet.{cut, lines, words, value}
 use Rattle.interface.specs.Refusals.{isRow}
-use Rattle.reader.specs.Square.{square}
+use Rattle.reader.specs.Square.{numberSaid, square}
 use Rattle.reader.proofs.Rows.{row-length, refuses, passes}
 use Rattle.reader.proofs.Values.{
   Line,
@@ -123,7 +123,7 @@ loop-again c =
     let t = line (c .before .before .before .before .before) in
     let r = c .before .before .read-row in
     let y : isRow (a .n) (words s (l .i)) ≡ true = not-false _ (passes _ _ (answer (c .before .before)) (c .if1 .left)) in
-    let m = r .ensures .1 (c .if1 .left) ∙ ap (λ ws. sets (l .values) (l .i * 32) (map valueOf ws)) (line-words s _ _ _ t) in (
+    let m = r .ensures .1 (c .if1 .left) ∙ ap (λ ws. sets (l .values) (l .i * 32) (map numberSaid ws)) (line-words s _ _ _ t) in (
       omega arith,
       omega (arith, t .inside),
       t .next,

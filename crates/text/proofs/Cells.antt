@@ -1,0 +1,79 @@
+-- What stands where a value is asked: the mark, or a number.
+use mathlib.Core.Path.{_≡_, refl, sym, ap, _∙_}
+use mathlib.Core.Bool.{Bool, true, false, cond, true≢false}
+use mathlib.Core.List.{List, [], _∷_}
+use Prim.Native.Nat.{ℕ, suc, _+_, _≤_, _<_}
+use native.Mathlib.Omega.{arith}
+use borrow.Author.Tests.{eqb-true, ne-eqb}
+use lib.Dec.{eqb}
+use lib.IntN.{ℤ}
+use lib.ListN.{length, getD, drop}
+use Rattle.pairs.specs.declared.Carried.the-variants.{Scored, Unscored}
+use Rattle.interface.specs.Sheet.{isValue, isLoneMinus, isCell, valueOf, pairSaid}
+use Rattle.text.specs.Reading.{pieceAt, isEnd, numberAt}
+use Rattle.text.specs.declared.Cursor.{Cursor}
+use Rattle.text.specs.declared.NumberRead.{NumberRead}
+use Rattle.text.specs.declared.NumberRead.the-variants.{Number, IllFormed}
+use Rattle.text.specs.declared.ValueRead.{ValueRead}
+use Rattle.text.specs.declared.ValueRead.the-variants.{Value, Refused}
+use Rattle.text.proofs.Pieces.{piece-none, piece-step}
+use Rattle.text.proofs.Words.{and-both}
+use Rattle.text.proofs.Numerals.{first-step, first-end, first-byte}
+use Rattle.text.proofs.Values.{valueAt}
+
+-- a piece that ends where it starts is empty
+ends-empty : (t : List ℕ) → isEnd t ≡ eqb (length (pieceAt 32 t 0)) 0
+unfolding isEnd
+ends-empty [] = rw (first-end [] refl)
+ends-empty (b ∷ t) = go (eqb b 32) refl
+  where
+    go : (x : Bool) → eqb b 32 ≡ x → x ≡ eqb (length (pieceAt 32 (b ∷ t) 0)) 0
+    go true e = rw (first-end (b ∷ t) e)
+    go false e = rw (first-step b t e) (sym (ne-eqb (suc (length (pieceAt 32 t 0))) 0 (λ z. absurd (omega arith))))
+
+no-minus : (w : List ℕ) → eqb (getD w 0 0) 45 ≡ false → isLoneMinus w ≡ false
+unfolding isLoneMinus
+no-minus [] e = refl
+no-minus (b ∷ w) e = rw e
+
+-- a lone minus at a place, byte by byte
+module _ (s : List ℕ) (at : ℕ) where
+  pub lone-none : length s ≤ at → false ≡ isLoneMinus (pieceAt 32 s at)
+  unfolding isLoneMinus
+  lone-none h = rw (piece-none 32 s at h)
+
+  pub lone-other : at < length s → (getD s at 0 ≡ 45 → ⊥) → false ≡ isLoneMinus (pieceAt 32 s at)
+  lone-other h f = sym (no-minus (pieceAt 32 s at) (first-byte s at h (ne-eqb (getD s at 0) 45 f)))
+
+  pub lone-is : at < length s → getD s at 0 ≡ 45 → isEnd (drop (at + 1) s) ≡ isLoneMinus (pieceAt 32 s at)
+  unfolding isLoneMinus pieceAt
+  lone-is h e =
+      let q : pieceAt 32 s at ≡ 45 ∷ pieceAt 32 s (at + 1) = piece-step 32 s at h (λ z. absurd (omega (arith, e, z))) ∙ rw e in
+      ends-empty (drop (at + 1) s) ∙ sym (ap isLoneMinus q)
+
+lone-length : (w : List ℕ) → isLoneMinus w ≡ true → length w ≡ 1
+unfolding isLoneMinus
+lone-length [] e = absurd (true≢false (sym e))
+lone-length (b ∷ w) e = ap suc (eqb-true (length w) 0 (and-both (eqb b 45) (eqb (length w) 0) e .1))
+
+-- a number as a value
+abbrev pub asValue : NumberRead → ValueRead
+asValue (Number z next) = Value (record { carries = Scored z }) next
+asValue IllFormed = Refused
+
+module _ (s : List ℕ) (at : ℕ) where
+  pub mark-at : isLoneMinus (pieceAt 32 s at) ≡ true → Value (record { carries = Unscored }) (record { at = at + 1 }) ≡ valueAt s at
+  unfolding valueAt isCell pairSaid
+  mark-at e = rw (e, lone-length (pieceAt 32 s at) e)
+
+  pub number-value : isLoneMinus (pieceAt 32 s at) ≡ false → asValue (numberAt s at) ≡ valueAt s at
+  unfolding valueAt numberAt isCell pairSaid
+  number-value e = rw e (go (isValue w) (valueOf w) (record { at = at + length w }))
+    where
+      w : List ℕ
+      w = pieceAt 32 s at
+
+      go : (b : Bool) (z : ℤ) (next : Cursor)
+          → asValue (cond b (Number z next) IllFormed) ≡ cond b (Value (record { carries = Scored z }) next) Refused
+      go true z next = refl
+      go false z next = refl
