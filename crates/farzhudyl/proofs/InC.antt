@@ -8,6 +8,7 @@ use lib.IntN.{ℤ, pos, negℤ}
 use lib.ListN.{length, length-drop, length-map}
 use lib.Seq.{length-take-le}
 use Rattle.lists.specs.Lists.{all}
+use Rattle.pairs.specs.Pairs.{listNumber, pairOf}
 use Rattle.clusters.specs.PairList.{score}
 use Rattle.clusters.specs.Groups.{kindOf, groups}
 use Rattle.clusters.proofs.Shared.{shared-line-le}
@@ -17,7 +18,7 @@ use Rattle.answers.specs.declared.Shared.the-variants.{Set, Refused}
 use Rattle.answers.specs.Shared.{sharedNumber, sharedSet, sharedLine, sharedAnswer}
 use Rattle.interface.specs.Listing.{groupsFound}
 use Rattle.interface.specs.Refusals.{scoreChecks, scoreRefusal, sharedChecks, sharedRefusal}
-use Rattle.interface.specs.Calls.{cNumber, setsFound, NameInC, scoreAmong, ScoreInC, sharedFound, SharedCall, SharedInC}
+use Rattle.interface.specs.Calls.{cNumber, setsFound, NameInC, pairAmong, ScoreInC, sharedFound, SharedCall, SharedInC}
 use Rattle.interface.proofs.Refusals.{first-le}
 use Rattle.reader.specs.Names.{NamePart}
 use Rattle.triangle.proofs.Among.{scored}
@@ -40,8 +41,10 @@ module _ (n : ℕ) (l : List ℤ) (a b : ℕ) where
     pub score-refused : {r : ℤ} → (k ≡ 0 → ⊥) → r ≡ pos k → ScoreInC n l a b lent r lent
     score-refused f q = record { answered = q ∙ ap pos e; written = rw (ne-eqb (scoreRefusal n l a b) 0 (λ z. f (e ∙ z))) }
 
-    pub score-put : {after : ℤ} → k ≡ 0 → after ≡ scoreAmong n l a b → ScoreInC n l a b lent (pos 0) after
-    score-put z q = let first = sym e ∙ z in record { answered = ap pos (sym first); written = q ∙ scored n l a b first ∙ rw first }
+    pub score-put : {after : ℤ} → k ≡ 0 → after ≡ listNumber (pairAmong n l a b) → ScoreInC n l a b lent (pos 0) after
+    unfolding pairAmong
+    score-put z q = let first = sym e ∙ z in
+        record { answered = ap pos (sym first); written = q ∙ ap (λ y. listNumber (pairOf y)) (scored n l a b first) ∙ rw first }
 
 -- a refusal in C
 minus-number : (k : ℕ) → negℤ (pos k) ≡ cNumber (answer k 0)
@@ -50,10 +53,10 @@ minus-number zero = refl
 minus-number (suc k) = refl
 
 module _ (kind : ℤ) (n : ℕ) (l : List ℤ) (i j : ℕ) where
-  -- a refusal's number is at most 15, and a line one of at most 62
-  number-le : sharedRefusal kind n l i j ≤ 15
+  -- a refusal's number is at most 16, and a line one of at most 62
+  number-le : sharedRefusal kind n l i j ≤ 16
   unfolding sharedRefusal sharedChecks all
-  number-le = first-le 15 (sharedChecks kind n l i j) tt
+  number-le = first-le 16 (sharedChecks kind n l i j) tt
 
   line-le : sharedRefusal kind n l i j ≡ 0 → sharedFound kind n l i j .line ≤ 62
   unfolding sharedFound setsFound groupsFound
@@ -63,14 +66,14 @@ module _ (kind : ℤ) (n : ℕ) (l : List ℤ) (i j : ℕ) where
         arith,
         shared-line-le n i j sets,
         length-map (groups (kindOf kind) n (score l)) (λ (g : ℕ × ℤ). g .0),
-        groups-few (kindOf kind) n l (shared-pass kind n l i j z .0 .few),
+        groups-few (kindOf kind) n l (shared-pass kind n l i j z .0 .checked .few),
       )
 
   pub shared-small : {r : Shared} → SharedCall kind n l i j r → (sharedNumber r < 2 ^ 63) × (sharedLine r < 2 ^ 63)
   unfolding sharedNumber sharedLine sharedAnswer
   shared-small {r} c = subst (λ (s : Shared). (sharedNumber s < 2 ^ 63) × (sharedLine s < 2 ^ 63)) (sym (c .answered)) (go (sharedRefusal kind n l i j) number-le line-le)
     where
-      go : (k : ℕ) → k ≤ 15 → (k ≡ 0 → sharedFound kind n l i j .line ≤ 62)
+      go : (k : ℕ) → k ≤ 16 → (k ≡ 0 → sharedFound kind n l i j .line ≤ 62)
           → let s = sharedAnswer k (sharedFound kind n l i j .set) (sharedFound kind n l i j .line) in (sharedNumber s < 2 ^ 63) × (sharedLine s < 2 ^ 63)
       go zero h f = let few = f refl in (omega arith, omega arith)
       go (suc k) h f = (omega arith, omega arith)

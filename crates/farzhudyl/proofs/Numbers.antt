@@ -1,19 +1,19 @@
--- What the sheet call can answer: a refusal's number is at most 14, a listing's length at most 1,379.
+-- What the sheet call can answer: a refusal's number is at most 16, a listing's length at most 1,379.
 use mathlib.Core.Path.{_≡_, refl}
-use mathlib.Core.Bool.{not}
+use mathlib.Core.Bool.{false}
 use mathlib.Core.List.{List}
 use Prim.Native.Nat.{ℕ, zero, suc, _≤_}
 use native.Mathlib.Omega.{arith}
-use borrow.Author.Tests.{not-false}
 use lib.IntN.{ℤ}
-use lib.Dec.{T, lit<}
+use lib.Dec.{lit<}
 use lib.ListN.{length}
 use Rattle.lists.specs.Lists.{all}
-use Rattle.lists.proofs.Tests.{T-false, true-T}
-use Rattle.clusters.specs.PairList.{inRange}
-use Rattle.interface.specs.Refusals.{wrongCount, sheetCallChecks, sheetRefusal}
-use Rattle.interface.proofs.Refusals.{first-le, passes, right-count}
-use Rattle.matrix.proofs.Scores.{range-bounded}
+use Rattle.lists.proofs.Tests.{T-false}
+use Rattle.interface.specs.Refusals.{wrongCount, wrongUnscored, sheetCallChecks, sheetRefusal}
+use Rattle.interface.proofs.Refusals.{first-le, passes, some-count, right-count}
+use Rattle.interface.proofs.Accepted.{sheet-passed}
+use Rattle.matrix.specs.Checks.{Checked}
+use Rattle.kinds.proofs.Listed.{accepted}
 use Rattle.answers.specs.Answers.{numberOf, countOf, answer}
 use Rattle.answers.proofs.Answers.{number-answer}
 use Rattle.interface.specs.Sheet.{entries, pairs}
@@ -27,19 +27,19 @@ count-most zero h = h refl
 count-most (suc k) h = omega arith
 
 module _ (kind : ℤ) (s : List ℕ) (room : ℕ) where
-  pub number-le : numberOf (answer (sheetRefusal kind s room) (length (sheetListing kind s))) ≤ 14
+  pub number-le : numberOf (answer (sheetRefusal kind s room) (length (sheetListing kind s))) ≤ 16
   unfolding sheetRefusal sheetCallChecks all
-  number-le = rw number-answer (first-le 14 (sheetCallChecks kind s room) tt)
+  number-le = rw number-answer (first-le 16 (sheetCallChecks kind s room) tt)
 
-  -- a sheet that is not refused passes checks 6 and 11
+  -- a sheet that is not refused passes checks 6, 11 and 16
   length-le : sheetRefusal kind s room ≡ 0 → length (sheetListing kind s) ≤ 1379
   unfolding sheetRefusal sheetCallChecks sheetListing all
   length-le e =
       let checks = sheetCallChecks kind s room in
-      let six : T (not (wrongCount (entries s))) = passes checks tt e 5 (lit< tt) in
-      let eleven : T (not (not (inRange (pairs s)))) = passes checks tt e 9 (lit< tt) in
-      listing-room kind (entries s) (pairs s) (right-count (entries s) (T-false six))
-      (range-bounded (pairs s) (true-T (not-false (inRange (pairs s)) (T-false {b = not (inRange (pairs s))} eleven))))
+      let six : wrongCount (entries s) ≡ false = T-false {b = wrongCount (entries s)} (passes checks tt e 5 (lit< tt)) in
+      let p = sheet-passed kind s room e in
+      let checked : Checked (entries s) (pairs s) = record { some = some-count (entries s) six; few = right-count (entries s) six; long = p .long; range = p .range } in
+      listing-room kind (entries s) (pairs s) (accepted kind checked (T-false {b = wrongUnscored kind (pairs s)} (p .sixteen)))
 
   pub count-le : countOf (answer (sheetRefusal kind s room) (length (sheetListing kind s))) ≤ 1379
   count-le = count-most (sheetRefusal kind s room) length-le

@@ -1,4 +1,4 @@
--- What each call can answer: a refusal's number is at most 15, and the count is bounded where no check refuses.
+-- What each call can answer: a refusal's number is at most 16, and the count is bounded where no check refuses.
 use mathlib.Core.Path.{_≡_, ap}
 use mathlib.Core.Bool.{Bool}
 use mathlib.Core.List.{List, _∷_}
@@ -40,10 +40,10 @@ use Rattle.farzhudyl.proofs.Room.{groups-few}
 abbrev pub Small : Answer → Type 0
 Small a = (numberOf a < 2 ^ 63) × (countOf a < 2 ^ 63)
 
-small : (checks : List (ℕ × Bool)) {a : Answer} {c : ℕ} → T (all (λ k. leb (k .0) 15) checks)
+small : (checks : List (ℕ × Bool)) {a : Answer} {c : ℕ} → T (all (λ k. leb (k .0) 16) checks)
     → a ≡ answer (firstOf checks) c → (firstOf checks ≡ 0 → c ≤ 528) → Small a
 small checks {a} {c} t e h =
-    (omega (arith, ap numberOf e, number-answer (firstOf checks) c, first-le 15 checks t), omega (arith, ap countOf e, count-most (firstOf checks) h))
+    (omega (arith, ap numberOf e, number-answer (firstOf checks) c, first-le 16 checks t), omega (arith, ap countOf e, count-most (firstOf checks) h))
 
 -- a call whose first check is 6
 few : (n : ℕ) (checks : List (ℕ × Bool)) → firstOf ((6, wrongCount n) ∷ checks) ≡ 0 → n ≤ 32

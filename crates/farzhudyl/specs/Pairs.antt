@@ -8,11 +8,11 @@ use lib.ListN.{length}
 use Rattle.answers.specs.declared.Answer.{Answer}
 use Rattle.answers.specs.Answers.{answer, slots}
 use Rattle.interface.specs.Listing.{pairsListing}
-use Rattle.interface.specs.Refusals.{firstOf, check11, check12, check14}
+use Rattle.interface.specs.Refusals.{firstOf, check11, check16Of, check12, check14}
 
 unfoldable pub pairsRefusal : ℤ → ℕ → List ℤ → (buffer : ℕ) → ℕ
 pairsRefusal kind n l buffer =
-    firstOf (check11 l ∷ check12 kind n l ∷ check14 buffer (pairsListing kind n l) ∷ [])
+    firstOf (check11 l ∷ check16Of kind l ∷ check12 kind n l ∷ check14 buffer (pairsListing kind n l) ∷ [])
 
 pub record PairsListed (kind : ℤ) (n : ℕ) (l : List ℤ) (lent : List ℕ) (r : Answer) (after : List ℕ) : Type 0 where
   pub answered : r ≡ answer (pairsRefusal kind n l (length lent)) (length (pairsListing kind n l))

@@ -12,13 +12,16 @@ ghost use Rattle.farzhudyl.specs.Pairs.{PairsListed};
 use answers::Answer;
 use answers::Shared;
 
-// The listing of a pair list, or the first of checks 11, 12 and 14 that refuses.
+// The listing of a pair list, or the first of checks 11, 16, 12 and 14 that refuses.
 fn list_pairs(kind: i32, n: usize, pairs: &[i32], out: &mut [u8]) -> Answer
     requires { ⌜ (1 ≤ n) × (n ≤ 32) × (length (now pairs) ≡ rowStart n) ⌝ }
     ensures { λ r. ⌜ PairsListed kind n (now (pairs .entry)) (now (out .entry)) r (now (out .exit)) ⌝ }
 {
-    if !matrix::in_range(pairs) {
+    if !matrix::scores_in_range(pairs) {
         return Answer::Refused(11);
+    }
+    if kinds::has_wrong_unscored(kind, pairs) {
+        return Answer::Refused(16);
     }
     if kinds::are_wrong_distances(kind, n, pairs) {
         return Answer::Refused(12);
@@ -170,7 +173,7 @@ pub extern "C" fn farzhudyl_name(sheet: &[u8], entry: usize, start: &mut usize) 
     part.end - part.start
 }
 
-// A score may be negative, so it goes to a slot: 0 is answered, or the refusal's number.
+// A score may be negative, so it goes to a slot, as its number in the pair list: 0 is answered, or the refusal's number.
 #[no_mangle]
 pub extern "C" fn farzhudyl_score(
     n: usize,
@@ -185,7 +188,7 @@ pub extern "C" fn farzhudyl_score(
     if number != 0 {
         return as_i32(number);
     }
-    *score = triangle::score_of(pairs, n, a, b);
+    *score = integers::wide(pairs::list_number(triangle::pair_of(pairs, n, a, b)));
     0
 }
 

@@ -2,7 +2,7 @@
 -- within 4k, the clean index of up to 32 entries within 62k.
 use mathlib.Core.Path.{_≡_, refl}
 use mathlib.Core.List.{List, [], _∷_, map, List·Memᴰ·head}
-use Prim.Native.Nat.{ℕ, _-_, _*_, _≤_}
+use Prim.Native.Nat.{ℕ, _-_, _*_, _≤_, _<_}
 use native.Mathlib.Omega.{arith}
 use lib.IntN.{ℤ}
 use lib.ListN.{take, length-take}
@@ -34,17 +34,18 @@ of-weights n s A m =
     let (c, _, e) = of-map (weight s (ab .0) (ab .1)) (others n A) mz in
     (ab .0, ab .1, c, e)
 
+-- of any scores of n entries between −k and k
+pub strong-within : {k : ℕ} (n : ℕ) (s : Similarity) → ((a b : ℕ) → a < n → b < n → Within k (s a b)) → (A : ℕ) → Within (2 * k) (strongIndex n s A)
+unfolding strongIndex
+strong-within n s b A = least-within (strongValues n s A) (λ z m.
+    let (x, y, w, hx, hy, hw, _, _, _, e) = of-strongValues n s A m in
+    within-grow (omega arith) (within-equal e (within-difference (b x y hx hy) (b x w hx hw))))
+
 module _ {l : List ℤ} {k : ℕ} (b : Bounded k l) where
   pub weights-within : (n A : ℕ) → Bounded (2 * k) (weights n (score l) A)
   unfolding weight
   weights-within n A z m = let (x, y, w, e) = of-weights n (score l) A m in
       within-grow (omega arith) (within-equal e (within-difference (score-within b x y) (within-max (score-within b x w) (score-within b y w))))
-
-  pub strong-within : (n A : ℕ) → Within (2 * k) (strongIndex n (score l) A)
-  unfolding strongIndex
-  strong-within n A = least-within (strongValues n (score l) A) (λ z m.
-      let (x, y, w, _, _, _, _, _, _, e) = of-strongValues n (score l) A m in
-      within-grow (omega arith) (within-equal e (within-difference (score-within b x y) (score-within b x w))))
 
   pub separation-within : (n A : ℕ) → Within (4 * k) (separationIndex n (score l) A)
   unfolding separationIndex

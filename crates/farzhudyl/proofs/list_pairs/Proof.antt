@@ -6,13 +6,14 @@ use borrow.Author.Tests.{lt-ltb, le-ltb, not-false}
 use lib.ListN.{length, take, length-take}
 use mir.Facts.{toZ-ofZ}
 use Rattle.lists.proofs.Tests.{true-T}
-use Rattle.clusters.specs.PairList.{inRange}
+use Rattle.clusters.specs.PairList.{scoresInRange}
 use Rattle.clusters.specs.Groups.{kindOf}
-use Rattle.interface.specs.Refusals.{wrongDistances}
+use Rattle.interface.specs.Refusals.{wrongUnscored, wrongDistances}
 use Rattle.interface.proofs.Refusals.{gives, first-yes, first-no, no-more}
 use Rattle.answers.specs.declared.Answer.the-variants.{Refused}
 use Rattle.answers.proofs.WaysOut.{refused, counted}
-use Rattle.kinds.proofs.Listed.{told}
+use Rattle.matrix.specs.Checks.{Checked}
+use Rattle.kinds.proofs.Listed.{told, accepted}
 use Rattle.groups.specs.Found.{Groups}
 use Rattle.interface.specs.Listing.{groupsFound, pairsListing}
 use Rattle.farzhudyl.specs.Pairs.{pairsRefusal, PairsListed}
@@ -28,36 +29,42 @@ abbrev text : tie.Start → List ℕ
 text s = pairsListing (s .args .kind) (s .args .n) (s .args .pairs .now)
 
 -- the checks passed so far
-passed-11 : (c : tie.Else1) → not (inRange (c .before .before .before .args .pairs .now)) ≡ false
-passed-11 c = ap not (sym (c .before .in-range .ensures)) ∙ c .if1 .left
+passed-11 : (c : tie.Else1) → not (scoresInRange (c .before .before .before .args .pairs .now)) ≡ false
+passed-11 c = ap not (sym (c .before .scores-in-range .ensures)) ∙ c .if1 .left
+
+asked-16 : (c : tie.After-has-wrong-unscored) {t : Bool} → c .has-wrong-unscored .result ≡ t
+    → let s = c .before .before .before .before in wrongUnscored (s .args .kind) (s .args .pairs .now) ≡ t
+asked-16 c =
+    let s = c .before .before .before .before in
+    told (λ k. wrongUnscored k (s .args .pairs .now)) (s .fits .kind) (c .has-wrong-unscored .ensures)
 
 asked-12 : (c : tie.After-are-wrong-distances) {t : Bool} → c .are-wrong-distances .result ≡ t
-    → let s = c .before .before .before .before in wrongDistances (s .args .kind) (s .args .n) (s .args .pairs .now) ≡ t
+    → let s = c .before .before .before .before .before .before in wrongDistances (s .args .kind) (s .args .n) (s .args .pairs .now) ≡ t
 asked-12 c =
-    let s = c .before .before .before .before in
+    let s = c .before .before .before .before .before .before in
     told (λ k. wrongDistances k (s .args .n) (s .args .pairs .now)) (s .fits .kind) (c .are-wrong-distances .ensures)
 
 -- the groups that were found
-these : (c : tie.After-find) → let s = c .before .before .before .before .before .before in
+these : (c : tie.After-find) → let s = c .before .before .before .before .before .before .before .before in
     Groups (kindOf (s .args .kind)) (s .args .n) (s .args .pairs .now) (c .find .result)
-these c = let s = c .before .before .before .before .before .before in
+these c = let s = c .before .before .before .before .before .before .before .before in
     subst (λ k. Groups (kindOf k) (s .args .n) (s .args .pairs .now) (c .find .result)) (toZ-ofZ (s .fits .kind)) (c .find .ensures)
 
 -- the writer wrote the listing
-wrote : (c : tie.After-write) → let s = c .before .before .before .before .before .before .before .before .before .before .before .before in
+wrote : (c : tie.After-write) → let s = c .before .before .before .before .before .before .before .before .before .before .before .before .before .before in
     (c .write .result ≡ length (text s)) × (take (c .write .result) (c .write .last .0) ≡ text s)
 unfolding pairsListing groupsFound
 wrote c =
     let f = c .before .before .before .before .before .before in
-    let s = f .before .before .before .before .before .before in
+    let s = f .before .before .before .before .before .before .before .before in
     let listed = found-listing (kindOf (s .args .kind)) (s .args .n) (s .args .pairs .now) (f .find .result) (these f) (s .pre .1) in
     written _ listed (c .write .ensures .0) (c .write .ensures .1)
 
 long : (c : tie.After-write) → length (take (c .write .result) (c .write .last .0)) ≡ c .write .result
 long c = ap length (wrote c .1) ∙ sym (wrote c .0)
 
-in-range-requires : tie.Need-in-range-requires
-in-range-requires c κs = search needs
+scores-in-range-requires : tie.Need-scores-in-range-requires
+scores-in-range-requires c κs = search needs
 
 -- refused by what the table gives; the listing was written
 refusal : (s : tie.Start) {k : ℕ} → k ≡ pairsRefusal (s .args .kind) (s .args .n) (s .args .pairs .now) (length (s .args .out .now)) → (k ≡ 0 → ⊥)
@@ -70,22 +77,35 @@ returns : tie.Need-returns
 unfolding pairsRefusal
 returns c =
     let s = c .before .before .before in
-    refusal s (gives (first-yes (ap not (sym (c .before .in-range .ensures)) ∙ c .if1 .taken))) (λ z. omega arith)
+    refusal s (gives (first-yes (ap not (sym (c .before .scores-in-range .ensures)) ∙ c .if1 .taken))) (λ z. omega arith)
 
-are-wrong-distances-requires : tie.Need-are-wrong-distances-requires
-are-wrong-distances-requires c κs = search needs
+has-wrong-unscored-requires : tie.Need-has-wrong-unscored-requires
+has-wrong-unscored-requires c κs = search needs
 
 returns-2 : tie.Need-returns-2
 unfolding pairsRefusal
 returns-2 c =
     let s = c .before .before .before .before .before in
-    refusal s (gives (first-no (passed-11 (c .before .before)) (first-yes (asked-12 (c .before) (c .if2 .taken))))) (λ z. omega arith)
+    refusal s (gives (first-no (passed-11 (c .before .before)) (first-yes (asked-16 (c .before) (c .if2 .taken))))) (λ z. omega arith)
+
+are-wrong-distances-requires : tie.Need-are-wrong-distances-requires
+are-wrong-distances-requires c κs = search needs
+
+returns-3 : tie.Need-returns-3
+unfolding pairsRefusal
+returns-3 c =
+    let u = c .before .before in
+    let s = u .before .before .before .before .before in
+    let p = first-no (asked-16 (u .before) (u .if2 .left)) (first-yes (asked-12 (c .before) (c .if3 .taken))) in
+    refusal s (gives (first-no (passed-11 (u .before .before)) p)) (λ z. omega arith)
 
 find-requires : tie.Need-find-requires
 find-requires c κs =
-    let s = c .before .before .before .before .before in
-    let range = true-T (not-false (inRange _) (passed-11 (c .before .before))) in
-    record { some = s .pre .0; few = s .pre .1; long = s .pre .2; range = range }
+    let u = c .before .before in
+    let s = u .before .before .before .before .before in
+    let range = true-T (not-false (scoresInRange _) (passed-11 (u .before .before))) in
+    let checked : Checked (s .args .n) (s .args .pairs .now) = record { some = s .pre .0; few = s .pre .1; long = s .pre .2; range = range } in
+    rw (toZ-ofZ (s .fits .kind)) (accepted (s .args .kind) checked (asked-16 (u .before) (u .if2 .left)))
 
 slice-aggregate-write : tie.Need-slice-aggregate-write
 slice-aggregate-write c = search needs
@@ -99,15 +119,17 @@ slice-aggregate-write-3 c = search needs
 write-requires : tie.Need-write-requires
 write-requires c κs = let g = these (c .before .before .before .before .before) in (found-slots _ _ _ _ g, omega (arith, g .few))
 
-returns-3 : tie.Need-returns-3
+returns-4 : tie.Need-returns-4
 unfolding pairsRefusal
-returns-3 c =
+returns-4 c =
     let w = c .before .before in
     let f = w .before .before .before .before .before .before in
-    let s = f .before .before .before .before .before .before in
-    let h : length (s .args .out .now) < length (text s) = omega (arith, wrote w .0, c .if3 .taken) in
-    let p = first-no (asked-12 (f .before .before) (f .before .if2 .left)) (first-yes (lt-ltb _ _ h)) in
-    refusal s (gives (first-no (passed-11 (f .before .before .before)) p)) (λ z. omega arith)
+    let s = f .before .before .before .before .before .before .before .before in
+    let h : length (s .args .out .now) < length (text s) = omega (arith, wrote w .0, c .if4 .taken) in
+    let d = f .before in
+    let u = d .before .before in
+    let p = first-no (asked-16 (u .before) (u .if2 .left)) (first-no (asked-12 (d .before) (d .if3 .left)) (first-yes (lt-ltb _ _ h))) in
+    refusal s (gives (first-no (passed-11 (u .before .before)) p)) (λ z. omega arith)
 
 array-share-prefix-text : tie.Need-array-share-prefix-text
 array-share-prefix-text c = let w = c .before .before in omega (arith, long w, length-take (w .write .result) (w .write .last .0))
@@ -121,16 +143,18 @@ copy-requires c κs = omega (arith, long (c .before .before .before .before))
 same-length : tie.Need-same-length
 same-length c = search needs
 
-returns-4 : tie.Need-returns-4
+returns-5 : tie.Need-returns-5
 unfolding pairsRefusal
-returns-4 c =
+returns-5 c =
     let o = c .before .before in
     let w = o .before .before .before .before .before in
     let f = w .before .before .before .before .before .before in
-    let s = f .before .before .before .before .before .before in
-    let h : length (text s) ≤ length (s .args .out .now) = omega (arith, wrote w .0, o .before .before .before .if3 .left) in
-    let p = first-no (asked-12 (f .before .before) (f .before .if2 .left)) (first-no (le-ltb _ _ h) no-more) in
-    let (a, t) = counted (length (text s)) (text s) (s .args .out .now) (gives (first-no (passed-11 (f .before .before .before)) p)) refl (wrote w .0) refl
+    let s = f .before .before .before .before .before .before .before .before in
+    let h : length (text s) ≤ length (s .args .out .now) = omega (arith, wrote w .0, o .before .before .before .if4 .left) in
+    let d = f .before in
+    let u = d .before .before in
+    let p = first-no (asked-16 (u .before) (u .if2 .left)) (first-no (asked-12 (d .before) (d .if3 .left)) (first-no (le-ltb _ _ h) no-more)) in
+    let (a, t) = counted (length (text s)) (text s) (s .args .out .now) (gives (first-no (passed-11 (u .before .before)) p)) refl (wrote w .0) refl
     (copied (s .args .out .now) (wrote w .1) (o .copy .ensures .1)) in
     record { answered = a; written = t }
 
@@ -138,18 +162,20 @@ pub list-pairs-spec : {M : Type 1} → statement M
 list-pairs-spec =
     tie.close
     (tie.spec
-    in-range-requires
+    scores-in-range-requires
     returns
-    are-wrong-distances-requires
+    has-wrong-unscored-requires
     returns-2
+    are-wrong-distances-requires
+    returns-3
     find-requires
     slice-aggregate-write
     slice-aggregate-write-2
     slice-aggregate-write-3
     write-requires
-    returns-3
+    returns-4
     array-share-prefix-text
     slice-aggregate-copy
     copy-requires
     same-length
-    returns-4)
+    returns-5)
