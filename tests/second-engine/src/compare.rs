@@ -17,16 +17,16 @@ pub struct Case {
 #[derive(Clone, Debug, Default, PartialEq, Eq)]
 pub struct Tally {
     pub listings: u64,
-    pub refusals: [u64; 16],
+    pub refusals: [u64; 17],
 }
 
-/// The refusals that the sheet call can give.
-pub const SHEET_REFUSALS: [usize; 12] = [1, 2, 3, 4, 5, 6, 7, 8, 9, 11, 12, 14];
+/// The refusals that the sheet call can give, in the order of its checks.
+pub const SHEET_REFUSALS: [usize; 13] = [1, 2, 3, 4, 5, 6, 7, 8, 9, 11, 16, 12, 14];
 
 impl Tally {
     pub fn count(&mut self, answer: i64) {
         match answer {
-            -15..=-1 => self.refusals[-answer as usize] += 1,
+            -16..=-1 => self.refusals[-answer as usize] += 1,
             _ => self.listings += 1,
         }
     }

@@ -1,6 +1,7 @@
 //! The rules of document 01, in its order: the sheet, the definitions, what is
-//! written, where a call is turned away; with them the call of request 2.1. Sets
-//! of entries are 32-bit numbers in which entry i weighs 2 to the power i.
+//! written, where a call is turned away; with them the call of request 2.1 and
+//! the unscored pairs of request 2.2. Sets of entries are 32-bit numbers in which
+//! entry i weighs 2 to the power i.
 
 use std::cmp::Ordering;
 
@@ -10,7 +11,10 @@ pub type Refusal = i64;
 /// The bytes that a sheet may have.
 pub const MOST_BYTES: usize = 12_288;
 const MOST_ENTRIES: usize = 32;
-const GREATEST: i32 = 1_000_000;
+/// The greatest score, and minus the least.
+pub const GREATEST: i32 = 1_000_000;
+/// What a pair list holds of a pair never compared.
+pub const UNSCORED: i32 = i32::MIN;
 
 pub const STRONG: i32 = 1;
 pub const CLEAN: i32 = 2;
@@ -87,8 +91,11 @@ fn read_values(line: &[u8], n: usize) -> Option<Vec<i32>> {
 }
 
 /// An optional minus and 1 to 7 decimal digits, without a leading zero unless
-/// it is `0`; `-0` is ill-formed.
+/// it is `0`; `-0` is ill-formed. Or a lone minus, the mark of an unscored pair.
 fn read_value(text: &[u8]) -> Option<i32> {
+    if text == b"-" {
+        return Some(UNSCORED);
+    }
     let digits = text.strip_prefix(b"-").unwrap_or(text);
     if !(1..=7).contains(&digits.len()) || !digits.iter().all(u8::is_ascii_digit) {
         return None;
@@ -175,12 +182,17 @@ fn members(set: u32) -> Vec<usize> {
 /// The least s(a,a') - s(a,x), a and a' in A, x outside A; a and a' may be the
 /// same entry. A is non-empty and not X.
 pub(crate) fn strong_index(s: Scores, whole: u32, set: u32) -> i64 {
+    least_difference(s, s, whole, set)
+}
+
+/// The same, where pairs within A and pairs across have scores of their own.
+fn least_difference(within: Scores, across: Scores, whole: u32, set: u32) -> i64 {
     let (inside, outside) = (members(set), members(whole & !set));
     let mut least = i64::MAX;
     for &a in &inside {
         for &a2 in &inside {
             for &x in &outside {
-                least = least.min(s.at(a, a2) - s.at(a, x));
+                least = least.min(within.at(a, a2) - across.at(a, x));
             }
         }
     }
@@ -427,6 +439,102 @@ fn split_candidates(d: Scores) -> Vec<u32> {
     sides
 }
 
+// ----------------------------------------------------------- Unscored pairs
+//
+// A filling gives each unscored pair a score in the allowed range, and the
+// strong index is the least over all fillings.
+
+/// How many pairs of a list are unscored.
+pub fn unscored(pairs: &[i32]) -> usize {
+    pairs.iter().filter(|&&pair| pair == UNSCORED).count()
+}
+
+/// The fillings that take no other scores than these.
+pub(crate) fn fillings<'a>(
+    pairs: &'a [i32],
+    scores: &'a [i32],
+) -> impl Iterator<Item = Vec<i32>> + 'a {
+    let count = scores.len().pow(unscored(pairs) as u32);
+    (0..count).map(move |mut number| {
+        let mut filling = pairs.to_vec();
+        for pair in filling.iter_mut().filter(|pair| **pair == UNSCORED) {
+            *pair = scores[number % scores.len()];
+            number /= scores.len();
+        }
+        filling
+    })
+}
+
+/// The strong groups that each of these fillings lists, with the least of their
+/// indices.
+///
+/// To take the two ends of the range is enough. Each term of an index is one
+/// score less another one, so it changes evenly with the score of a pair, the
+/// other pairs kept; the least of several terms is then smallest at an end. Pair
+/// by pair any filling leads to one of ends alone, and no index rises.
+pub(crate) fn listed_in_all(n: usize, pairs: &[i32], scores: &[i32]) -> Vec<(u32, i64)> {
+    let mut rest = fillings(pairs, scores);
+    let first = rest.next().expect("a score to fill with");
+    let mut lines = listed(STRONG, Scores::new(n, &first), usual_way(n));
+    for filling in rest {
+        let s = Scores::new(n, &filling);
+        for (set, index) in &mut lines {
+            *index = strong_index(s, all(n), *set).min(*index);
+        }
+        lines.retain(|&(_, index)| index >= 1);
+    }
+    lines
+}
+
+/// The least and the greatest score that each pair can have.
+pub(crate) struct Bounds {
+    n: usize,
+    least: Vec<i32>,
+    greatest: Vec<i32>,
+}
+
+impl Bounds {
+    pub(crate) fn new(n: usize, pairs: &[i32], greatest: i32) -> Self {
+        let filled = |score| fillings(pairs, &[score]).next().expect("one filling");
+        Bounds {
+            n,
+            least: filled(-greatest),
+            greatest: filled(greatest),
+        }
+    }
+
+    /// The least strong index at once. No pair is both within A and across, so
+    /// one filling makes every term the least it can be: each pair within A has
+    /// its least score, each pair across its greatest.
+    pub(crate) fn strong_index(&self, set: u32) -> i64 {
+        let within = Scores::new(self.n, &self.least);
+        let across = Scores::new(self.n, &self.greatest);
+        least_difference(within, across, all(self.n), set)
+    }
+
+    /// The strong groups of every filling: one of them has each pair at its
+    /// least, and lists them all.
+    pub(crate) fn listed(&self) -> Vec<(u32, i64)> {
+        let one = listed(STRONG, Scores::new(self.n, &self.least), usual_way(self.n));
+        one.into_iter()
+            .map(|(set, _)| (set, self.strong_index(set)))
+            .filter(|&(_, index)| index >= 1)
+            .collect()
+    }
+}
+
+/// The fillings of so many pairs, by the ends of the range, are all tried.
+const FEW_UNSCORED: usize = 8;
+
+/// The lines of a pair list that its kind accepts.
+fn lines(kind: i32, n: usize, pairs: &[i32]) -> Vec<(u32, i64)> {
+    match unscored(pairs) {
+        0 => listed(kind, Scores::new(n, pairs), usual_way(n)),
+        1..=FEW_UNSCORED => listed_in_all(n, pairs, &[-GREATEST, GREATEST]),
+        _ => Bounds::new(n, pairs, GREATEST).listed(),
+    }
+}
+
 // --------------------------------------------------------- What is written
 
 /// First line `set size index`, then a line per group.
@@ -463,10 +571,15 @@ fn check_length(n: usize, pairs: &[i32]) -> Result<(), Refusal> {
     refuse_if(pairs.len() != pair_count(n), 10)
 }
 
-/// 11: a value below -1,000,000 or above 1,000,000.
+/// 11: a value below -1,000,000 or above 1,000,000; the mark is exempt.
 fn check_range(pairs: &[i32]) -> Result<(), Refusal> {
-    let within = |value| (-GREATEST..=GREATEST).contains(value);
+    let within = |&value: &i32| (-GREATEST..=GREATEST).contains(&value) || value == UNSCORED;
     refuse_if(!pairs.iter().all(within), 11)
+}
+
+/// 16, right after 11: an unscored pair.
+fn check_scored(pairs: &[i32]) -> Result<(), Refusal> {
+    refuse_if(unscored(pairs) > 0, 16)
 }
 
 /// 12: in kind 3, a negative value, or an own value that is not 0.
@@ -475,6 +588,15 @@ fn check_distances(kind: i32, n: usize, pairs: &[i32]) -> Result<(), Refusal> {
     let negative = pairs.iter().any(|&value| value < 0);
     let own = (0..n).any(|a| d.at(a, a) != 0);
     refuse_if(kind == SPLITS && (negative || own), 12)
+}
+
+/// What a kind asks of the values: 11, 16 unless it is kind 1, 12.
+fn check_values(kind: i32, n: usize, pairs: &[i32]) -> Result<(), Refusal> {
+    check_range(pairs)?;
+    if kind != STRONG {
+        check_scored(pairs)?;
+    }
+    check_distances(kind, n, pairs)
 }
 
 /// The sheet call and the C call: the listing's length in bytes, or minus the
@@ -490,9 +612,8 @@ fn sheet_call(kind: i32, sheet: &[u8], out: &mut [u8]) -> Result<usize, Refusal>
     check_kind(kind)?;
     let Sheet { names, pairs } = read_sheet(sheet)?;
     let n = names.len();
-    check_range(&pairs)?;
-    check_distances(kind, n, &pairs)?;
-    let text = listing_text(&listed(kind, Scores::new(n, &pairs), usual_way(n)));
+    check_values(kind, n, &pairs)?;
+    let text = listing_text(&lines(kind, n, &pairs));
     refuse_if(text.len() > out.len(), 14)?;
     out[..text.len()].copy_from_slice(&text);
     Ok(text.len())
@@ -509,7 +630,7 @@ pub fn numbers(
 ) -> Result<usize, Refusal> {
     check_numbers(kind, n, pairs)?;
     refuse_if(sets.len() < 2 * n || indices.len() < 2 * n, 13)?;
-    let lines = listed(kind, Scores::new(n, pairs), usual_way(n));
+    let lines = lines(kind, n, pairs);
     sets.fill(0);
     indices.fill(0);
     for (place, &(set, index)) in lines.iter().enumerate() {
@@ -524,8 +645,7 @@ fn check_numbers(kind: i32, n: usize, pairs: &[i32]) -> Result<(), Refusal> {
     check_kind(kind)?;
     check_entries(n)?;
     check_length(n, pairs)?;
-    check_range(pairs)?;
-    check_distances(kind, n, pairs)
+    check_values(kind, n, pairs)
 }
 
 /// The smallest group, of kind 1 or 2, that holds both of two entries, and its
@@ -546,7 +666,7 @@ pub fn smallest_shared(
 pub fn shared_groups(kind: i32, n: usize, pairs: &[i32]) -> Result<Vec<u32>, Refusal> {
     refuse_if(kind == SPLITS, 1)?;
     check_numbers(kind, n, pairs)?;
-    let lines = listed(kind, Scores::new(n, pairs), usual_way(n));
+    let lines = lines(kind, n, pairs);
     Ok(lines.into_iter().map(|(set, _)| set).collect())
 }
 
@@ -574,6 +694,7 @@ pub fn linkage_refusal(n: usize, pairs: &[i32], slots: usize) -> Result<(), Refu
     check_entries(n)?;
     check_length(n, pairs)?;
     check_range(pairs)?;
+    check_scored(pairs)?;
     refuse_if(slots < n - 1, 15)
 }
 
@@ -601,8 +722,7 @@ pub fn anchored(
 ) -> Result<usize, Refusal> {
     check_entries(n)?;
     check_length(n, pairs)?;
-    check_range(pairs)?;
-    check_distances(SPLITS, n, pairs)?;
+    check_values(SPLITS, n, pairs)?;
     refuse_if(anchor >= n || scores.len() < pairs.len(), 15)?;
     let list = anchored_list(Scores::new(n, pairs), anchor);
     for (slot, score) in scores.iter_mut().zip(&list) {
@@ -633,7 +753,7 @@ pub fn way_back(
     Ok(list.len())
 }
 
-/// Distances passing 11 and 12 with these anchored scores. There is only one
+/// Distances passing 11, 16 and 12 with these anchored scores. There is only one
 /// choice, by 2 d(a,b) = S(a,a) + S(b,b) - 2 S(a,b); it is none if half of that
 /// is no such distance or does not lead to these scores again.
 fn distances_behind(n: usize, scores: &[i32], anchor: usize) -> Option<Vec<i32>> {
@@ -645,8 +765,7 @@ fn distances_behind(n: usize, scores: &[i32], anchor: usize) -> Option<Vec<i32>>
             list.push(i32::try_from(twice.div_euclid(2)).ok()?);
         }
     }
-    check_range(&list).ok()?;
-    check_distances(SPLITS, n, &list).ok()?;
+    check_values(SPLITS, n, &list).ok()?;
     let again = anchored_list(Scores::new(n, &list), anchor);
     let same = again
         .iter()
@@ -655,7 +774,8 @@ fn distances_behind(n: usize, scores: &[i32], anchor: usize) -> Option<Vec<i32>>
     same.then_some(list)
 }
 
-/// The score of two entries, counted from 0, in a pair list.
+/// The score of two entries, counted from 0, in a pair list; of an unscored pair
+/// the mark.
 pub fn score(n: usize, pairs: &[i32], a: usize, b: usize) -> Result<i64, Refusal> {
     check_entries(n)?;
     check_length(n, pairs)?;

@@ -1,8 +1,8 @@
 //! Sheets from a seed: good ones of many shapes, damaged ones, and calls made
 //! of them.
 
-use crate::compare::Case;
-use crate::engine;
+use crate::compare::{Case, SHEET_REFUSALS};
+use crate::engine::{self, GREATEST, UNSCORED};
 
 /// splitmix64.
 #[derive(Clone, Debug)]
@@ -46,6 +46,9 @@ pub struct Table {
     pub values: Vec<Vec<i64>>,
 }
 
+/// The value of an unscored pair.
+pub const MARK: i64 = UNSCORED as i64;
+
 impl Table {
     pub fn entries(&self) -> usize {
         self.names.len()
@@ -62,7 +65,11 @@ impl Table {
     }
 
     fn cells(&self) -> Vec<Vec<String>> {
-        let line = |values: &Vec<i64>| values.iter().map(i64::to_string).collect();
+        let cell = |&value: &i64| match value {
+            MARK => "-".to_string(),
+            score => score.to_string(),
+        };
+        let line = |values: &Vec<i64>| values.iter().map(cell).collect();
         self.values.iter().map(line).collect()
     }
 
@@ -258,6 +265,68 @@ pub fn distances(random: &mut Random, n: usize) -> Table {
     table
 }
 
+/// How large a share of the pairs is unscored.
+#[derive(Clone, Copy, Debug, PartialEq, Eq)]
+pub enum Share {
+    OnePair,
+    OneIn(usize),
+}
+
+/// From a single pair to all.
+pub const SHARES: [Share; 4] = [
+    Share::OnePair,
+    Share::OneIn(8),
+    Share::OneIn(2),
+    Share::OneIn(1),
+];
+
+/// Pairs to leave unscored, one or more, own pairs too: that share of the pairs
+/// of some entries, or of all.
+pub fn unscored(random: &mut Random, n: usize, share: Share) -> Vec<(usize, usize)> {
+    let some = match random.one_in(3) {
+        true => n,
+        false => 1 + random.below(n),
+    };
+    let among = &order(random, n)[..some];
+    let mut pairs = vec![(random.of(among), random.of(among))];
+    if let Share::OneIn(count) = share {
+        let every = among
+            .iter()
+            .flat_map(|&a| among.iter().map(move |&b| (a, b)));
+        pairs.extend(every.filter(|(a, b)| b <= a && random.one_in(count)));
+    }
+    pairs
+}
+
+impl Table {
+    /// Leaves some pairs unscored.
+    pub fn unscore(&mut self, random: &mut Random) {
+        let share = random.of(&SHARES);
+        for (a, b) in unscored(random, self.entries(), share) {
+            self.set(a, b, MARK);
+        }
+    }
+}
+
+/// Any score, the ends of the range among them.
+pub fn score(random: &mut Random) -> i32 {
+    let far = i64::from(GREATEST);
+    match random.below(3) {
+        0 => random.of(&[-GREATEST, GREATEST]),
+        1 => random.between(-9, 9) as i32,
+        _ => random.between(-far, far) as i32,
+    }
+}
+
+/// The list with any score for each unscored pair.
+pub fn filling(random: &mut Random, pairs: &[i32]) -> Vec<i32> {
+    let mut filled = |&pair: &i32| match pair {
+        UNSCORED => score(random),
+        scored => scored,
+    };
+    pairs.iter().map(&mut filled).collect()
+}
+
 /// A number of entries, small ones more often.
 pub fn entries(random: &mut Random) -> usize {
     match random.below(8) {
@@ -268,13 +337,17 @@ pub fn entries(random: &mut Random) -> usize {
     }
 }
 
-/// A sheet and a kind that accepts it.
+/// A sheet and a kind that accepts it; of kind 1 with unscored pairs too.
 pub fn good(random: &mut Random, n: usize) -> (i32, Table) {
     let kind = random.of(&[1, 2, 3]);
-    match kind {
-        3 => (kind, distances(random, n)),
-        _ => (kind, scores(random, n)),
+    let mut table = match kind {
+        3 => distances(random, n),
+        _ => scores(random, n),
+    };
+    if kind == 1 && random.one_in(2) {
+        table.unscore(random);
     }
+    (kind, table)
 }
 
 /// Buffer lengths around the length of the listing.
@@ -319,10 +392,19 @@ pub fn case(random: &mut Random) -> Case {
         }
         1 => flawed(random).0,
         2 => {
-            // Scores under any kind, out of range now and then.
-            let mut table = scores(random, n);
-            let far = random.of(&[1_000_001, -1_000_001, 9_999_999, -9_999_999, -1_000_000]);
-            table.set(random.below(n), random.below(n), far);
+            // Scores or distances under any kind, unscored pairs and values out
+            // of range now and then.
+            let mut table = match random.one_in(3) {
+                true => distances(random, n),
+                false => scores(random, n),
+            };
+            if random.one_in(2) {
+                table.unscore(random);
+            }
+            if random.one_in(2) {
+                let far = random.of(&[1_000_001, -1_000_001, 9_999_999, -9_999_999, -1_000_000]);
+                table.set(random.below(n), random.below(n), far);
+            }
             let kind = random.of(&[1, 2, 3]);
             call(random, kind, table.sheet())
         }
@@ -420,7 +502,13 @@ fn damaged_part(random: &mut Random, table: &Table) -> Vec<u8> {
         "12345678",
         "-12345678",
         "00000001",
-        "-",
+        "-2147483648",
+        "2147483648",
+        "--",
+        "- ",
+        " -",
+        "- -",
+        "-A",
         "",
         "1-",
         "--1",
@@ -435,7 +523,7 @@ fn damaged_part(random: &mut Random, table: &Table) -> Vec<u8> {
         "1\n2",
     ];
     let far_values = ["9999999", "-9999999", "1000001", "-1000001", "1000000"];
-    match random.below(16) {
+    match random.below(18) {
         0 | 1 => names[a] = random.of(&bad_names).into(),
         2 => names[a] = names[b].clone(),
         3 | 4 => cells[a][b] = random.of(&bad_values).into(),
@@ -462,6 +550,12 @@ fn damaged_part(random: &mut Random, table: &Table) -> Vec<u8> {
             sheet.resize(random.of(&[12_288, 12_289]), fill);
             return sheet;
         }
+        // A mark on one side of the sheet only, unless it is of an own pair.
+        15 => cells[a][b] = "-".into(),
+        16 => {
+            cells[a][b] = "-".into();
+            cells[b][a] = "-".into();
+        }
         _ => return crowd(random).sheet(),
     }
     written(&names, &cells)
@@ -474,11 +568,11 @@ fn crowd(random: &mut Random) -> Table {
 }
 
 /// A good call made to meet chosen lines of the table, each at a place of its
-/// own, and the answer it must get: minus the least number chosen.
+/// own, and the answer it must get: minus the number of the first.
 pub fn flawed(random: &mut Random) -> (Case, i64) {
-    let mut chosen = [false; 16];
+    let mut chosen = [false; 17];
     for _ in 0..random.of(&[1, 1, 2, 3, 6]) {
-        chosen[random.of(&[1, 2, 3, 4, 5, 6, 7, 8, 9, 11, 12, 14])] = true;
+        chosen[random.of(&SHEET_REFUSALS)] = true;
     }
     let n = if chosen[6] { 33 } else { 4 + random.below(29) };
     let mut table = scattered(random, n, true);
@@ -493,6 +587,9 @@ pub fn flawed(random: &mut Random) -> (Case, i64) {
             false => table.set(3, 2, random.of(&[-1, -1_000_000])),
         }
     }
+    if chosen[16] {
+        table.set(3, random.of(&[0, 1, 3]), MARK);
+    }
     let (mut names, mut cells) = (table.names.clone(), table.cells());
     if chosen[4] {
         names[0] = random
@@ -504,11 +601,22 @@ pub fn flawed(random: &mut Random) -> (Case, i64) {
     }
     if chosen[8] {
         cells[0][0] = random
-            .of(&["-0", "007", "00000000", "", "-", "0 0", "A", "0 "])
+            .of(&[
+                "-0",
+                "007",
+                "00000000",
+                "",
+                "--",
+                "-2147483648",
+                "0 0",
+                "A",
+                "- ",
+            ])
             .into();
     }
     if chosen[9] {
-        cells[1][0] = (table.values[0][1] + random.of(&[1, -1])).to_string();
+        let other = table.values[0][1] + random.of(&[1, -1]);
+        cells[1][0] = random.of(&[other.to_string(), "-".into()]);
     }
     let mut sheet = written(&names, &cells);
     if chosen[7] {
@@ -534,14 +642,16 @@ pub fn flawed(random: &mut Random) -> (Case, i64) {
     }
     let kind = match chosen[1] {
         true => random.of(&[0, 4, -1, i32::MIN, i32::MAX]),
+        false if chosen[16] => random.of(&[2, 3]),
         false => 3,
     };
     let room = match chosen[14] {
         true => random.below(15),
         false => 4096,
     };
-    let least = (1..16)
+    let first = SHEET_REFUSALS
+        .into_iter()
         .find(|&number| chosen[number])
         .expect("one is chosen");
-    (Case { kind, sheet, room }, -(least as i64))
+    (Case { kind, sheet, room }, -(first as i64))
 }

@@ -5,6 +5,7 @@
 //! * `generate`: sheets, good and damaged, from a seed.
 //! * `compare`: another engine's answers and bytes against these.
 //! * `reordering`: an engine's listings of one sheet in two orders.
+//! * `unscored`: an engine's groups of a list before and after pairs are scored.
 //! * `selfcheck`: this engine against itself, by other routes.
 
 #![forbid(unsafe_code)]
@@ -14,3 +15,4 @@ pub mod engine;
 pub mod generate;
 pub mod reordering;
 pub mod selfcheck;
+pub mod unscored;

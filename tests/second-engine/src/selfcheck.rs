@@ -1,11 +1,13 @@
 //! This engine against itself: the two ways of finding sets, reorderings, the
 //! theorems of 003 that lead to the same listing by another route, what two
-//! entries share, and refusals against sheets made to meet them.
+//! entries share, unscored pairs by every filling, and refusals against sheets
+//! made to meet them.
 
 use crate::compare::{Tally, SHEET_REFUSALS};
-use crate::engine::{self, Method, Scores, Way};
+use crate::engine::{self, Bounds, Method, Scores, Way, GREATEST, STRONG, UNSCORED};
 use crate::generate::{self, Random, Table};
 use crate::reordering::{self, read_listing, show, whole};
+use crate::unscored::{check_scoring, check_tree};
 use std::fmt;
 
 /// What a run went through.
@@ -22,6 +24,16 @@ pub struct Report {
     /// Pairs of entries that share a group, and pairs that share none, by kind.
     pub shared: [u64; 4],
     pub not_shared: [u64; 4],
+    /// Sets of lists with unscored pairs whose least index was found by every
+    /// filling; how many of them are listed.
+    pub filled: u64,
+    pub filled_listed: u64,
+    /// Lists with unscored pairs checked by another route, and their lines.
+    pub unscored: u64,
+    pub unscored_lines: u64,
+    /// Groups kept where a pair more was scored, and blocks of fillings' trees.
+    pub kept: u64,
+    pub blocks: u64,
     pub reorderings: u64,
     pub tally: Tally,
 }
@@ -46,6 +58,16 @@ impl fmt::Display for Report {
             )?;
         }
         writeln!(f, "clean groups not strong: {}", self.clean_not_strong)?;
+        writeln!(
+            f,
+            "unscored pairs: {} sets by every filling, {} of them listed; {} lists by another route, {} lines; {} groups kept by a pair more, {} blocks",
+            self.filled,
+            self.filled_listed,
+            self.unscored,
+            self.unscored_lines,
+            self.kept,
+            self.blocks,
+        )?;
         writeln!(f, "reorderings: {}", self.reorderings)?;
         writeln!(
             f,
@@ -95,8 +117,17 @@ pub fn round(random: &mut Random, report: &mut Report) -> Result<(), String> {
             both_ways(kind, &table, report)?;
         }
     }
+    for _ in 0..16 {
+        every_filling(random, report)?;
+    }
+    for _ in 0..8 {
+        some_fillings(random, report)?;
+        scored_later(random, report)?;
+    }
     let n = 1 + random.below(32);
-    for (kind, table) in tables(random, n) {
+    let mut unscored = generate::scores(random, n);
+    unscored.unscore(random);
+    for (kind, table) in tables(random, n).into_iter().chain([(1, unscored)]) {
         another_route(random, kind, &table, report)?;
         shared(kind, &table, report)?;
         let p = generate::order(random, n);
@@ -169,7 +200,10 @@ fn another_route(
     demand(found == wanted, || {
         format!("{found:x?}, wanted {wanted:x?}; {}", show(kind, table))
     })?;
-    if table.entries() > 12 {
+    if engine::unscored(&table.pairs()) > 0 {
+        report.unscored += 1;
+        report.unscored_lines += found.len() as u64;
+    } else if table.entries() > 12 {
         report.large[kind as usize] += 1;
         report.large_lines[kind as usize] += found.len() as u64;
     }
@@ -213,7 +247,11 @@ fn shared(kind: i32, table: &Table, report: &mut Report) -> Result<(), String> {
 }
 
 /// Every strong group is a block of every single linkage tree, every clean
-/// group one of every average linkage tree (003, theorems 2.3 and 2.4).
+/// group one of every average linkage tree (003, theorems 2.3 and 2.4). With
+/// unscored pairs the tree is one of any filling, and of its blocks those are
+/// groups that no unscored pair touches: such a pair of a member would, with the
+/// worst score, leave a term of 0 or less; and where there is none, no filling
+/// changes a term.
 fn through_linkage(
     random: &mut Random,
     kind: i32,
@@ -221,12 +259,24 @@ fn through_linkage(
     table: &Table,
 ) -> Result<Vec<(u32, i64)>, String> {
     let (n, pairs) = (table.entries(), table.pairs());
-    let s = Scores::new(n, &pairs);
-    let blocks = blocks(random, method, n, &pairs)?;
+    let filling = generate::filling(random, &pairs);
+    let (s, touched) = (Scores::new(n, &filling), touched(n, &pairs));
+    let mut blocks = blocks(random, method, n, &filling)?;
+    blocks.retain(|block| block & touched == 0);
     let indices = blocks
         .into_iter()
         .filter_map(|block| Some((block, engine::index(kind, s, whole(n), block)?)));
     Ok(indices.filter(|&(_, index)| index >= 1).collect())
+}
+
+/// The entries that have an unscored pair, with another entry or with themselves.
+fn touched(n: usize, pairs: &[i32]) -> u32 {
+    let entries = (0..n).flat_map(|a| (0..=a).map(move |b| 1 << a | 1 << b));
+    let unscored = entries
+        .zip(pairs)
+        .filter(|(_, &pair)| pair == UNSCORED)
+        .map(|(both, _): (u32, _)| both);
+    unscored.fold(0, |touched, both| touched | both)
 }
 
 /// A side without the first entry is a strong group under the scores anchored
@@ -249,6 +299,98 @@ fn through_anchors(random: &mut Random, table: &Table) -> Result<Vec<(u32, i64)>
         .into_iter()
         .filter_map(|side| Some((side, least(side)?)));
     Ok(indices.filter(|&(_, index)| index >= 1).collect())
+}
+
+/// Every set of a small list: its least index over all fillings, or over fillings
+/// of a few scores if the range is wide, is that over the ends of the range and
+/// the one found at once. Then the groups, by each way of listing them.
+fn every_filling(random: &mut Random, report: &mut Report) -> Result<(), String> {
+    let (n, greatest) = (2 + random.below(4), random.of(&[1, 2, GREATEST]));
+    let (ends, few) = ([-greatest, greatest], [-greatest, -1, 0, 7, greatest]);
+    let scores: Vec<i32> = match greatest {
+        GREATEST => few.to_vec(),
+        narrow => (-narrow..=narrow).collect(),
+    };
+    let mut pairs: Vec<i32> = (0..n * (n + 1) / 2).map(|_| random.of(&scores)).collect();
+    if random.one_in(2) {
+        // Own scores high, so that some sets are listed.
+        (0..n).for_each(|a| pairs[a * (a + 3) / 2] = greatest);
+    }
+    // In the first places only, so that not every entry has an unscored pair.
+    let last = random.below(pairs.len());
+    for _ in 0..=random.below(4) {
+        pairs[random.below(last + 1)] = UNSCORED;
+    }
+    let bounds = Bounds::new(n, &pairs, greatest);
+    let mut lines = Vec::new();
+    for set in 1..whole(n) {
+        let least = |scores: &[i32]| {
+            let fillings = engine::fillings(&pairs, scores);
+            fillings
+                .map(|filling| engine::strong_index(Scores::new(n, &filling), whole(n), set))
+                .min()
+        };
+        let index = bounds.strong_index(set);
+        let found = [least(&scores), least(&ends), Some(index)];
+        demand(found == [Some(index); 3], || {
+            format!("{set:x} has {found:?}; {pairs:?}, range {greatest}")
+        })?;
+        report.filled += 1;
+        if index >= 1 {
+            lines.push((set, index));
+            report.filled_listed += 1;
+        }
+    }
+    lines.sort_unstable_by_key(|&(set, _)| (set.count_ones(), set));
+    let ways = [
+        engine::listed_in_all(n, &pairs, &scores),
+        engine::listed_in_all(n, &pairs, &ends),
+        bounds.listed(),
+    ];
+    demand(ways.iter().all(|way| *way == lines), || {
+        format!("{ways:x?}, wanted {lines:x?}; {pairs:?}, range {greatest}")
+    })
+}
+
+/// A larger list with a few unscored pairs: its groups by the fillings of the
+/// ends of the range, and at once.
+fn some_fillings(random: &mut Random, report: &mut Report) -> Result<(), String> {
+    let n = 1 + random.below(16);
+    let mut table = generate::scores(random, n);
+    for _ in 0..=random.below(5) {
+        table.set(random.below(n), random.below(n), generate::MARK);
+    }
+    let pairs = table.pairs();
+    let all = engine::listed_in_all(n, &pairs, &[-GREATEST, GREATEST]);
+    let at_once = Bounds::new(n, &pairs, GREATEST).listed();
+    demand(all == at_once, || {
+        format!(
+            "every filling: {all:x?}, at once: {at_once:x?}; {}",
+            show(1, &table)
+        )
+    })?;
+    report.unscored += 1;
+    report.unscored_lines += all.len() as u64;
+    Ok(())
+}
+
+/// Scoring a pair more removes no group, and each group is a block of the trees
+/// of fillings.
+fn scored_later(random: &mut Random, report: &mut Report) -> Result<(), String> {
+    let n = 1 + random.below(8);
+    let mut table = generate::scores(random, n);
+    table.unscore(random);
+    let found = |pairs: &[i32]| {
+        let (mut sets, mut indices) = (vec![0; 2 * n], vec![0; 2 * n]);
+        let count = engine::numbers(STRONG, n, pairs, &mut sets, &mut indices)
+            .map_err(|number| format!("refused {number}; {pairs:?}"))?;
+        Ok(sets.into_iter().zip(indices).take(count).collect())
+    };
+    let seed = random.below(usize::MAX) as u64;
+    let merged = |pairs: &[i32]| blocks(&mut Random::new(seed), Method::Single, n, pairs);
+    report.kept += check_scoring(found, random, &table.pairs())? as u64;
+    report.blocks += check_tree(found, merged, random, &table.pairs())? as u64;
+    Ok(())
 }
 
 /// The blocks of a tree, ties broken at random, by size, then by set.
@@ -327,6 +469,9 @@ mod tests {
             assert!(report.shared[kind] > 1_000, "{report}");
             assert!(report.not_shared[kind] > 1_000, "{report}");
         }
+        let unscored = [report.filled_listed, report.unscored_lines, report.kept];
+        assert!(unscored.iter().all(|&count| count > 250), "{report}");
+        assert!(report.blocks > 50, "{report}");
         for number in SHEET_REFUSALS {
             assert!(report.tally.refusals[number] > 100, "{report}");
         }

@@ -1,10 +1,10 @@
 //! The comparison accepts an engine that is right and rejects ones that are not.
 
 use second_engine::compare::{compare, Case, SHEET_REFUSALS};
-use second_engine::engine::listing;
+use second_engine::engine::{listing, read, GREATEST, UNSCORED};
 use second_engine::generate::cases;
 
-const CASES: usize = 1_500;
+const CASES: usize = 2_000;
 
 fn rejected(name: &str, other: impl Fn(i32, &[u8], &mut [u8]) -> i64) {
     let answer = compare(name, other, cases(11).take(CASES));
@@ -102,4 +102,190 @@ fn writing_outside_the_buffer_does_not_pass() {
             length
         });
     }
+}
+
+// ----------------------------------------------------------- Unscored pairs
+
+/// The sheet with another text in place of one that stands as a value.
+fn replaced(sheet: &[u8], old: &str, new: &str) -> Vec<u8> {
+    let mut text = String::from_utf8_lossy(sheet).into_owned();
+    for (before, after) in [(' ', ' '), (' ', '\n'), ('\n', ' '), ('\n', '\n')] {
+        let old = format!("{before}{old}{after}");
+        while text.contains(&old) {
+            text = text.replace(&old, &format!("{before}{new}{after}"));
+        }
+    }
+    text.into_bytes()
+}
+
+/// The pair list of a sheet that is read and has unscored pairs.
+fn unscored_list(sheet: &[u8]) -> Option<(usize, Vec<i32>)> {
+    let mut pairs = vec![0; 528];
+    let n = read(sheet, &mut pairs).ok()?;
+    pairs.truncate(n * (n + 1) / 2);
+    pairs.contains(&UNSCORED).then_some((n, pairs))
+}
+
+/// A term of a strong index: whether it is of one member twice, the pair within
+/// and the pair across. None leaves it out.
+type Term = fn(bool, i32, i32) -> Option<i64>;
+
+fn difference(mark_within: i32, mark_across: i32, within: i32, across: i32) -> Option<i64> {
+    let or = |pair, score| if pair == UNSCORED { score } else { pair };
+    Some(i64::from(or(within, mark_within)) - i64::from(or(across, mark_across)))
+}
+
+fn strong_listing(n: usize, pairs: &[i32], term: Term) -> Vec<u8> {
+    let at = |a: usize, b: usize| pairs[a.max(b) * (a.max(b) + 1) / 2 + a.min(b)];
+    let index = |set: u32| {
+        let (inside, outside): (Vec<usize>, Vec<usize>) = (0..n).partition(|a| set >> a & 1 == 1);
+        let each = |a: usize, b: usize| outside.iter().map(move |&x| (a, b, x));
+        let terms = inside
+            .iter()
+            .flat_map(|&a| inside.iter().flat_map(move |&b| each(a, b)))
+            .filter_map(|(a, b, x)| term(a == b, at(a, b), at(a, x)));
+        terms.min().unwrap_or(0)
+    };
+    let mut sets: Vec<u32> = (1..(1 << n) - 1).filter(|&set| index(set) >= 1).collect();
+    sets.sort_unstable_by_key(|set| (set.count_ones(), *set));
+    let line = |set: u32| format!("{set:08x} {} {}\n", set.count_ones(), index(set));
+    let lines: String = sets.into_iter().map(line).collect();
+    format!("set size index\n{lines}").into_bytes()
+}
+
+/// An engine that is right, but that has these terms where kind 1 lists a sheet of
+/// few entries with unscored pairs.
+fn with_terms(term: Term) -> impl Fn(i32, &[u8], &mut [u8]) -> i64 {
+    move |kind, sheet, out| match unscored_list(sheet) {
+        Some((n, pairs)) if kind == 1 && n <= 9 && listing(1, sheet, &mut [0; 4096]) >= 0 => {
+            let text = strong_listing(n, &pairs, term);
+            match out.get_mut(..text.len()) {
+                Some(room) => room.copy_from_slice(&text),
+                None => return -14,
+            }
+            text.len() as i64
+        }
+        _ => listing(kind, sheet, out),
+    }
+}
+
+/// The lowest score within and the greatest across.
+#[test]
+fn right_terms_pass() {
+    let right = with_terms(|_, within, across| difference(-GREATEST, GREATEST, within, across));
+    compare("right", right, cases(11).take(CASES)).unwrap();
+}
+
+#[test]
+fn wrong_terms_do_not() {
+    let wrong: [(&str, Term); 9] = [
+        ("the mark read as 0", |_, w, x| difference(0, 0, w, x)),
+        ("the most over all fillings", |_, w, x| {
+            difference(GREATEST, -GREATEST, w, x)
+        }),
+        ("the mark as the least score", |_, w, x| {
+            difference(-GREATEST, -GREATEST, w, x)
+        }),
+        ("the mark as the greatest score", |_, w, x| {
+            difference(GREATEST, GREATEST, w, x)
+        }),
+        ("the mark as its number", |_, w, x| {
+            difference(UNSCORED, UNSCORED, w, x)
+        }),
+        ("unscored pairs left out", |_, w, x| {
+            difference(0, 0, w, x).filter(|_| w != UNSCORED && x != UNSCORED)
+        }),
+        ("unscored pairs within left out", |_, w, x| {
+            difference(0, GREATEST, w, x).filter(|_| w != UNSCORED)
+        }),
+        ("unscored pairs across left out", |_, w, x| {
+            difference(-GREATEST, 0, w, x).filter(|_| x != UNSCORED)
+        }),
+        ("unscored own pairs left out", |own, w, x| {
+            difference(-GREATEST, GREATEST, w, x).filter(|_| !own || w != UNSCORED)
+        }),
+    ];
+    for (name, term) in wrong {
+        rejected(name, with_terms(term));
+    }
+}
+
+#[test]
+fn marks_read_otherwise_do_not_pass() {
+    rejected(
+        "a lone minus is ill-formed",
+        |kind, sheet, out| match unscored_list(sheet) {
+            Some(_) if (1..=3).contains(&kind) => -8,
+            _ => listing(kind, sheet, out),
+        },
+    );
+    for text in ["-2147483648", "--", "-0"] {
+        rejected(text, |kind, sheet, out| {
+            listing(kind, &replaced(sheet, text, "-"), out)
+        });
+    }
+    rejected(
+        "one mirrored mark is enough",
+        |kind, sheet, out| match listing(kind, sheet, out) {
+            -9 => listing(kind, &mirrored(sheet), out),
+            answer => answer,
+        },
+    );
+    rejected(
+        "a mark and a score may differ",
+        |kind, sheet, out| match listing(kind, sheet, out) {
+            -9 if replaced(sheet, "-", "0") != sheet => -16,
+            answer => answer,
+        },
+    );
+}
+
+/// A well-formed sheet with the mark in both cells where it is in one.
+fn mirrored(sheet: &[u8]) -> Vec<u8> {
+    let text = std::str::from_utf8(sheet).unwrap();
+    let mut lines: Vec<Vec<&str>> = text.lines().map(|line| line.split(' ').collect()).collect();
+    let values = &mut lines[1..];
+    for a in 0..values.len() {
+        for b in 0..values.len() {
+            if values[a][b] == "-" {
+                values[b][a] = "-";
+            }
+        }
+    }
+    let lines: Vec<String> = lines.iter().map(|line| line.join(" ") + "\n").collect();
+    lines.concat().into_bytes()
+}
+
+#[test]
+fn refusal_16_elsewhere_does_not_pass() {
+    let as_zero =
+        |kind, sheet: &[u8], out: &mut [u8]| listing(kind, &replaced(sheet, "-", "0"), out);
+    rejected("16 for kind 1", |kind, sheet, out| {
+        match listing(kind, sheet, out) {
+            -14 | 0.. if kind == 1 && unscored_list(sheet).is_some() => -16,
+            answer => answer,
+        }
+    });
+    for open in [2, 3] {
+        rejected("no 16 for this kind", |kind, sheet, out| {
+            match listing(kind, sheet, out) {
+                -16 if kind == open => as_zero(kind, sheet, out),
+                answer => answer,
+            }
+        });
+    }
+    for later in [-12, -14] {
+        rejected("16 after this number", |kind, sheet, out| {
+            match listing(kind, sheet, out) {
+                -16 if as_zero(kind, sheet, &mut vec![0; out.len()]) == later => later,
+                answer => answer,
+            }
+        });
+    }
+    rejected("16 before 11", |kind, sheet, out| {
+        match listing(kind, sheet, out) {
+            -11 if kind > 1 && unscored_list(sheet).is_some() => -16,
+            answer => answer,
+        }
+    });
 }

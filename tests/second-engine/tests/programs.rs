@@ -64,6 +64,11 @@ fn a_listing_of_each_kind() {
     for kind in KINDS {
         writes(&[kind], b"A\n0\n", "set size index\n");
     }
+    writes(
+        &["strong"],
+        b"A B\n- 1\n1 9\n",
+        "set size index\n00000002 1 8\n",
+    );
 }
 
 #[test]
@@ -71,6 +76,7 @@ fn refusals_of_one_digit_and_two() {
     writes(&["splits"], b"A B\n0 5\n4 0\n", "refused 9\n");
     writes(&["strong"], b"A\n1000001\n", "refused 11\n");
     writes(&["splits"], FOUR, "refused 12\n");
+    writes(&["clean"], b"A B\n- 1\n1 9\n", "refused 16\n");
 }
 
 #[test]
