@@ -15,7 +15,8 @@ int64_t plain_listing(int32_t kind, const uint8_t *sheet, size_t sheet_len,
 /* The listed sets and their indices, by size, then by set; answers their
    count.  pairs is the lower triangle with own pairs, row by row.  Both
    results have 2n slots; those beyond the count are set to 0.  Nothing is
-   checked: kind is 1 to 3, n is 1 to 32, and the values pass 11 and 12. */
+   checked: kind is 1 to 3, n is 1 to 32, and the values pass 11, 16 and 12, as
+   the kind wants them. */
 int64_t plain_numbers(int32_t kind, int32_t n, const int32_t *pairs,
                       uint32_t *sets, int64_t *indices);
 

@@ -12,6 +12,7 @@
 #include <string.h>
 
 enum { MAX_N = 32, MAX_PAIRS = MAX_N * (MAX_N + 1) / 2, ROOM = 4096 };
+enum { MAX_SCORE = 1000000, UNSCORED = INT32_MIN };
 
 static int failures;
 
@@ -91,8 +92,10 @@ static size_t write_sheet(int n, const int32_t *pairs, char *sheet)
     for (int i = 0; i < n; i++) {
         for (int j = 0; j < n; j++) {
             int high = i > j ? i : j, low = i > j ? j : i;
-            to += sprintf(to, "%" PRId32 "%c", pairs[high * (high + 1) / 2 + low],
-                          j < n - 1 ? ' ' : '\n');
+            int32_t value = pairs[high * (high + 1) / 2 + low];
+            to += value == UNSCORED ? sprintf(to, "-")
+                                    : sprintf(to, "%" PRId32, value);
+            *to++ = j < n - 1 ? ' ' : '\n';
         }
     }
     return (size_t)(to - sheet);
@@ -132,6 +135,14 @@ static void test_bench_cases(void)
     expect_listing("greatest strong index", 1,
                    "A B\n1000000 -1000000\n-1000000 1000000\n",
                    "00000001 1 2000000\n00000002 1 2000000\n");
+    expect_listing("C and D unscored", 1,
+                   "A B C D\n9 8 6 2\n8 9 5 3\n6 5 9 -\n2 3 - 9\n",
+                   "00000001 1 1\n00000002 1 1\n00000003 2 2\n");
+    expect_listing("own pair unscored", 1, "A B\n- 1\n1 9\n", "00000002 1 8\n");
+    expect_listing("one entry unscored", 1, "A\n-\n", "");
+    expect_listing("all unscored", 1, "A B\n- -\n- -\n", "");
+    expect_listing("unscored at the greatest", 1,
+                   "A B\n1000000 -\n- 1000000\n", "");
 }
 
 /* ---- refusals ---- */
@@ -215,8 +226,12 @@ static void test_refusals(void)
     refuses(1, "A\n007\n", 8);
     refuses(1, "A\n00\n", 8);
     refuses(1, "A\n-07\n", 8);
-    refuses(1, "A\n-\n", 8);
+    refuses(1, "A\n--\n", 8);
+    refuses(1, "A\n- \n", 8);
+    refuses(1, "A\n -\n", 8);
+    refuses(1, "A\n-A\n", 8);
     refuses(1, "A\n--1\n", 8);
+    refuses(1, "A\n-2147483648\n", 8);
     refuses(1, "A\n1-\n", 8);
     refuses(1, "A\n\n", 8);
     refuses(1, "A\nA\n", 8);
@@ -228,15 +243,24 @@ static void test_refusals(void)
     refuses(1, "A B\n0 0\n0\n", 8);
     refuses(1, "A B\n0  0\n0 0\n", 8);
     refuses(1, "A B\n0 1\n2 x\n", 3);
-    refuses(1, "A B\n0 1\n2 -\n", 8);
+    refuses(1, "A B\n0 1\n2 --\n", 8);
 
     refuses(1, "A B\n0 1\n2 0\n", 9);
+    refuses(1, "A B\n0 -\n1 0\n", 9);
+    refuses(2, "A B\n0 1\n- 0\n", 9);
     refuses(3, "A B\n9 9999999\n-1 0\n", 9);
 
     refuses(1, "A\n1000001\n", 11);
     refuses(1, "A\n-1000001\n", 11);
     refuses(3, "A B\n5 1000001\n1000001 0\n", 11);
     refuses(2, "A B\n0 -9999999\n-9999999 0\n", 11);
+    refuses(1, "A B\n1000001 -\n- 0\n", 11);
+    refuses(2, "A B\n- 0\n0 1000001\n", 11);
+
+    refuses(2, "A\n-\n", 16);
+    refuses(3, "A\n-\n", 16);
+    refuses(2, "A B\n5 -\n- 5\n", 16);
+    refuses(3, "A B\n5 -\n- -1\n", 16);
 
     refuses(3, "A\n1\n", 12);
     refuses(3, "A\n-1\n", 12);
@@ -266,13 +290,21 @@ static int size_of(uint32_t set)
     return size;
 }
 
+static int64_t score_or(const int32_t *pairs, int a, int b, int64_t unscored)
+{
+    return score(pairs, a, b) == UNSCORED ? unscored : score(pairs, a, b);
+}
+
+/* The least over all fillings: pairs within the set and pairs across are never
+   the same, so the first have the least score and the others the greatest. */
 static int64_t defined_strong(int n, const int32_t *s, uint32_t set)
 {
     int64_t least = INT64_MAX;
     for (int a = 0; a < n; a++)
         for (int b = 0; b < n; b++)
             for (int x = 0; x < n; x++) {
-                int64_t value = score(s, a, b) - score(s, a, x);
+                int64_t value = score_or(s, a, b, -MAX_SCORE) -
+                                score_or(s, a, x, MAX_SCORE);
                 if (holds(set, a) && holds(set, b) && !holds(set, x) &&
                     value < least)
                     least = value;
@@ -412,6 +444,17 @@ static void loose_pairs(bool distances, int n, int32_t *pairs)
     }
 }
 
+/* Leaves some pairs unscored: one in so many of those with both ends from a
+   certain entry on. */
+static void unscore(int n, int32_t *pairs)
+{
+    int from = random_below(n), one_in = 1 + random_below(8);
+    for (int a = from; a < n; a++)
+        for (int b = from; b <= a; b++)
+            if (random_below(one_in) == 0)
+                pairs[a * (a + 1) / 2 + b] = UNSCORED;
+}
+
 static void random_pairs(int32_t kind, int n, int32_t *pairs)
 {
     int32_t step = 1 + random_below(8), noise = random_below(5);
@@ -419,6 +462,8 @@ static void random_pairs(int32_t kind, int n, int32_t *pairs)
         loose_pairs(kind == 3, n, pairs);
     else
         tree_pairs(kind == 3, n, step, noise, pairs);
+    if (kind == 1 && random_below(2) == 0)
+        unscore(n, pairs);
 }
 
 static void show_sheet(int32_t kind, int n, const int32_t *pairs)
@@ -459,7 +504,15 @@ static int run_engine(int32_t kind, int n, const int32_t *pairs, uint32_t *sets,
     return count;
 }
 
-static long lines_seen[4];
+static long lines_seen[4], unscored_seen;
+
+static bool has_unscored(int n, const int32_t *pairs)
+{
+    for (int i = 0; i < n * (n + 1) / 2; i++)
+        if (pairs[i] == UNSCORED)
+            return true;
+    return false;
+}
 
 static void test_against_definitions(int sheets)
 {
@@ -473,6 +526,8 @@ static void test_against_definitions(int sheets)
         int wanted =
             list_by_definition(kind, n, pairs, expected, expected_indices);
         lines_seen[kind] += wanted;
+        if (has_unscored(n, pairs))
+            unscored_seen += wanted;
         if (count != wanted ||
             memcmp(sets, expected, (size_t)count * sizeof *sets) != 0 ||
             memcmp(indices, expected_indices,
@@ -558,7 +613,8 @@ static void test_altered_sheets(int sheets)
         if (random_below(4) == 0)
             len = (size_t)random_below((int32_t)len);
         int64_t answer = call(kind, sheet, len, text, ROOM);
-        if (answer < -14 || answer == -13 || answer == -10 || answer == 0)
+        if (answer < -16 || answer == -15 || answer == -13 || answer == -10 ||
+            answer == 0)
             fail("altered sheet");
     }
 }
@@ -575,7 +631,8 @@ int main(int argc, char **argv)
         printf("%d differences\n", failures);
         return 1;
     }
-    printf("no difference; lines checked: strong %ld, clean %ld, splits %ld\n",
-           lines_seen[1], lines_seen[2], lines_seen[3]);
+    printf("no difference; lines checked: strong %ld, %ld of them with unscored "
+           "pairs, clean %ld, splits %ld\n",
+           lines_seen[1], unscored_seen, lines_seen[2], lines_seen[3]);
     return 0;
 }

@@ -60,8 +60,10 @@ size_t write_sheet(int n, const int32_t *pairs, uint8_t *text)
     for (int i = 0; i < n; i++)
         for (int j = 0; j < n; j++) {
             int high = i > j ? i : j, low = i + j - high;
-            to += sprintf(to, "%" PRId32 "%c", pairs[high * (high + 1) / 2 + low],
-                          j < n - 1 ? ' ' : '\n');
+            int32_t value = pairs[high * (high + 1) / 2 + low];
+            to += value == INT32_MIN ? sprintf(to, "-")
+                                     : sprintf(to, "%" PRId32, value);
+            *to++ = j < n - 1 ? ' ' : '\n';
         }
     return (size_t)(to - (char *)text);
 }

@@ -21,7 +21,8 @@ void near_tree(bool distances, int n, int32_t *pairs);
 /* Values of 0 to 1,000,000, each alike; the own values of distances are 0. */
 void unstructured(bool distances, int n, int32_t *pairs);
 
-/* Writes the sheet of a pair list; answers its length. */
+/* Writes the sheet of a pair list, INT32_MIN as a lone minus; answers its
+   length. */
 size_t write_sheet(int n, const int32_t *pairs, uint8_t *text);
 
 #endif
