@@ -1,4 +1,5 @@
-//! The bench of document 01, starred cases and others, and its worked example.
+//! The bench of document 01, starred cases and others, and its worked example;
+//! unscored pairs (request 2.2).
 
 use second_engine::compare::{Case, Expected};
 
@@ -92,6 +93,29 @@ pub fn cases() -> Vec<(i32, String, Answer)> {
     }
     let farthest = "A B\n0 1000000\n1000000 0\n";
     add(3, farthest, Ok("00000002 1 2000000\n"));
+
+    // C and D never compared; then A's own pair; then no pair at all.
+    let apart = "A B C D\n9 8 6 2\n8 9 5 3\n6 5 9 -\n2 3 - 9\n";
+    add(1, apart, Ok("00000001 1 1\n00000002 1 1\n00000003 2 2\n"));
+    let own = "A B\n- 1\n1 9\n";
+    add(1, own, Ok("00000002 1 8\n"));
+    let none = ["A\n-\n", "A B\n- -\n- -\n"];
+    for sheet in none {
+        add(1, sheet, Ok(""));
+    }
+    for kind in [2, 3] {
+        for sheet in [apart, own].into_iter().chain(none) {
+            add(kind, sheet, Err(16));
+        }
+        add(kind, "A B\n7 -\n- -1\n", Err(16));
+        add(kind, "A B\n7 -\n- 1000001\n", Err(11));
+    }
+    for kind in 1..=3 {
+        add(kind, "A B\n0 -\n0 0\n", Err(9));
+        for ill_formed in ["--", "- ", " -", "-2147483648"] {
+            add(kind, &format!("A\n{ill_formed}\n"), Err(8));
+        }
+    }
     cases
 }
 

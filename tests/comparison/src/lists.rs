@@ -2,8 +2,8 @@
 //! over with them.
 
 use crate::sheet_call::small_table;
-use second_engine::engine;
-use second_engine::generate::{self, Random, Table};
+use second_engine::engine::{self, UNSCORED};
+use second_engine::generate::{self, Random, Share, Table, MARK, SHARES};
 use std::hint::black_box;
 use std::ops::RangeInclusive;
 
@@ -19,6 +19,13 @@ impl List {
         List {
             n: table.entries(),
             pairs: table.pairs(),
+        }
+    }
+
+    /// Leaves that share of the pairs unscored.
+    pub fn unscore(&mut self, random: &mut Random, share: Share) {
+        for (a, b) in generate::unscored(random, self.n, share) {
+            self.pairs[pair_count(a.max(b)) + a.min(b)] = UNSCORED;
         }
     }
 }
@@ -37,11 +44,20 @@ pub fn call_on(list: &List, wanted: i64, call: impl FnOnce(&[i32]) -> i64) -> Re
 }
 
 /// Every list of so few entries and values, own values 0 or not.
-pub fn small(n: usize, own: bool, values: RangeInclusive<i64>) -> impl Iterator<Item = List> {
-    let values: Vec<i64> = values.collect();
+pub fn small(
+    n: usize,
+    own: bool,
+    values: impl IntoIterator<Item = i64>,
+) -> impl Iterator<Item = List> {
+    let values: Vec<i64> = values.into_iter().collect();
     let pairs = pair_count(if own { n } else { n - 1 });
     (0..values.len().pow(pairs as u32))
         .map(move |number| List::of(&small_table(n, own, &values, number)))
+}
+
+/// These values, and the mark.
+pub fn marked(values: RangeInclusive<i64>) -> impl Iterator<Item = i64> {
+    values.chain([MARK])
 }
 
 /// The pairs of n entries, or of so few that a list of them can be made.
@@ -55,7 +71,8 @@ pub fn own(entry: usize) -> usize {
     pair_count(entry) + entry
 }
 
-/// In range: trees and near-trees, tied values, the ends of the range.
+/// In range: trees and near-trees, tied values, the ends of the range; now and
+/// then with unscored pairs.
 pub fn scores(random: &mut Random) -> List {
     let n = generate::entries(random);
     scores_of(random, n)
@@ -67,6 +84,10 @@ pub fn scores_of(random: &mut Random, n: usize) -> List {
     if random.one_in(8) {
         let ends = [-1_000_000, -999_999, -1, 0, 1, 999_999, 1_000_000];
         list.pairs.fill_with(|| random.of(&ends));
+    }
+    if random.one_in(3) {
+        let share = random.of(&SHARES);
+        list.unscore(random, share);
     }
     list
 }
@@ -95,10 +116,10 @@ pub fn flawed(random: &mut Random, mut list: List) -> List {
 }
 
 fn flaw(random: &mut Random, list: &mut List) {
-    let far = [1_000_001, -1_000_001, i32::MAX, i32::MIN, 2_000_000];
+    let far = [1_000_001, -1_000_001, i32::MAX, UNSCORED + 1, 2_000_000];
     let few = [-1_000_000, -1, 1, 2, 1_000_000];
     let n = list.n;
-    match random.below(8) {
+    match random.below(9) {
         0 => {
             // The list of another number of entries, or the number alone.
             list.n = random.of(&[0, 0, 33, 33, 40, n + 1, n.wrapping_sub(1)]);
@@ -115,6 +136,7 @@ fn flaw(random: &mut Random, list: &mut List) {
             list.pairs.resize(random.of(&near).min(1_000), 0);
         }
         4 | 5 => put(random, list, &far),
+        6 => put(random, list, &[UNSCORED]),
         _ => put(random, list, &few),
     }
 }

@@ -5,6 +5,7 @@
 //! * `number_calls`: the calls on a pair list, all but the next.
 //! * `shared_call`: the smallest group two entries share.
 //! * `reader_calls`: the calls on a sheet that write no listing.
+//! * `unscored`: pairs never compared, and what follows where they are scored.
 
 mod bench;
 mod calls;
@@ -15,6 +16,7 @@ mod parts;
 mod reader_calls;
 mod shared_call;
 mod sheet_call;
+mod unscored;
 
 use parts::Parts;
 use std::process::ExitCode;
@@ -33,6 +35,7 @@ fn main() -> ExitCode {
     number_calls::run(cases, seed, &mut parts);
     shared_call::run(cases / 75, seed, &mut parts);
     reader_calls::run(cases / 5, seed, &mut parts);
+    unscored::run(cases / 30, seed, &mut parts);
     parts.end()
 }
 

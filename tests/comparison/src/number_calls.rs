@@ -5,32 +5,32 @@
 use crate::bench;
 use crate::calls::{self, MOST_PAIRS};
 use crate::lent::{Lent, FLIPS};
-use crate::lists::{self, call_on, own, pair_count, small, List};
+use crate::lists::{self, call_on, marked, own, pair_count, small, List};
 use crate::parts::{Call, Parts};
 use second_engine::compare::Tally;
-use second_engine::engine::{self, Method};
-use second_engine::generate::{self, Random, Table};
+use second_engine::engine::{self, Method, UNSCORED};
+use second_engine::generate::{self, Random, Table, MARK};
 use second_engine::reordering::{image, parse_listing};
 
 const CALLS: [Call; 5] = [
     Call {
         name: "numbers",
-        refusals: &[1, 6, 10, 11, 12, 13],
+        refusals: &[1, 6, 10, 11, 16, 12, 13],
         generated: numbers,
     },
     Call {
         name: "single linkage",
-        refusals: &[6, 10, 11, 15],
+        refusals: &[6, 10, 11, 16, 15],
         generated: |random| linkage(random, Method::Single),
     },
     Call {
         name: "average linkage",
-        refusals: &[6, 10, 11, 15],
+        refusals: &[6, 10, 11, 16, 15],
         generated: |random| linkage(random, Method::Average),
     },
     Call {
         name: "anchored scores",
-        refusals: &[6, 10, 11, 12, 15],
+        refusals: &[6, 10, 11, 16, 12, 15],
         generated: anchored_scores,
     },
     Call {
@@ -61,7 +61,7 @@ fn number(answer: Result<usize, engine::Refusal>) -> i64 {
     answer.map_or_else(|number| -number, |count| count as i64)
 }
 
-fn check_numbers(kind: i32, list: &List, rooms: (usize, usize)) -> Result<i64, String> {
+pub fn check_numbers(kind: i32, list: &List, rooms: (usize, usize)) -> Result<i64, String> {
     let List { n, pairs } = list;
     let (mut sets, mut indices) = (vec![0; rooms.0], vec![0; rooms.1]);
     let wanted = number(engine::numbers(kind, *n, pairs, &mut sets, &mut indices));
@@ -92,7 +92,7 @@ fn linkage_call(method: Method) -> fn(usize, &[i32], &mut [u32]) -> i64 {
 }
 
 /// Any tree is taken that the list allows.
-fn check_linkage(method: Method, list: &List, room: usize) -> Result<i64, String> {
+pub fn check_linkage(method: Method, list: &List, room: usize) -> Result<i64, String> {
     let List { n, pairs } = list;
     let wanted = number(engine::linkage_refusal(*n, pairs, room).map(|()| n - 1));
     let mut tree = None;
@@ -121,7 +121,7 @@ type Anchored = fn(usize, &[i32], usize, &mut [i32]) -> Result<usize, engine::Re
 type AnchoredCall = fn(usize, usize, &[i32], &mut [i32]) -> i64;
 
 /// The anchored scores or the way back, whose slots have the same form.
-fn check_anchored(
+pub fn check_anchored(
     (engine, call): (Anchored, AnchoredCall),
     list: &List,
     anchor: usize,
@@ -143,8 +143,8 @@ fn check_anchored(
     Ok(wanted)
 }
 
-const ANCHORED: (Anchored, AnchoredCall) = (engine::anchored, calls::anchored_scores);
-const BACK: (Anchored, AnchoredCall) = (engine::way_back, calls::distances_back);
+pub const ANCHORED: (Anchored, AnchoredCall) = (engine::anchored, calls::anchored_scores);
+pub const BACK: (Anchored, AnchoredCall) = (engine::way_back, calls::distances_back);
 
 /// The answer as the other calls give it: 0, or minus the refusal's number. A
 /// refused call leaves the slot as it was.
@@ -211,28 +211,30 @@ fn way_back(random: &mut Random) -> Result<i64, String> {
     check_anchored(BACK, &list, anchor, room)
 }
 
-/// Scores below 0, 0 and above, and every refusal.
+/// Unscored pairs, scores below 0, 0 and above, and every refusal.
 fn scores(random: &mut Random, calls: usize, parts: &mut Parts) {
     let mut tally = Tally::default();
-    let mut signs = [0; 3];
+    let mut signs = [0; 4];
     let outcome = (0..calls).try_for_each(|_| {
         let list = lists::any(random, lists::scores);
         let (a, b) = (lists::entry(random, list.n), lists::entry(random, list.n));
         tally.count(check_score(&list, a, b)?);
-        if let Ok(score) = engine::score(list.n, &list.pairs, a, b) {
-            signs[(score.signum() + 1) as usize] += 1;
+        match engine::score(list.n, &list.pairs, a, b) {
+            Ok(MARK) => signs[0] += 1,
+            Ok(score) => signs[(score.signum() + 2) as usize] += 1,
+            Err(_) => {}
         }
         Ok(())
     });
     let ended = outcome.is_ok();
     parts.add("score, generated calls", outcome);
     if ended {
-        println!("scores below 0, 0, and above: {signs:?}");
+        println!("unscored pairs, scores below 0, 0, and above: {signs:?}");
         let outcome = match signs.contains(&0) {
-            true => Err("none of a sign was met".into()),
+            true => Err("none of a sort was met".into()),
             false => Ok(()),
         };
-        parts.add("score, every sign is met", outcome);
+        parts.add("score, every sort is met", outcome);
         parts.add_refusals("score", &tally, &[6, 10, 15]);
     }
 }
@@ -242,24 +244,30 @@ fn scores(random: &mut Random, calls: usize, parts: &mut Parts) {
 /// Every list of so few entries and values, ties and all orders with them.
 fn small_lists() -> Result<(), String> {
     for kind in 1..=3 {
-        for list in small(3, true, -1..=2).chain(small(4, false, 0..=2)) {
+        let lists = small(3, true, marked(-1..=2)).chain(small(4, false, marked(0..=2)));
+        for list in lists {
             check_numbers(kind, &list, (2 * list.n, 2 * list.n))?;
         }
     }
+    for list in small(4, true, [0, 1, MARK]) {
+        check_numbers(1, &list, (2 * list.n, 2 * list.n))?;
+    }
     for method in [Method::Single, Method::Average] {
         let lists = small(4, false, 0..=3).chain(small(4, false, -2..=0));
-        for list in lists.chain(small(5, false, 0..=1)) {
+        let lists = lists.chain(small(5, false, 0..=1));
+        for list in lists.chain(small(3, true, [0, 1, MARK])) {
             check_linkage(method, &list, list.n - 1)?;
         }
     }
     for (call, values) in [(ANCHORED, -1..=2), (BACK, -1..=3)] {
-        for list in small(3, true, values).chain(small(2, true, -5..=7)) {
+        let marked = small(2, true, marked(-5..=7)).chain(small(3, true, [0, 2, MARK]));
+        for list in small(3, true, values).chain(marked) {
             for anchor in 0..=list.n {
                 check_anchored(call, &list, anchor, list.pairs.len())?;
             }
         }
     }
-    for list in small(3, true, 0..=1).chain(small(1, true, -2..=2)) {
+    for list in small(3, true, [0, MARK]).chain(small(1, true, marked(-2..=2))) {
         every_score(&list)?;
     }
     Ok(())
@@ -300,43 +308,51 @@ fn scores_of_every_size() -> Result<(), String> {
 
 // --------------------------------------------------- Slices of every length
 
-/// Result slices from 0 on, and lists from 0 on, to a few slots more than serve.
+/// Result slices from 0 on, and lists from 0 on, to a few slots more than serve;
+/// lists of zeros and of marks.
 fn every_length() -> Result<(), String> {
     for n in [0, 1, 2, 3, 4, 5, 13, 31, 32, 33] {
-        let list = List {
+        for value in [0, UNSCORED] {
+            lengths(n, value)?;
+        }
+    }
+    Ok(())
+}
+
+fn lengths(n: usize, value: i32) -> Result<(), String> {
+    let list = List {
+        n,
+        pairs: vec![value; pair_count(n)],
+    };
+    let (most, few) = (2 * n + 3, n + 2);
+    for kind in 1..=3 {
+        for room in 0..=most {
+            check_numbers(kind, &list, (room, most))?;
+            check_numbers(kind, &list, (most, room))?;
+        }
+    }
+    for room in 0..=few {
+        check_linkage(Method::Single, &list, room)?;
+        check_linkage(Method::Average, &list, room)?;
+    }
+    for length in 0..=pair_count(33) + 2 {
+        for anchor in [0, n.saturating_sub(1), n] {
+            check_anchored(ANCHORED, &list, anchor, length)?;
+            check_anchored(BACK, &list, anchor, length)?;
+        }
+        let other = List {
             n,
-            pairs: vec![0; pair_count(n)],
+            pairs: vec![value; length],
         };
-        let (most, few) = (2 * n + 3, n + 2);
-        for kind in 1..=3 {
-            for room in 0..=most {
-                check_numbers(kind, &list, (room, most))?;
-                check_numbers(kind, &list, (most, room))?;
-            }
-        }
-        for room in 0..=few {
-            check_linkage(Method::Single, &list, room)?;
-            check_linkage(Method::Average, &list, room)?;
-        }
-        for length in 0..=pair_count(33) + 2 {
-            for anchor in [0, n.saturating_sub(1), n] {
-                check_anchored(ANCHORED, &list, anchor, length)?;
-                check_anchored(BACK, &list, anchor, length)?;
-            }
-            let other = List {
-                n,
-                pairs: vec![0; length],
-            };
-            if length != list.pairs.len() {
-                check_numbers(1, &other, (most, most))?;
-                check_linkage(Method::Single, &other, few)?;
-                check_linkage(Method::Average, &other, few)?;
-                check_anchored(ANCHORED, &other, 0, MOST_PAIRS)?;
-                check_anchored(BACK, &other, 0, MOST_PAIRS)?;
-                for entry in [0, n.saturating_sub(1), n, usize::MAX] {
-                    check_score(&other, entry, 0)?;
-                    check_score(&other, 0, entry)?;
-                }
+        if length != list.pairs.len() {
+            check_numbers(1, &other, (most, most))?;
+            check_linkage(Method::Single, &other, few)?;
+            check_linkage(Method::Average, &other, few)?;
+            check_anchored(ANCHORED, &other, 0, MOST_PAIRS)?;
+            check_anchored(BACK, &other, 0, MOST_PAIRS)?;
+            for entry in [0, n.saturating_sub(1), n, usize::MAX] {
+                check_score(&other, entry, 0)?;
+                check_score(&other, 0, entry)?;
             }
         }
     }
@@ -396,8 +412,10 @@ fn reordered(kind: i32, table: &Table, p: &[usize]) -> Result<(), String> {
         return Err("other groups".into());
     }
     for method in [Method::Single, Method::Average] {
-        let mut merged = vec![0; old.n - 1];
-        linkage_call(method)(old.n, &old.pairs, &mut merged);
+        if engine::unscored(&old.pairs) > 0 {
+            break;
+        }
+        let merged = merged(method, &old)?;
         let images: Vec<u32> = merged.iter().map(|&set| image(1, p, set)).collect();
         if !engine::is_tree(method, new.n, &new.pairs, &images) {
             return Err(format!("{method:?}: no tree of the other"));
@@ -431,8 +449,17 @@ fn same_anchored(old: &List, new: &List, anchor: usize, p: &[usize]) -> bool {
     (0..old.n).all(|a| (0..=a).all(|b| at(&here, a, b) == at(&there, p[a], p[b])))
 }
 
+/// The merged blocks, as a linkage call writes them.
+pub fn merged(method: Method, list: &List) -> Result<Vec<u32>, String> {
+    let mut merged = vec![0; list.n - 1];
+    match linkage_call(method)(list.n, &list.pairs, &mut merged) {
+        0.. => Ok(merged),
+        minus => Err(format!("{method:?}: refused {}", -minus)),
+    }
+}
+
 /// The groups and their indices, as the numbers call writes them.
-fn found(kind: i32, list: &List) -> Option<Vec<(u32, i64)>> {
+pub fn found(kind: i32, list: &List) -> Option<Vec<(u32, i64)>> {
     let (mut sets, mut indices) = (vec![0; 2 * list.n], vec![0; 2 * list.n]);
     let count = calls::numbers(kind, list.n, &list.pairs, &mut sets, &mut indices);
     let groups = sets.into_iter().zip(indices);
@@ -453,7 +480,7 @@ fn bench_cases() -> Result<(), String> {
                 let wanted = parse_listing(&format!("set size index\n{lines}"));
                 wanted.is_some() && found(kind, &list) == wanted
             }
-            Err(number @ 11..=12) => {
+            Err(number @ (11 | 16 | 12)) => {
                 let (mut sets, mut indices) = (vec![0; 2 * n], vec![0; 2 * n]);
                 -number == calls::numbers(kind, n, &list.pairs, &mut sets, &mut indices)
             }

@@ -13,6 +13,15 @@ pub struct Call {
     pub generated: fn(&mut Random) -> Result<i64, String>,
 }
 
+/// Says how many of these were met; none is wrong.
+pub fn met(what: &str, count: usize) -> Result<(), String> {
+    println!("{what}: {count}");
+    match count {
+        0 => Err("none was met".into()),
+        _ => Ok(()),
+    }
+}
+
 #[derive(Default)]
 pub struct Parts {
     passed: u32,

@@ -3,9 +3,10 @@
 
 use crate::calls::{self, MOST_PAIRS};
 use crate::lent::{Lent, FLIPS};
-use crate::parts::{Call, Parts};
+use crate::parts::{met, Call, Parts};
+use crate::sheet_call::small_texts;
 use second_engine::compare::Tally;
-use second_engine::engine;
+use second_engine::engine::{self, UNSCORED};
 use second_engine::generate::{self, Random, Table};
 use std::hint::black_box;
 
@@ -23,6 +24,7 @@ const READER: Call = Call {
 
 pub fn run(cases: usize, seed: u64, parts: &mut Parts) {
     parts.add_generated(&READER, cases, seed);
+    parts.add("reader, sheets of all few texts", sheets_of_texts());
     let mut random = Random::new(!seed);
     let mut names = Names::default();
     let outcome = names.generated(&mut random, cases);
@@ -67,6 +69,18 @@ fn check_reader(sheet: &[u8]) -> Result<i64, String> {
     Ok(wanted)
 }
 
+/// Every sheet of small_texts; some with unscored pairs are read.
+fn sheets_of_texts() -> Result<(), String> {
+    let mut unscored = 0;
+    for sheet in small_texts() {
+        check_reader(&sheet)?;
+        let mut pairs = [0; MOST_PAIRS];
+        let read = engine::read(&sheet, &mut pairs).is_ok();
+        unscored += usize::from(read && pairs.contains(&UNSCORED));
+    }
+    met("sheets with unscored pairs that are read", unscored)
+}
+
 // -------------------------------------------------------------------- Names
 
 /// The names asked for.
@@ -79,7 +93,7 @@ struct Names {
     /// Numbers that are no entries of a sheet that is read.
     no_entry: u64,
     /// Names whose bytes stand in the sheet before their own place.
-    seen_before: u64,
+    seen_before: usize,
 }
 
 impl Names {
@@ -121,11 +135,7 @@ impl Names {
             }
             self.check_all(&sheet_of(names), n)?;
         }
-        println!("names seen before their place: {}", self.seen_before);
-        match self.seen_before {
-            0 => Err("none was met".into()),
-            _ => Ok(()),
-        }
+        met("names seen before their place", self.seen_before)
     }
 
     fn check_all(&mut self, sheet: &[u8], n: usize) -> Result<(), String> {
@@ -167,7 +177,7 @@ impl Names {
             Ok(n) => {
                 self.tally.count(n as i64);
                 let first = sheet.windows(name.len()).position(|part| part == name);
-                self.seen_before += u64::from(first != Some(start));
+                self.seen_before += usize::from(first != Some(start));
             }
         }
     }

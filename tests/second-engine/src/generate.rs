@@ -3,6 +3,7 @@
 
 use crate::compare::{Case, SHEET_REFUSALS};
 use crate::engine::{self, GREATEST, UNSCORED};
+use std::fmt;
 
 /// splitmix64.
 #[derive(Clone, Debug)]
@@ -272,6 +273,15 @@ pub enum Share {
     OneIn(usize),
 }
 
+impl fmt::Display for Share {
+    fn fmt(&self, f: &mut fmt::Formatter) -> fmt::Result {
+        match self {
+            Share::OnePair => write!(f, "one pair unscored"),
+            Share::OneIn(count) => write!(f, "1 in {count} pairs unscored"),
+        }
+    }
+}
+
 /// From a single pair to all.
 pub const SHARES: [Share; 4] = [
     Share::OnePair,
@@ -299,9 +309,8 @@ pub fn unscored(random: &mut Random, n: usize, share: Share) -> Vec<(usize, usiz
 }
 
 impl Table {
-    /// Leaves some pairs unscored.
-    pub fn unscore(&mut self, random: &mut Random) {
-        let share = random.of(&SHARES);
+    /// Leaves that share of the pairs unscored.
+    pub fn unscore(&mut self, random: &mut Random, share: Share) {
         for (a, b) in unscored(random, self.entries(), share) {
             self.set(a, b, MARK);
         }
@@ -345,7 +354,8 @@ pub fn good(random: &mut Random, n: usize) -> (i32, Table) {
         _ => scores(random, n),
     };
     if kind == 1 && random.one_in(2) {
-        table.unscore(random);
+        let share = random.of(&SHARES);
+        table.unscore(random, share);
     }
     (kind, table)
 }
@@ -399,7 +409,8 @@ pub fn case(random: &mut Random) -> Case {
                 false => scores(random, n),
             };
             if random.one_in(2) {
-                table.unscore(random);
+                let share = random.of(&SHARES);
+                table.unscore(random, share);
             }
             if random.one_in(2) {
                 let far = random.of(&[1_000_001, -1_000_001, 9_999_999, -9_999_999, -1_000_000]);

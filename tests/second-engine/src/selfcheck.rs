@@ -5,7 +5,7 @@
 
 use crate::compare::{Tally, SHEET_REFUSALS};
 use crate::engine::{self, Bounds, Method, Scores, Way, GREATEST, STRONG, UNSCORED};
-use crate::generate::{self, Random, Table};
+use crate::generate::{self, Random, Table, SHARES};
 use crate::reordering::{self, read_listing, show, whole};
 use crate::unscored::{check_scoring, check_tree};
 use std::fmt;
@@ -126,7 +126,8 @@ pub fn round(random: &mut Random, report: &mut Report) -> Result<(), String> {
     }
     let n = 1 + random.below(32);
     let mut unscored = generate::scores(random, n);
-    unscored.unscore(random);
+    let share = random.of(&SHARES);
+    unscored.unscore(random, share);
     for (kind, table) in tables(random, n).into_iter().chain([(1, unscored)]) {
         another_route(random, kind, &table, report)?;
         shared(kind, &table, report)?;
@@ -379,7 +380,8 @@ fn some_fillings(random: &mut Random, report: &mut Report) -> Result<(), String>
 fn scored_later(random: &mut Random, report: &mut Report) -> Result<(), String> {
     let n = 1 + random.below(8);
     let mut table = generate::scores(random, n);
-    table.unscore(random);
+    let share = random.of(&SHARES);
+    table.unscore(random, share);
     let found = |pairs: &[i32]| {
         let (mut sets, mut indices) = (vec![0; 2 * n], vec![0; 2 * n]);
         let count = engine::numbers(STRONG, n, pairs, &mut sets, &mut indices)

@@ -245,11 +245,10 @@ fn mirrored(sheet: &[u8]) -> Vec<u8> {
     let text = std::str::from_utf8(sheet).unwrap();
     let mut lines: Vec<Vec<&str>> = text.lines().map(|line| line.split(' ').collect()).collect();
     let values = &mut lines[1..];
-    for a in 0..values.len() {
-        for b in 0..values.len() {
-            if values[a][b] == "-" {
-                values[b][a] = "-";
-            }
+    let places = (0..values.len()).flat_map(|a| (0..a).map(move |b| (a, b)));
+    for (a, b) in places {
+        if values[a][b] == "-" || values[b][a] == "-" {
+            (values[a][b], values[b][a]) = ("-", "-");
         }
     }
     let lines: Vec<String> = lines.iter().map(|line| line.join(" ") + "\n").collect();
