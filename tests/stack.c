@@ -167,6 +167,20 @@ static void alike(bool distances, int entries, int32_t *to)
             *to++ = distances && a == b ? 0 : 1000000;
 }
 
+/* A ladder whose last entry has no own score, so no strong group holds that entry. */
+static void own_unscored(bool distances, int entries, int32_t *to)
+{
+    ladder(distances, entries, to);
+    to[FARZHUDYL_PAIRS(entries) - 1] = INT32_MIN;
+}
+
+static void all_unscored(bool distances, int entries, int32_t *to)
+{
+    (void)distances;
+    for (int i = 0; i < FARZHUDYL_PAIRS(entries); i++)
+        to[i] = INT32_MIN;
+}
+
 static void good(MakePairs *make, int entries)
 {
     n = (size_t)entries;
@@ -276,6 +290,8 @@ static void *run(void *unused)
         good(near_tree, sizes[i]);
         good(ladder, sizes[i]);
         good(alike, sizes[i]);
+        good(own_unscored, sizes[i]);
+        good(all_unscored, sizes[i]);
     }
     full_sheets();
     refused_ones();

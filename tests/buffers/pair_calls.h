@@ -18,6 +18,10 @@ static int32_t *lend_list(const List *list, int pass) { return (int32_t *)lend(l
 
 static bool list_unchanged(int32_t *lent, const List *list) { return unchanged(lent, list->pairs, list->length * sizeof(int32_t)); }
 
+/* Small lists with unscored pairs. */
+static const int32_t mark = UNSCORED;
+static const List apart_list = {"C and D unscored", 4, apart_pairs, 10}, unscored_one = {"one entry, unscored", 1, &mark, 1};
+
 /* Lists that checks 6 and 10 refuse, each with its number. */
 typedef void VisitList(const List *list, int number);
 
@@ -92,6 +96,35 @@ static void found(int32_t kind, const List *list, const Groups *groups)
         expect_numbers(kind, list, rooms[i].sets_len, rooms[i].indices_len, rooms[i].serves ? (int64_t)groups->count : -13, groups);
 }
 
+/* A list with unscored pairs has strong groups, and is refused otherwise, before the rooms are measured. */
+static void found_unscored(const List *list, const Groups *groups)
+{
+    found(FARZHUDYL_STRONG, list, groups);
+    for (int32_t kind = FARZHUDYL_CLEAN; kind <= FARZHUDYL_SPLITS; kind++) {
+        expect_numbers(kind, list, FARZHUDYL_GROUPS_MAX, FARZHUDYL_GROUPS_MAX, -16, &no_groups);
+        expect_numbers(kind, list, 0, 0, -16, &no_groups);
+    }
+}
+
+static void unscored_numbers(void)
+{
+    int32_t pairs[PAIRS];
+    const List large = {"32 entries, unscored pairs", ENTRIES, pairs, PAIRS};
+    Groups groups = no_groups;
+    put_apart_groups(&groups);
+    found_unscored(&apart_list, &groups);
+    found_unscored(&unscored_one, &no_groups);
+    groups = no_groups;
+    put_pairs(pairs, ladder_apart);
+    put_ladder_apart_groups(&groups);
+    found_unscored(&large, &groups);
+    put_pairs(pairs, unscored);
+    found_unscored(&large, &no_groups);
+    pairs[0] = UNSCORED + 1;
+    for (int32_t kind = 1; kind <= 3; kind++)
+        expect_numbers(kind, &large, 0, 0, -11, &no_groups);
+}
+
 static void numbers(void)
 {
     Groups groups = no_groups;
@@ -113,6 +146,7 @@ static void numbers(void)
         expect_numbers(kind, &large, 0, 0, -11, &no_groups);
         found(kind, &one, &no_groups);
     }
+    unscored_numbers();
     refused_lists(refused_numbers);
 }
 
@@ -202,6 +236,37 @@ static size_t ladder_strong_line(size_t a, size_t b)
     return a == b ? a + 1 : line == 0 ? 0 : ENTRIES + line;
 }
 
+static size_t apart_line(size_t a, size_t b) { return a > 1 || b > 1 ? 0 : a == b ? a + 1 : 3; }
+
+/* As the ladder's, without the lines of its last two entries. */
+static size_t ladder_apart_line(size_t a, size_t b)
+{
+    const size_t left = ENTRIES - 2;
+    return a >= left || b >= left ? 0 : a == b ? a + 1 : left + ladder_clean_line(a, b);
+}
+
+/* A list with unscored pairs has strong groups, and is refused for clean ones. */
+static void entries_unscored(const List *list, Line *line, const Groups *groups)
+{
+    entries_shared(FARZHUDYL_STRONG, list, line, groups);
+    expect_shared(FARZHUDYL_CLEAN, list, 0, 0, -16, 0);
+    expect_shared(FARZHUDYL_CLEAN, list, SIZE_MAX, list->n, -16, 0);
+}
+
+static void unscored_shared(void)
+{
+    int32_t pairs[PAIRS];
+    const List large = {"32 entries, unscored pairs", ENTRIES, pairs, PAIRS};
+    Groups groups = no_groups;
+    put_apart_groups(&groups);
+    entries_unscored(&apart_list, apart_line, &groups);
+    entries_unscored(&unscored_one, no_line, &no_groups);
+    groups = no_groups;
+    put_pairs(pairs, ladder_apart);
+    put_ladder_apart_groups(&groups);
+    entries_unscored(&large, ladder_apart_line, &groups);
+}
+
 static void shared(void)
 {
     const List example = {"worked example", 4, four_pairs, 10};
@@ -227,6 +292,7 @@ static void shared(void)
     refused_shared(&large, 11);
     ladder_but(pairs, ladder_score, 0, -1000001);
     refused_shared(&large, 11);
+    unscored_shared();
     refused_lists(refused_shared);
 }
 
@@ -285,6 +351,10 @@ static void linkages(void)
     merged(&large, blocks);
     ladder_but(pairs, ladder_score, 0, -1000001);
     refused_linkages(&large, 11);
+    ladder_but(pairs, ladder_score, PAIRS - 1, UNSCORED);
+    refused_linkages(&large, 16);
+    refused_linkages(&apart_list, 16);
+    refused_linkages(&unscored_one, 16);
     refused_lists(refused_linkages);
 }
 
@@ -344,6 +414,10 @@ static void anchored(void)
     expect_anchored(farzhudyl_distances_back, &back, ENTRIES - 1, PAIRS, 15, NULL);
     ladder_but(distances, ladder_distance, PAIRS - 2, 1000001);
     expect_anchored(farzhudyl_anchored_scores, &there, 0, 0, 11, NULL);
+    ladder_but(distances, ladder_distance, PAIRS - 2, UNSCORED);
+    expect_anchored(farzhudyl_anchored_scores, &there, 0, 0, 16, NULL);
+    expect_anchored(farzhudyl_anchored_scores, &there, 0, PAIRS, 16, NULL);
+    expect_anchored(farzhudyl_distances_back, &there, 0, PAIRS, 15, NULL);
     ladder_but(distances, ladder_distance, PAIRS - 2, -1);
     expect_anchored(farzhudyl_anchored_scores, &there, 0, 0, 12, NULL);
     ladder_but(distances, ladder_distance, PAIRS - 1, 1);
@@ -394,6 +468,7 @@ static void scores(void)
 {
     const List example = {"worked example", 4, four_pairs, 10};
     all_scores(&example);
+    all_scores(&apart_list);
 
     /* Whether values are in range is not asked. */
     const int32_t least = INT32_MIN;

@@ -47,6 +47,33 @@ static void listed(const char *what, int32_t kind, const Text *sheet, const Grou
         expect_listing(what, kind, sheet->bytes, sheet->length, rooms[i], (int64_t)length, listing.bytes);
 }
 
+/* A sheet with unscored pairs has strong groups, and is refused otherwise. */
+static void listed_unscored(const char *what, const Text *sheet, const Groups *groups)
+{
+    listed(what, FARZHUDYL_STRONG, sheet, groups);
+    refused_listing(what, FARZHUDYL_CLEAN, sheet->bytes, sheet->length, 16);
+    refused_listing(what, FARZHUDYL_SPLITS, sheet->bytes, sheet->length, 16);
+}
+
+static void unscored_listings(void)
+{
+    const Groups none = {0, {0}, {0}};
+    Text sheet = {{0}, 0}, one = {{0}, 0}, large = {{0}, 0}, all = {{0}, 0};
+    Groups groups = none;
+    put(&sheet, "%s", apart);
+    put_apart_groups(&groups);
+    listed_unscored("C and D unscored", &sheet, &groups);
+    put(&one, "A\n-\n");
+    listed_unscored("one entry, unscored", &one, &none);
+    groups = none;
+    put_sheet(&large, "E", ladder_apart);
+    put_ladder_apart_groups(&groups);
+    listed_unscored("the last two of 32 unscored", &large, &groups);
+    put_sheet(&all, "E", unscored);
+    listed_unscored("all unscored", &all, &none);
+    refused_listings("1000001 and a mark", "A B\n- 1000001\n1000001 0\n", 24, 11);
+}
+
 static void listings(void)
 {
     const Groups none = {0, {0}, {0}};
@@ -59,6 +86,7 @@ static void listings(void)
     refused_listing("kind 0", 0, four, sizeof four - 1, 1);
     refused_listing("kind 4, no sheet", 4, four, 0, 1);
     refused_listings("1000001", "A\n1000001\n", 10, 11);
+    unscored_listings();
 
     put(&one, "A\n0\n");
     for (int32_t kind = 1; kind <= 3; kind++) {
@@ -105,12 +133,13 @@ static void refused_pair_list(const char *what, const char *sheet, size_t sheet_
 static void pair_lists(void)
 {
     expect_pair_list("worked example", four, sizeof four - 1, 4, four_pairs);
+    expect_pair_list("C and D unscored", apart, sizeof apart - 1, 4, apart_pairs);
 
     /* Whether values are in range is not asked. */
     const int32_t far = 9999999;
     expect_pair_list("one entry", "A\n9999999\n", 10, 1, &far);
 
-    Value *const values[] = {ladder_score, ladder_distance, least_score};
+    Value *const values[] = {ladder_score, ladder_distance, least_score, ladder_apart, unscored};
     for (size_t i = 0; i < sizeof values / sizeof values[0]; i++) {
         Text sheet = {{0}, 0};
         int32_t pairs[PAIRS];
@@ -156,6 +185,7 @@ static void all_names(const char *what, const char *sheet, size_t sheet_len, siz
 static void names(void)
 {
     all_names("worked example", four, sizeof four - 1, 4, 1);
+    all_names("C and D unscored", apart, sizeof apart - 1, 4, 1);
     all_names("one entry", "A1\n0\n", 5, 1, 2);
     const char *const within = "BAA AA A\n0 0 0\n0 0 0\n0 0 0\n";
     expect_name("a name within a name", within, strlen(within), 1, 4, 2);

@@ -13,6 +13,9 @@
 
 enum { ENTRIES = FARZHUDYL_ENTRIES_MAX, PAIRS = FARZHUDYL_PAIRS_MAX, MOST = FARZHUDYL_SHEET_MAX };
 
+/* A pair never compared, in a pair list. */
+enum { UNSCORED = INT32_MIN };
+
 /* Text that grows at its end. */
 typedef struct {
     char bytes[MOST + 1];
@@ -69,9 +72,28 @@ static void put_four_groups(Groups *groups)
         add_group(groups, sets[i], indices[i]);
 }
 
+/* The same, C and D never compared: no group holds either. */
+static const char apart[] = "A B C D\n9 8 6 2\n8 9 5 3\n6 5 9 -\n2 3 - 9\n";
+static const int32_t apart_pairs[] = {9, 8, 9, 6, 5, 9, 2, 3, UNSCORED, 9};
+
+static void put_apart_groups(Groups *groups)
+{
+    add_group(groups, 1, 1);
+    add_group(groups, 2, 1);
+    add_group(groups, 3, 2);
+}
+
 /* ---- 32 entries ---- */
 
 typedef int Value(int a, int b);
+
+static void put_value(Text *sheet, int value, char after)
+{
+    if (value == UNSCORED)
+        put(sheet, "-%c", after);
+    else
+        put(sheet, "%d%c", value, after);
+}
 
 static void put_sheet(Text *sheet, const char *name, Value *value)
 {
@@ -79,7 +101,7 @@ static void put_sheet(Text *sheet, const char *name, Value *value)
         put(sheet, "%s%02d%c", name, a, a < ENTRIES - 1 ? ' ' : '\n');
     for (int a = 0; a < ENTRIES; a++)
         for (int b = 0; b < ENTRIES; b++)
-            put(sheet, "%d%c", value(a, b), b < ENTRIES - 1 ? ' ' : '\n');
+            put_value(sheet, value(a, b), b < ENTRIES - 1 ? ' ' : '\n');
 }
 
 static void put_pairs(int32_t pairs[PAIRS], Value *value)
@@ -102,6 +124,15 @@ static int least_score(int a, int b)
 {
     (void)a, (void)b;
     return -1000000;
+}
+
+/* The ladder of scores, its last two entries never compared. */
+static int ladder_apart(int a, int b) { return a + b == 2 * ENTRIES - 3 ? UNSCORED : ladder_score(a, b); }
+
+static int unscored(int a, int b)
+{
+    (void)a, (void)b;
+    return UNSCORED;
 }
 
 /* The first k entries. */
@@ -130,6 +161,16 @@ static void put_ladder_groups(Groups *groups, int32_t kind)
     }
 }
 
+/* The strong groups of the ladder that hold neither of its last two entries: 59. */
+static void put_ladder_apart_groups(Groups *groups)
+{
+    Groups all = {0, {0}, {0}};
+    put_ladder_groups(&all, FARZHUDYL_STRONG);
+    for (size_t i = 0; i < all.count; i++)
+        if ((all.sets[i] & ~first(ENTRIES - 2)) == 0)
+            add_group(groups, all.sets[i], all.indices[i]);
+}
+
 /* ---- refused sheets ---- */
 
 typedef void VisitSheet(const char *what, const char *sheet, size_t sheet_len, int number);
@@ -143,9 +184,21 @@ static void cut_sheets(VisitSheet *visit)
 
 static void flawed_sheets(VisitSheet *visit)
 {
-    const char *const ill_formed = "A B\n0 1\n1 -0\n", *const mirrored = "A B\n0 1\n2 0\n";
-    visit("ill-formed value", ill_formed, strlen(ill_formed), 8);
-    visit("mirrored values differ", mirrored, strlen(mirrored), 9);
+    const struct {
+        const char *what, *sheet;
+        int number;
+    } flawed[] = {
+        {"ill-formed value", "A B\n0 1\n1 -0\n", 8},
+        {"two minus signs", "A B\n0 1\n1 --\n", 8},
+        {"a minus sign and a space", "A B\n0 1\n1 - \n", 8},
+        {"the mark's number", "A B\n0 1\n1 -2147483648\n", 8},
+        {"mirrored values differ", "A B\n0 1\n2 0\n", 9},
+        {"a mark on one side", "A B\n0 -\n2 0\n", 9},
+        {"a mark on the other side", "A B\n0 1\n- 0\n", 9},
+        {"a mark at the end", "A B\n0 1\n1 -", 7},
+    };
+    for (size_t i = 0; i < sizeof flawed / sizeof flawed[0]; i++)
+        visit(flawed[i].what, flawed[i].sheet, strlen(flawed[i].sheet), flawed[i].number);
 }
 
 /* Sheets of 12,288 bytes, and of one more. */
