@@ -43,6 +43,7 @@ static const char *reason(int64_t number)
     case 9: return "two mirrored values differ";
     case 11: return "a value is below -1,000,000 or above 1,000,000";
     case 12: return "a distance is negative, or that of an entry to itself is not 0";
+    case 16: return "a pair is unscored, which only strong groups allow";
     default: return "the header farzhudyl.h says what this number means";
     }
 }

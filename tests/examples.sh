@@ -52,6 +52,7 @@ reasons=(
     [9]='two mirrored values differ'
     [11]='a value is below -1,000,000 or above 1,000,000'
     [12]='a distance is negative, or that of an entry to itself is not 0'
+    [16]='a pair is unscored, which only strong groups allow'
 )
 # Compiles C files as C or as C++; the symbols are for valgrind's reports.
 compile() { # c|c++ WORD ..
@@ -234,11 +235,16 @@ printf 'A B\n9 8\n8 9' >7.no-line-feed
 printf 'A B\n9 8\n8\n' >8.value-missing
 printf 'A B\n9 -0\n-0 9\n' >8.minus-zero
 printf 'A B\n9 8\n8 9 \n' >8.space-at-end
+printf 'A B\n9 --\n-- 9\n' >8.two-minus-signs
+printf 'A B\n9 -2147483648\n-2147483648 9\n' >8.ten-digits
 printf 'A B\n9 8\n7 9\n' >9.mirrored
+printf 'A B\n9 -\n7 9\n' >9.mark-on-one-side
 printf 'A B\n0 1000001\n1000001 0\n' >11.over
 printf 'A B\n0 -1000001\n-1000001 0\n' >11.under
 printf 'A B\n0 -1\n-1 0\n' >12.negative
 printf 'A B\n0 1\n1 1\n' >12.own
+printf 'A B\n0 -\n- 0\n' >16.unscored
+printf 'A B\n- -1\n-1 1\n' >16.own-unscored
 cd "$root" || exit 2
 
 printf '#include "farzhudyl.h"\n#include "farzhudyl.h"\n' >"$built/alone.c"
@@ -259,7 +265,10 @@ for language in c c++; do
         for sheet in "$built"/refused/*; do
             sheet=$(basename "$sheet")
             for kind in 1 2 3; do
-                if [ "${sheet%%.*}" != 12 ] || [ "$kind" = 3 ]; then on_refused "$program" "$sheet" "$kind" "$file"; fi
+                case "${sheet%%.*} $kind" in
+                    '12 1' | '12 2' | '16 1') ;; # not refused
+                    *) on_refused "$program" "$sheet" "$kind" "$file" ;;
+                esac
             done
         done
         on_arguments "$program" "$file"
@@ -278,7 +287,8 @@ for source in examples/*.c; do
     on_sheet "$program" examples/burials.sheet 2 "${memory[@]}" "$file"
     on_sheet "$program" examples/registers.sheet 3 "${memory[@]}" "$file"
     on_sheet "$program" tests/examples/full.sheet 1 "${memory[@]}" "$file"
-    for sheet in 2.no-bytes 2.12289-bytes 9.mirrored 12.own; do on_refused "$program" "$sheet" 3 "${memory[@]}" "$file"; done
+    on_sheet "$program" examples/unscored.sheet 1 "${memory[@]}" "$file"
+    for sheet in 2.no-bytes 2.12289-bytes 9.mirrored 12.own 16.unscored; do on_refused "$program" "$sheet" 3 "${memory[@]}" "$file"; done
 done
 on_missing LONGNAMEX "${memory[@]}" "$built/c/shared"
 

@@ -25,6 +25,10 @@ first='set size index'
 check 'strong groups of four entries' strong "$(printf '%s\n' "$first" '00000001 1 1' '00000002 1 1' '00000004 1 3' '00000008 1 6' '00000003 2 2' '00000007 3 2')" <examples/four.sheet
 check 'clean groups of four entries' clean "$(printf '%s\n' "$first" '00000003 2 2' '00000007 3 6')" <examples/four.sheet
 check 'splits of four copies' splits "$(printf '%s\n' "$first" '00000002 1 2' '00000004 1 2' '00000008 1 2' '0000000c 2 4' '0000000e 3 2')" <examples/copies.sheet
+check 'strong groups with an unscored pair' strong "$(cat examples/unscored.strong)" <examples/unscored.sheet
+check 'clean groups with an unscored pair' clean 'refused 16' <examples/unscored.sheet
+check 'splits with an unscored pair' splits 'refused 16' <examples/unscored.sheet
+check 'one entry, unscored' strong "$first" < <(printf 'A\n-\n')
 for kind in strong clean splits; do
     check "one entry, $kind" "$kind" "$first" < <(printf 'A\n0\n')
     check "12,289 line feeds, $kind" "$kind" 'refused 2' < <(head -c 12289 /dev/zero | tr '\0' '\n')
@@ -32,6 +36,8 @@ for kind in strong clean splits; do
     check "no byte, $kind" "$kind" 'refused 2' </dev/null
     check "-0, $kind" "$kind" 'refused 8' < <(printf 'A\n-0\n')
     check "007, $kind" "$kind" 'refused 8' < <(printf 'A\n007\n')
+    check "two minus signs, $kind" "$kind" 'refused 8' < <(printf 'A\n--\n')
+    check "a mark on one side, $kind" "$kind" 'refused 9' < <(printf 'A B\n0 -\n0 0\n')
     check "1000001, $kind" "$kind" 'refused 11' < <(printf 'A\n1000001\n')
 done
 check 'an own value that is not 0' splits 'refused 12' < <(printf 'A B\n1 5\n5 0\n')
@@ -55,6 +61,10 @@ for sheet in four copies; do
         whole "both engines, $kind of $sheet.sheet" 0 - ./run --second "$kind" <"examples/$sheet.sheet"
     done
 done
+cp examples/unscored.strong "$room/expected"
+whole 'both engines, strong of unscored.sheet' 0 - ./run --second strong <examples/unscored.sheet
+cp tests/examples/client/unscored.clean "$room/expected"
+whole 'both engines, clean of unscored.sheet' 0 - ./run --second clean <examples/unscored.sheet
 cp tests/examples/client/four.strong "$room/expected"
 touch -d 2000-01-01 target/bin/strong
 whole 'a program that is looked at again' 0 'proving and building, once: strong' ./run strong <examples/four.sheet
@@ -72,6 +82,7 @@ names() { # NAME KIND LINES WORDS   the names of a sheet on standard input: so m
 names 'names of the clean groups' clean 1 '\bA B$' <examples/four.sheet
 names 'names of the larger clean group' clean 1 '\bA B C$' <examples/four.sheet
 names 'names of the splits' splits 1 '\b4 +C D$' <examples/copies.sheet
+names 'names of the strong groups with an unscored pair' strong 3 ' [AB]$' <examples/unscored.sheet
 
 : >"$room/expected"
 usage='usage: ./run [--names|--second] strong|clean|splits < SHEET'
