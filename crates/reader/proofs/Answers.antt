@@ -1,18 +1,20 @@
 -- The table of checks, line by line, and the answers.
 use mathlib.Core.Path.{_≡_, refl, sym, ap, ap₂, _∙_}
-use mathlib.Core.Bool.{true, false}
+use mathlib.Core.Bool.{Bool, true, false}
 use mathlib.Core.List.{List, [], _++_}
 use Prim.Native.Nat.{ℕ, zero, suc, _+_, _-_, _≤_, _<_}
 use native.Mathlib.Omega.{arith}
 use borrow.Author.Tests.{ne-eqb, eqb-false, ltb-false, lt-ltb, le-ltb}
-use lib.Dec.{eqb, ltb, lit<}
+use native.Mathlib.Decide.{decLt}
+use lib.Dec.{T, eqb, ltb, lit<}
 use lib.IntN.{ℤ}
 use lib.ListN.{length, getD, take, drop}
 use lib.Seq.{take-at}
-use Rattle.lists.specs.Lists.{below}
-use Rattle.lists.proofs.Lists.{below-lt, all-cong}
-use Rattle.lists.proofs.Tests.{or-none}
+use Rattle.lists.specs.Lists.{below, all}
+use Rattle.lists.proofs.Lists.{below-lt, lt-below, all-in, in-all, all-cong}
+use Rattle.lists.proofs.Tests.{or-none, T-same}
 use Rattle.integers.specs.Integers.{eqZ}
+use Rattle.integers.proofs.Linear.{eqZ-yes, yes-eqZ}
 use Rattle.clusters.specs.PairList.{Similarity, pairList, rowStart}
 use Rattle.clusters.proofs.PairList.{pairList-cong, length-pairList}
 use Rattle.answers.specs.declared.Answer.the-variants.{Count, Refused}
@@ -44,6 +46,26 @@ length-right s e =
     (omega arith, ltb-false 12288 (length s) (p .1))
 
 -- the square in place of the values
+-- below the diagonal is enough
+pub mirrored-lower : (n : ℕ) (v : Similarity) → all (λ i. all (λ j. eqZ (v i j) (v j i)) (below i)) (below n) ≡ mirrored n v
+unfolding mirrored
+mirrored-lower n v = T-same _ _
+    (λ t. in-all (λ i. all (same i) (below n)) (below n) (λ i mi. in-all (same i) (below n) (λ j mj.
+    go t i j (below-lt n mi) (below-lt n mj) (decLt j i) (decLt i j))))
+    (λ t. in-all (λ i. all (same i) (below i)) (below n) (λ i mi. in-all (same i) (below i) (λ j mj.
+    all-in (same i) (below n) (all-in (λ i. all (same i) (below n)) (below n) t mi) (lt-below n j (omega (arith, below-lt n mi, below-lt i mj))))))
+  where
+    same : ℕ → ℕ → Bool
+    same i j = eqZ (v i j) (v j i)
+
+    lower : T (all (λ i. all (same i) (below i)) (below n)) → (i j : ℕ) → i < n → j < i → T (same i j)
+    lower t i j hi hj = all-in (same i) (below i) (all-in (λ i. all (same i) (below i)) (below n) t (lt-below n i hi)) (lt-below i j hj)
+
+    go : T (all (λ i. all (same i) (below i)) (below n)) → (i j : ℕ) → i < n → j < n → Dec (j < i) → Dec (i < j) → T (same i j)
+    go t i j hi hj (yes h) _ = lower t i j hi h
+    go t i j hi hj (no f) (yes h) = yes-eqZ (v i j) (v j i) (sym (eqZ-yes (v j i) (v i j) (lower t j i hj h)))
+    go t i j hi hj (no f) (no g) = let e : i ≡ j = omega arith in yes-eqZ (v i j) (v j i) (ap₂ v e (sym e))
+
 pub mirrored-same : (l : List ℤ) (n : ℕ) (v : Similarity) → Holds l n v → mirrored n (square l) ≡ mirrored n v
 unfolding mirrored
 mirrored-same l n v h =

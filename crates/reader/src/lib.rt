@@ -61,13 +61,13 @@ fn read_rows(sheet: &[u8], n: usize, values: &mut [i32]) -> usize
     0
 }
 
-// Row i equals column i.
-fn is_mirrored_row(values: &[i32], n: usize, i: usize) -> bool
-    requires { ⌜ (i < n) × (n ≤ 32) × (length (now values) ≡ 1024) ⌝ }
+// Row i equals column i, up to the diagonal.
+fn is_mirrored_row(values: &[i32], i: usize) -> bool
+    requires { ⌜ (i < 32) × (length (now values) ≡ 1024) ⌝ }
     ensures { λ r. ⌜ r
-        ≡ all (λ j. eqZ (square (now (values .entry)) i j) (square (now (values .entry)) j i)) (below n) ⌝ }
+        ≡ all (λ j. eqZ (square (now (values .entry)) i j) (square (now (values .entry)) j i)) (below i) ⌝ }
 {
-    for j in 0..n {
+    for j in 0..i {
         let a = i * 32 + j;
         let b = j * 32 + i;
         if values[a] != values[b] {
@@ -83,7 +83,7 @@ fn is_mirrored(values: &[i32], n: usize) -> bool
     ensures { λ r. ⌜ r ≡ mirrored n (square (now (values .entry))) ⌝ }
 {
     for i in 0..n {
-        if !is_mirrored_row(values, n, i) {
+        if !is_mirrored_row(values, i) {
             return false;
         }
     }

@@ -6,13 +6,13 @@ use borrow.Author.Needs.{needs}
 use Rattle.lists.specs.Lists.{all, below}
 use Rattle.lists.proofs.Walk.{Passed, started, next-below, failed-below, ended-below}
 use Rattle.integers.specs.Integers.{eqZ}
-use Rattle.interface.specs.Sheet.{mirrored}
 use Rattle.reader.specs.Square.{square}
+use Rattle.reader.proofs.Answers.{mirrored-lower}
 use Rattle.reader.proofs.is_mirrored.Statement.{statement}
 use Rattle.reader.proofs.is_mirrored.Tie as tie
 
 abbrev Inv-loop : tie.InvT-loop
-Inv-loop values n i₀ i = (i ≤ n) × Passed (λ k. all (λ j. eqZ (square values k j) (square values j k)) (below n)) (below n) i
+Inv-loop values n i₀ i = (i ≤ n) × Passed (λ k. all (λ j. eqZ (square values k j) (square values j k)) (below k)) (below n) i
 
 abbrev μ-loop : tie.MeasureT-loop
 μ-loop values n i₀ i = n - i
@@ -24,10 +24,9 @@ is-mirrored-row-requires : tie.Need-is-mirrored-row-requires Inv-loop μ-loop
 is-mirrored-row-requires c κs = search needs
 
 returns : tie.Need-returns Inv-loop μ-loop
-unfolding mirrored
 returns c =
     let e = sym (c .before .is-mirrored-row .ensures) ∙ not-true _ (c .if1 .taken) in
-    failed-below (c .before .before .before .loop .inv .1) (omega arith) e
+    failed-below (c .before .before .before .loop .inv .1) (omega arith) e ∙ mirrored-lower _ (square _)
 
 add-i : tie.Need-add-i Inv-loop μ-loop
 add-i c = search needs
@@ -41,8 +40,7 @@ loop-again c =
     (omega arith, next-below (c .before .before .before .loop .inv .1) (omega arith) e)
 
 returns-2 : tie.Need-returns-2 Inv-loop μ-loop
-unfolding mirrored
-returns-2 c = ended-below (c .before .loop .inv .1) (omega arith)
+returns-2 c = ended-below (c .before .loop .inv .1) (omega arith) ∙ mirrored-lower _ (square _)
 
 pub is-mirrored-spec : {M : Type 1} → statement M
 is-mirrored-spec =

@@ -12,10 +12,10 @@ use Rattle.reader.proofs.is_mirrored_row.Statement.{statement}
 use Rattle.reader.proofs.is_mirrored_row.Tie as tie
 
 abbrev Inv-loop : tie.InvT-loop
-Inv-loop values n i j₀ j = (j ≤ n) × Passed (λ k. eqZ (square values i k) (square values k i)) (below n) j
+Inv-loop values i j₀ j = (j ≤ i) × Passed (λ k. eqZ (square values i k) (square values k i)) (below i) j
 
 abbrev μ-loop : tie.MeasureT-loop
-μ-loop values n i j₀ j = n - j
+μ-loop values i j₀ j = i - j
 
 loop-holds : tie.Need-loop-holds Inv-loop μ-loop
 loop-holds c = (omega arith, started)
