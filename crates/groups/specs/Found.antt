@@ -8,7 +8,7 @@ use lib.Dec.{eqb}
 use lib.IntN.{ℤ}
 use lib.ListN.{length, take}
 use Rattle.lists.specs.Lists.{keep}
-use Rattle.clusters.specs.Groups.{Kind, speaksOf, index, listed, groupSets}
+use Rattle.clusters.specs.Groups.{Kind, strong, clean, splits, speaksOf, index, listed, groupSets}
 use Rattle.clusters.specs.PairList.{score}
 use Rattle.groups.specs.declared.Found.{Found}
 
@@ -18,9 +18,11 @@ setsOf f = take (f .count) (f .sets)
 abbrev pub indicesOf : Found → List ℤ
 indicesOf f = take (f .count) (f .indices)
 
--- a set that may be listed: the kind speaks of it, and it shares no entry with those touched
+-- a set that may be listed: the kind speaks of it, and a strong group shares no entry with those touched
 unfoldable pub isCandidate : Kind → ℕ → (touched : ℕ) → ℕ → Bool
-isCandidate kind n touched A = speaksOf kind n A && eqb (bitAnd A touched) 0
+isCandidate strong n touched A = speaksOf strong n A && eqb (bitAnd A touched) 0
+isCandidate clean n touched A = speaksOf clean n A
+isCandidate splits n touched A = speaksOf splits n A
 
 -- they are the listed ones of these sets, each with its index
 pub record Listed (kind : Kind) (n : ℕ) (l : List ℤ) (sets : List ℕ) (f : Found) : Type 0 where
