@@ -9,10 +9,11 @@
    spaces between. Each line ends with a line feed (byte 10), the last one too; there is no carriage return, no tab, no further byte.
      A name is 1 to 8 bytes: first A to Z, then A to Z or 0 to 9. No two names are equal.
      A value is an optional minus and 1 to 7 decimal digits, without a leading zero unless it is `0`; `-0` is no value. It lies
-     from -1000000 to 1000000.
-     Row i column j equals row j column i. A pair never compared is entered as 0.
+     from -1000000 to 1000000. Or it is a lone minus, `-`: the pair was never compared, and is unscored. An entry's own pair may be
+     unscored too.
+     Row i column j equals row j column i; of an unscored pair both are a lone minus.
    Kinds 1 and 2 read the values as scores: the greater, the closer. Kind 3 reads them as distances: none is negative, and each
-   entry's distance to itself is 0. Example, four entries:
+   entry's distance to itself is 0. Only kind 1 takes a sheet with an unscored pair. Example, four entries:
 
        A B C D
        9 8 6 2
@@ -23,7 +24,7 @@
    THE PAIR LIST
    The calls that take numbers take the lower triangle of the values, row by row, own pairs included: FARZHUDYL_PAIRS(n) numbers.
    Entry i is counted from 0. The value of i and j, where j <= i, stands at FARZHUDYL_PAIRS(i) + j; of the sheet above:
-   9, 8 9, 6 5 9, 2 3 1 9.
+   9, 8 9, 6 5 9, 2 3 1 9. The value of an unscored pair is FARZHUDYL_UNSCORED.
 
    SETS OF ENTRIES
    A set is a uint32_t in which entry i, counted from 0, is bit i: 0x5 is the first and the third entry.
@@ -45,7 +46,10 @@
    THE INDEX
    A group has an index, a whole number: by how much it stands out. s(a,b) is the score of two entries, d(a,b) their distance.
      strong   Of a set of entries, neither empty nor all: the least s(a,b) - s(a,x), a and b in the set, which may be one entry, x
-              outside. It is above 0 exactly if each member scores more with every member than with any entry outside.
+              outside. It is above 0 exactly if each member scores more with every member than with any entry outside. With unscored
+              pairs it is the least over all ways to give each of them a score from -1000000 to 1000000: a set is listed exactly if
+              it would be, whatever they score. No set is listed of which a member has an unscored pair, and scoring more pairs
+              removes no set that is listed.
      clean    Of a set of at least 2 entries, not all: of all s(a,b) - the larger of s(a,x) and s(b,x), a and b two different members,
               x outside, the sum of the smallest, one fewer than the set has members.
      splits   Of two sides into which all entries part, neither empty: the least d(a,b) + d(a',b') - d(a,a') - d(b,b'), a and a' on one
@@ -53,7 +57,7 @@
    Two groups of one kind are nested or share no entry.
 
    REFUSALS
-   A call that can be refused makes its checks in the order of their numbers, and the first that fails is the answer. A refused call
+   A call that can be refused makes its checks in the order of this table, and the first that fails is the answer. A refused call
    has written nothing, but for the set that farzhudyl_smallest_shared answers, which is then 0. No call asks anything of the values it
    is handed: any bytes and any numbers get the answer described here.
       1  kind is not 1, 2 or 3; in farzhudyl_smallest_shared, not 1 or 2
@@ -66,7 +70,8 @@
       8  a line does not have exactly n well-formed values, single spaces between
       9  two mirrored values differ
      10  the pair list's length is not FARZHUDYL_PAIRS(n)
-     11  a value is below -1,000,000 or above 1,000,000
+     11  a value is below -1,000,000 or above 1,000,000, and not that of an unscored pair
+     16  a pair is unscored; not for kind 1
      12  distances: a value is negative, or an own value is not 0
      13  a result slice of farzhudyl_numbers has fewer than 2n slots
      14  the listing has more bytes than the buffer
@@ -104,6 +109,9 @@ enum {
 #define FARZHUDYL_PAIRS(n) ((n) * ((n) + 1) / 2)
 #define FARZHUDYL_PAIRS_MAX 528
 
+/* The value of an unscored pair in a pair list: -2,147,483,648. */
+#define FARZHUDYL_UNSCORED INT32_MIN
+
 /* Room that always serves: bytes for a listing; slots for the groups of farzhudyl_numbers; slots for the blocks of a linkage. */
 #define FARZHUDYL_LISTING_MAX 2048
 #define FARZHUDYL_GROUPS_MAX 64
@@ -115,14 +123,15 @@ enum {
 /* The listing of a kind, as text, of the sheet of sheet_len bytes, to the buffer out of out_len bytes.
 
    Answers the listing's length in bytes, at least 15, and has then written that many bytes at the start of out and no other; or minus
-   the refusal's number. Checks 1 to 9, 11, 12 (kind 3 only), 14. Room that always serves: FARZHUDYL_LISTING_MAX bytes. */
+   the refusal's number. Checks 1 to 9, 11, 16 (kinds 2 and 3 only), 12 (kind 3 only), 14. Room that always serves:
+   FARZHUDYL_LISTING_MAX bytes. */
 int64_t farzhudyl_listing(int32_t kind, const uint8_t *sheet, size_t sheet_len, uint8_t *out, size_t out_len);
 
 /* The groups of a kind, as numbers, of the pair list of n entries.
 
    Answers how many groups there are, and has then written their sets and their indices, in the order of the listing's lines, to the
-   first slots of sets and indices, and 0 to all further slots of both; or minus the refusal's number. Checks 1, 6, 10, 11, 12 (kind 3
-   only), 13. Room that always serves: FARZHUDYL_GROUPS_MAX slots each; 2n serve for n entries. */
+   first slots of sets and indices, and 0 to all further slots of both; or minus the refusal's number. Checks 1, 6, 10, 11, 16 (kinds 2
+   and 3 only), 12 (kind 3 only), 13. Room that always serves: FARZHUDYL_GROUPS_MAX slots each; 2n serve for n entries. */
 int64_t farzhudyl_numbers(int32_t kind, size_t n, const int32_t *pairs, size_t pairs_len, uint32_t *sets, size_t sets_len,
                           int64_t *indices, size_t indices_len);
 
@@ -132,7 +141,7 @@ int64_t farzhudyl_numbers(int32_t kind, size_t n, const int32_t *pairs, size_t p
    Answers the group's line in the listing, counted from 1 after the first line, and has then written its set to *set; farzhudyl_numbers
    has that group in slot line - 1. Every other group that holds both holds this one and is larger. Answers 0 if no group holds both,
    and *set is then the set of all n entries. Or answers minus the refusal's number, and *set is then 0. Checks 1 (kind 3 too), 6, 10,
-   11, 15 (a or b is n or more). */
+   11, 16 (kind 2 only), 15 (a or b is n or more). */
 int64_t farzhudyl_smallest_shared(int32_t kind, size_t n, const int32_t *pairs, size_t pairs_len, size_t a, size_t b, uint32_t *set);
 
 /* A single linkage tree and an average linkage tree of the pair list of n entries, of scores: from the n single entries on, the two
@@ -140,7 +149,7 @@ int64_t farzhudyl_smallest_shared(int32_t kind, size_t n, const int32_t *pairs, 
    the average of all scores between them, compared exactly (average). Of equal links any may be taken.
 
    Answers n - 1, and has then written the n - 1 merged blocks, as sets, in the order of merging, to the first slots of blocks and no
-   other; or minus the refusal's number. Checks 6, 10, 11, 15 (blocks has fewer than n - 1 slots). Room that always serves:
+   other; or minus the refusal's number. Checks 6, 10, 11, 16, 15 (blocks has fewer than n - 1 slots). Room that always serves:
    FARZHUDYL_BLOCKS_MAX slots. */
 int64_t farzhudyl_single_linkage(size_t n, const int32_t *pairs, size_t pairs_len, uint32_t *blocks, size_t blocks_len);
 int64_t farzhudyl_average_linkage(size_t n, const int32_t *pairs, size_t pairs_len, uint32_t *blocks, size_t blocks_len);
@@ -149,8 +158,8 @@ int64_t farzhudyl_average_linkage(size_t n, const int32_t *pairs, size_t pairs_l
    doubled): d(a,x) + d(b,x) - d(a,b) for each pair, own pairs and the anchor's included.
 
    Answers FARZHUDYL_PAIRS(n), and has then written the scores, in the order of a pair list, to the first slots of out and no other; or
-   minus the refusal's number. Checks 6, 10, 11, 12, 15 (anchor is n or more, or out has fewer slots than the result). Room that always
-   serves: FARZHUDYL_PAIRS_MAX slots. */
+   minus the refusal's number. Checks 6, 10, 11, 16, 12, 15 (anchor is n or more, or out has fewer slots than the result). Room that
+   always serves: FARZHUDYL_PAIRS_MAX slots. */
 int64_t farzhudyl_anchored_scores(size_t n, size_t anchor, const int32_t *pairs, size_t pairs_len, int32_t *out, size_t out_len);
 
 /* The way back, from the anchored scores of n entries to the distances; any numbers may be handed over.
@@ -163,8 +172,8 @@ int64_t farzhudyl_distances_back(size_t n, size_t anchor, const int32_t *scores,
 /* The pair list of the sheet of sheet_len bytes.
 
    Answers n, the number of entries, and has then written the pair list to the first FARZHUDYL_PAIRS(n) slots of pairs and no other; or
-   minus the refusal's number. Checks 2 to 9; whether the values are in range (11) or distances (12) the calls that are handed the list
-   check. pairs has no length: it points to FARZHUDYL_PAIRS_MAX slots. */
+   minus the refusal's number. Checks 2 to 9; whether the values are in range (11), all scored (16) or distances (12) the calls that are
+   handed the list check. pairs has no length: it points to FARZHUDYL_PAIRS_MAX slots. */
 int64_t farzhudyl_pair_list(const uint8_t *sheet, size_t sheet_len, int32_t pairs[FARZHUDYL_PAIRS_MAX]);
 
 /* The name of an entry, counted from 0, as its own part of the sheet of sheet_len bytes; nothing is copied.
@@ -176,8 +185,8 @@ size_t farzhudyl_name(const uint8_t *sheet, size_t sheet_len, size_t entry, size
 
 /* The score of two entries a and b, counted from 0, in the pair list of n entries; any values may stand in it.
 
-   Answers 0, and has then written the score to *score; or the refusal's number (not minus the number: a score may be negative, so it
-   does not come back as the answer). Checks 6, 10, 15 (a or b is n or more). */
+   Answers 0, and has then written the score to *score, FARZHUDYL_UNSCORED if the pair is unscored; or the refusal's number (not minus
+   the number: a score may be negative, so it does not come back as the answer). Checks 6, 10, 15 (a or b is n or more). */
 int32_t farzhudyl_score(size_t n, const int32_t *pairs, size_t pairs_len, size_t a, size_t b, int64_t *score);
 
 #ifdef __cplusplus

@@ -104,11 +104,13 @@ else
     count 1 "the examples (status $status)"
 fi
 
-for sheet in four copies; do
+for sheet in four copies unscored; do
     for kind in strong clean splits; do
-        "$prefix/bin/farzhudyl-$kind" <"examples/$sheet.sheet" | diff "tests/examples/client/$sheet.$kind" -
+        listed=tests/examples/client/$sheet.$kind
+        [ -f "$listed" ] || listed=examples/$sheet.$kind
+        "$prefix/bin/farzhudyl-$kind" <"examples/$sheet.sheet" | diff "$listed" -
         count $? "farzhudyl-$kind on $sheet.sheet"
-        "$prefix/bin/farzhudyl-second" "$kind" <"examples/$sheet.sheet" | diff "tests/examples/client/$sheet.$kind" -
+        "$prefix/bin/farzhudyl-second" "$kind" <"examples/$sheet.sheet" | diff "$listed" -
         count $? "farzhudyl-second $kind on $sheet.sheet"
         ./run --names "$kind" <"examples/$sheet.sheet" >"$room/names" 2>/dev/null
         "$prefix/bin/farzhudyl-show" "$kind" <"examples/$sheet.sheet" 2>/dev/null | diff "$room/names" - && [ -s "$room/names" ]
@@ -143,7 +145,7 @@ block() { # SECTION NUMBER
         "$prefix/share/man/man$1/farzhudyl.$1" | sed 's/\\&//g; s/\\e/\\/g'
 }
 for case in '3 1 examples/four.sheet' '3 2 tests/examples/client/four.strong' '1 1 examples/four.sheet' '1 2 tests/examples/client/four.clean' \
-    '1 3 examples/copies.sheet' '1 4 tests/examples/client/copies.splits'; do
+    '1 3 examples/unscored.sheet' '1 4 examples/unscored.strong' '1 5 examples/copies.sheet' '1 6 tests/examples/client/copies.splits'; do
     read -r section number file <<<"$case"
     block "$section" "$number" | diff "$file" -
     count $? "block $number of farzhudyl.$section"

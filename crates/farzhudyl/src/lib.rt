@@ -173,7 +173,8 @@ pub extern "C" fn farzhudyl_name(sheet: &[u8], entry: usize, start: &mut usize) 
     part.end - part.start
 }
 
-// A score may be negative, so it goes to a slot, as its number in the pair list: 0 is answered, or the refusal's number.
+// A score may be negative, so it goes to a slot, as its number in the pair list; 0 is answered, or the refusal's
+// number.
 #[no_mangle]
 pub extern "C" fn farzhudyl_score(
     n: usize,

@@ -132,8 +132,8 @@ pub record NameInC (sheet : List ℕ) (i : ℕ) (r start : ℕ) : Type 0 where
   pub lies : start ≡ nameStart sheet i
   pub bytes : take r (drop start sheet) ≡ nameOf sheet i
 
--- "Scores are looked up by two entries in the pair list as lent": the score of two of n entries, of an unscored pair the
--- mark, and 0 of any other two numbers or if the list is no pair list of n entries
+-- "Scores are looked up by two entries in the pair list as lent": the score of two of n entries, of an unscored pair
+-- the mark, and 0 of any other two numbers or if the list is no pair list of n entries
 unfoldable pub isPair : ℕ → List ℤ → ℕ → ℕ → Bool
 isPair n l a b = leb n mostEntries && hasLength n l && ltb a n && ltb b n
 

@@ -105,8 +105,8 @@ SameGroups k n p old new =
 -- Demand 3, of all that a call wrote: "exactly one line for each set of positive index and no other; .. every strong
 -- group is a block of every single linkage tree, every clean group of every average linkage tree; two groups of one
 -- kind are nested or disjoint". With unscored pairs "the tree claim holds in every filling"; with none the scores are
--- their own filling (document 02, 2.2). A split is there by its written side, in the trees of the scores anchored at the
--- first entry.
+-- their own filling (document 02, 2.2). A split is there by its written side, in the trees of the scores anchored at
+-- the first entry.
 pub record Complete (kind : ℤ) (n : ℕ) (s : Similarity) (found : List (ℕ × ℤ)) : Type 0 where
   pub exactly : (A : ℕ) (z : ℤ) → (found lists (A, z)) ↔ Positive (kindOf kind) n s A z
   pub once : Distinct (map (λ (A, z). A) found)
@@ -130,8 +130,8 @@ pub record Demand3 (kind : ℤ) : Type 0 where
   pub slots : {n count : ℕ} {l indices : List ℤ} {sets : List ℕ} → Counted kind n l count sets indices
       → length (groupsOf count sets indices) ≡ count
   pub complete : {n : ℕ} {s : Similarity} {found : List (ℕ × ℤ)} → Wrote kind n s found → Complete kind n s found
-  -- every strong group is a single entry or a block that the single linkage call writes, of the same list or of one that
-  -- fills it; clean ones likewise, average
+  -- every strong group is a single entry or a block that the single linkage call writes, of the same list or of one
+  -- that fills it; clean ones likewise, average
   pub strong-linked : kind ≡ pos 1 → {n : ℕ} {l : List ℤ} {lent after : List ℕ} {r : Answer}
       → LinkageCall single n l lent r after → numberOf r ≡ 0 → {found : List (ℕ × ℤ)} → Wrote kind n (score l) found
       → (A : ℕ) (z : ℤ) → found lists (A, z) → A ∈ (singles n ++ take (countOf r) after)

@@ -141,8 +141,8 @@ check10 n l = (10, not (hasLength n l))
 abbrev pub check11 : List ℤ → Check
 check11 l = (11, not (scoresInRange l))
 
--- "Kinds 2 and 3, the linkage calls and the anchored scores get 16 for a sheet with an unscored pair, placed right after
--- 11." (document 02, 2.2)
+-- "Kinds 2 and 3, the linkage calls and the anchored scores get 16 for a sheet with an unscored pair, placed right
+-- after 11." (document 02, 2.2)
 abbrev pub check16 : List ℤ → Check
 check16 l = (16, hasUnscored l)
 

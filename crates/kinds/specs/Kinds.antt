@@ -1,4 +1,5 @@
--- The code's own vocabulary, which nobody need believe: kinds as the code holds them, and what the checks leave to each.
+-- The code's own vocabulary, which nobody need believe: kinds as the code holds them, and what the checks leave to
+-- each.
 use mathlib.Core.Bool.{not}
 use mathlib.Core.List.{List}
 use Prim.Native.Nat.{ℕ}

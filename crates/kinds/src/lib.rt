@@ -65,10 +65,7 @@ pub fn kind_of(kind: i32) -> Kind
 pub fn has_wrong_unscored(kind: i32, pairs: &[i32]) -> bool
     ensures { λ r. ⌜ r ≡ wrongUnscored kind (now (pairs .entry)) ⌝ }
 {
-    if is_number(kind, 1) {
-        return false;
-    }
-    matrix::has_unscored(pairs)
+    !is_number(kind, 1) && matrix::has_unscored(pairs)
 }
 
 // Check 12.
