@@ -46,6 +46,16 @@ unfolding high up dn
 high-fill limit (Scored z) = refl
 high-fill limit Unscored = record { top = ≤ℤ-refl (pos limit); low = omega (zarith, neg-up (pos limit), neg-dn (pos limit)) }
 
+-- inside A the worst filling is least, across its border greatest
+module _ (limit : ℕ) (s : Similarity) (A a b : ℕ) where
+  pub worst-inside : A ∋ a → A ∋ b → worst limit A s a b ≡ low limit (carried (s a b))
+  unfolding worst xor
+  worst-inside ka kb = ap₂ (λ p q. cond (xor p q) (high limit (carried (s a b))) (low limit (carried (s a b)))) (T-true {b = has A a} (yes-has A a ka)) (T-true {b = has A b} (yes-has A b kb))
+
+  pub worst-across : A ∋ a → A ∌ b → worst limit A s a b ≡ high limit (carried (s a b))
+  unfolding worst xor
+  worst-across ka kb = ap₂ (λ p q. cond (xor p q) (high limit (carried (s a b))) (low limit (carried (s a b)))) (T-true {b = has A a} (yes-has A a ka)) (T-false {b = has A b} (no-has A b kb))
+
 xor-comm : (a b : Bool) → xor a b ≡ xor b a
 unfolding xor
 xor-comm true true = refl
@@ -66,16 +76,6 @@ module _ (limit n : ℕ) (s : Similarity) (symm : Symmetric s) where
         let p = carried (s a b) in
         cond-elim (xor (has A a) (has A b)) (high limit p) (low limit p) (Fill limit p) (λ _. high-fill limit p) (λ _. low-fill limit p);
   }
-
--- inside A the worst filling is least, across its border greatest
-module _ (limit : ℕ) (s : Similarity) (A a b : ℕ) where
-  pub worst-inside : A ∋ a → A ∋ b → worst limit A s a b ≡ low limit (carried (s a b))
-  unfolding worst xor
-  worst-inside ka kb = ap₂ (λ p q. cond (xor p q) (high limit (carried (s a b))) (low limit (carried (s a b)))) (T-true {b = has A a} (yes-has A a ka)) (T-true {b = has A b} (yes-has A b kb))
-
-  pub worst-across : A ∋ a → A ∌ b → worst limit A s a b ≡ high limit (carried (s a b))
-  unfolding worst xor
-  worst-across ka kb = ap₂ (λ p q. cond (xor p q) (high limit (carried (s a b))) (low limit (carried (s a b)))) (T-true {b = has A a} (yes-has A a ka)) (T-false {b = has A b} (no-has A b kb))
 
 -- no filling has a smaller index than the worst one: each of its values is at least the one of the worst
 pub filled-least : (limit n : ℕ) (s f : Similarity) (A : ℕ) → Fills limit n s f → filledIndex limit n s A ≤ℤ strongIndex n f A

@@ -9,7 +9,7 @@ use lib.Dec.{eqb}
 use lib.IntN.{ℤ}
 use lib.ListN.{length, getD, drop}
 use Rattle.pairs.specs.declared.Carried.the-variants.{Scored, Unscored}
-use Rattle.interface.specs.Sheet.{isValue, isLoneMinus, isCell, valueOf, pairSaid}
+use Rattle.interface.specs.Sheet.{isNumeral, isValue, isLoneMinus, isCell, valueOf, pairSaid}
 use Rattle.text.specs.Reading.{pieceAt, isEnd, numberAt}
 use Rattle.text.specs.declared.Cursor.{Cursor}
 use Rattle.text.specs.declared.NumberRead.{NumberRead}
@@ -56,19 +56,30 @@ unfolding isLoneMinus
 lone-length [] e = absurd (true≢false (sym e))
 lone-length (b ∷ w) e = ap suc (eqb-true (length w) 0 (and-both (eqb b 45) (eqb (length w) 0) e .1))
 
+lone-no-value : (w : List ℕ) → isLoneMinus w ≡ true → isValue w ≡ false
+unfolding isLoneMinus isValue isNumeral
+lone-no-value [] e = refl
+lone-no-value (b ∷ []) e = rw (and-both (eqb b 45) true e .0)
+lone-no-value (b ∷ c ∷ w) e = absurd (omega (arith, lone-length (b ∷ c ∷ w) e))
+
 -- a number as a value
-abbrev pub asValue : NumberRead → ValueRead
+abbrev asValue : NumberRead → ValueRead
 asValue (Number z next) = Value (record { carries = Scored z }) next
 asValue IllFormed = Refused
 
+abbrev isNumber : NumberRead → Bool
+isNumber (Number z next) = true
+isNumber IllFormed = false
+
+-- the mark; no lone minus; a number, which is no lone minus
 module _ (s : List ℕ) (at : ℕ) where
   pub mark-at : isLoneMinus (pieceAt 32 s at) ≡ true → Value (record { carries = Unscored }) (record { at = at + 1 }) ≡ valueAt s at
   unfolding valueAt isCell pairSaid
   mark-at e = rw (e, lone-length (pieceAt 32 s at) e)
 
-  pub number-value : isLoneMinus (pieceAt 32 s at) ≡ false → asValue (numberAt s at) ≡ valueAt s at
+  no-mark : isLoneMinus (pieceAt 32 s at) ≡ false → asValue (numberAt s at) ≡ valueAt s at
   unfolding valueAt numberAt isCell pairSaid
-  number-value e = rw e (go (isValue w) (valueOf w) (record { at = at + length w }))
+  no-mark e = rw e (go (isValue w) (valueOf w) (record { at = at + length w }))
     where
       w : List ℕ
       w = pieceAt 32 s at
@@ -77,3 +88,17 @@ module _ (s : List ℕ) (at : ℕ) where
           → asValue (cond b (Number z next) IllFormed) ≡ cond b (Value (record { carries = Scored z }) next) Refused
       go true z next = refl
       go false z next = refl
+
+  lone-no-number : isLoneMinus (pieceAt 32 s at) ≡ true → isNumber (numberAt s at) ≡ false
+  unfolding numberAt
+  lone-no-number e = rw (lone-no-value (pieceAt 32 s at) e)
+
+  pub number-at : {z : ℤ} {next : Cursor} → Number z next ≡ numberAt s at → Value (record { carries = Scored z }) next ≡ valueAt s at
+  number-at {z} {next} e = go (isLoneMinus (pieceAt 32 s at)) refl
+    where
+      go : (x : Bool) → isLoneMinus (pieceAt 32 s at) ≡ x → Value (record { carries = Scored z }) next ≡ valueAt s at
+      go true t = absurd (true≢false (ap isNumber e ∙ lone-no-number t))
+      go false t = ap asValue e ∙ no-mark t
+
+  pub none-at : IllFormed ≡ numberAt s at → isLoneMinus (pieceAt 32 s at) ≡ false → Refused ≡ valueAt s at
+  none-at e t = ap asValue e ∙ no-mark t

@@ -166,9 +166,13 @@ module _ (s : List ℕ) (from end : ℕ) (is : end ≡ from + length (digits 7 (
   unfolding pieceAt
   numeral-whole e = digits-start 7 (drop from s) .whole (behind ∙ e)
 
-  pub numeral-none : isEnd (drop end s) ≡ true → end ≡ from → isNumeral (pieceAt 32 s from) ≡ false
+  pub numeral-none : end ≡ from → isNumeral (pieceAt 32 s from) ≡ false
   unfolding isNumeral
-  numeral-none e z = ap isNumeral (numeral-whole e) ∙ empty isNumeral (digits 7 (drop from s)) (omega arith) refl
+  numeral-none z = go (isEnd (drop end s)) refl
+    where
+      go : (x : Bool) → isEnd (drop end s) ≡ x → isNumeral (pieceAt 32 s from) ≡ false
+      go true e = ap isNumeral (numeral-whole e) ∙ empty isNumeral (digits 7 (drop from s)) (omega arith) refl
+      go false e = numeral-part e
 
   pub numeral-test : isEnd (drop end s) ≡ true → (end ≡ from → ⊥)
       → isNumeral (pieceAt 32 s from) ≡ (not (eqb (getD s from 0) 48) || eqb (end - from) 1)

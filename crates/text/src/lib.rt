@@ -202,14 +202,15 @@ fn is_end(line: &[u8], at: usize) -> bool
 }
 
 // From a place to the end of the digits there stands a numeral: 1 to 7 digits without a leading zero, or 0.
+// With is_end before the test that there are digits a value takes 11 instructions more.
 fn is_numeral(line: &[u8], from: usize, end: usize) -> bool
     requires { ⌜ (from ≤ length (now line)) × (end ≡ from + length (digits 7 (drop from (now line)))) ⌝ }
     ensures { λ r. ⌜ r ≡ isNumeral (pieceAt space (now (line .entry)) from) ⌝ }
 {
-    if !is_end(line, end) {
+    if end == from {
         return false;
     }
-    if end == from {
+    if !is_end(line, end) {
         return false;
     }
     (line[from] != b'0') | (end - from == 1)
@@ -253,20 +254,21 @@ fn is_lone_minus(line: &[u8], at: usize) -> bool
     is_end(line, at + 1)
 }
 
-// The pair that stands at a place of a line, with the place after it: the mark, or a number.
+// The pair that stands at a place of a line, with the place after it: a number, or the mark, which is looked for last, so
+// that a number takes no more time.
 pub fn read_value(line: &[u8], at: usize) -> ValueRead
     requires { ⌜ at ≤ length (now line) ⌝ }
     ensures { λ r. ⌜ ValueCall (now (line .entry)) at r ⌝ }
 {
-    if is_lone_minus(line, at) {
-        return ValueRead::Value(
-            Pair {
-                carries: Carried::Unscored,
-            },
-            Cursor { at: at + 1 },
-        );
-    }
     let NumberRead::Number(number, next) = read_number(line, at) else {
+        if is_lone_minus(line, at) {
+            return ValueRead::Value(
+                Pair {
+                    carries: Carried::Unscored,
+                },
+                Cursor { at: at + 1 },
+            );
+        }
         return ValueRead::Refused;
     };
     ValueRead::Value(

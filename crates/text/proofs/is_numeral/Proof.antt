@@ -9,23 +9,22 @@ use Rattle.text.proofs.Numerals.{digits-inside, numeral-part, numeral-n
 use Rattle.text.proofs.is_numeral.Statement.{statement}
 use Rattle.text.proofs.is_numeral.Tie as tie
 
-is-end-requires : tie.Need-is-end-requires
-is-end-requires c κs = search needs
-
 returns : tie.Need-returns
 returns c =
-    let a = c .before .before .before .args in
-    let e = sym (c .before .is-end .ensures) ∙ not-true _ (c .if1 .taken) in
-    sym (numeral-part (a .line .now) (a .from) (a .end) (c .before .before .before .pre .1) e)
+    let a = c .before .before .args in
+    sym (numeral-none (a .line .now) (a .from) (a .end) (c .before .before .pre .1) (c .if1 .taken))
 
-ended : (c : tie.Else1) → isEnd (drop (c .before .before .before .args .end) (c .before .before .before .args .line .now)) ≡ true
-ended c = sym (c .before .is-end .ensures) ∙ not-false _ (c .if1 .left)
+is-end-requires : tie.Need-is-end-requires
+is-end-requires c κs = search needs
 
 returns-2 : tie.Need-returns-2
 returns-2 c =
     let a = c .before .before .before .before .args in
-    let p = c .before .before .before .before .pre in
-    sym (numeral-none (a .line .now) (a .from) (a .end) (p .1) (ended (c .before)) (c .if2 .taken))
+    let e = sym (c .before .is-end .ensures) ∙ not-true _ (c .if2 .taken) in
+    sym (numeral-part (a .line .now) (a .from) (a .end) (c .before .before .before .before .pre .1) e)
+
+ended : (c : tie.Else2) → isEnd (drop (c .before .before .before .before .args .end) (c .before .before .before .before .args .line .now)) ≡ true
+ended c = sym (c .before .is-end .ensures) ∙ not-false _ (c .if2 .left)
 
 shared-slice-read-result : tie.Need-shared-slice-read-result
 shared-slice-read-result c =
@@ -40,9 +39,9 @@ returns-3 : tie.Need-returns-3
 returns-3 c =
     let a = c .before .before .before .before .before .args in
     let p = c .before .before .before .before .before .pre in
-    sym (numeral-test (a .line .now) (a .from) (a .end) (p .1) (ended (c .before .before)) (c .before .if2 .left))
+    sym (numeral-test (a .line .now) (a .from) (a .end) (p .1) (ended (c .before)) (c .before .before .before .if1 .left))
 
 pub is-numeral-spec : {M : Type 1} → statement M
 is-numeral-spec =
     tie.close
-    (tie.spec is-end-requires returns returns-2 shared-slice-read-result sub-result returns-3)
+    (tie.spec returns is-end-requires returns-2 shared-slice-read-result sub-result returns-3)
