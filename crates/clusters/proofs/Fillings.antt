@@ -15,7 +15,7 @@ use Rattle.pairs.specs.declared.Carried.{Carried}
 use Rattle.pairs.specs.declared.Carried.the-variants.{Scored, Unscored}
 use Rattle.pairs.specs.Pairs.{carried}
 use Rattle.pairs.proofs.Pairs.{scored-is}
-use Rattle.clusters.specs.PairList.{Similarity, Symmetric, isAllowed}
+use Rattle.clusters.specs.PairList.{Similarity, Symmetric, isAllowedPair}
 use Rattle.clusters.specs.Indices.{strongIndex}
 use Rattle.clusters.specs.Fillings.{Fill, Fills, LeastFilling, AllScored, low, high, worst, filledIndex, Scoring, ScoredMore}
 use Rattle.clusters.proofs.Strong.{strong-mono}
@@ -143,6 +143,6 @@ scored-filling {limit} {f} all fills a b ha hb = subst (λ p. Fill limit p (f a 
 pub filling-within : {limit n : ℕ} {s f : Similarity} → AllAllowed limit n s → Fills limit n s f → (a b : ℕ) → a < n → b < n → Within limit (f a b)
 filling-within {limit} {s} {f} allowed fills a b ha hb = at (f a b) (carried (s a b)) (allowed a b ha hb) (fills .pairs a b ha hb)
   where
-    at : (y : ℤ) (p : Carried) → T (isAllowed limit p) → Fill limit p y → Within limit y
+    at : (y : ℤ) (p : Carried) → T (isAllowedPair limit p) → Fill limit p y → Within limit y
     at y (Scored z) t e = subst (Within limit) (sym e) (allowed-within t)
     at y Unscored t h = h

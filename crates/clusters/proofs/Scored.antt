@@ -1,5 +1,5 @@
 -- What checks 11 and 16 leave of a pair list.
-use mathlib.Core.Path.{_≡_, refl, subst}
+use mathlib.Core.Path.{_≡_, refl, sym, subst}
 use mathlib.Core.Bool.{Bool, true, false, not, cond, _||_, Bool·not-not}
 use mathlib.Core.Logic.{_⊎_, inl, inr}
 use mathlib.Core.List.{List}
@@ -16,13 +16,13 @@ use Rattle.integers.specs.Range.{Within}
 use Rattle.pairs.specs.declared.Carried.the-variants.{Scored, Unscored}
 use Rattle.pairs.specs.Pairs.{mark, carried, isScored}
 use Rattle.pairs.proofs.Pairs.{Cases, carried-cases, scored-is}
-use Rattle.clusters.specs.PairList.{Similarity, rowStart, score, scoreLimit, isInRange, inRange, isAllowed, scoresInRange, hasUnscored}
+use Rattle.clusters.specs.PairList.{Similarity, rowStart, score, scoreLimit, isInRange, inRange, isAllowedPair, scoresInRange, hasUnscored}
 use Rattle.clusters.specs.Fillings.{AllScored}
 use Rattle.clusters.proofs.PairList.{score-element}
 
 -- every score of the pairs of n entries is allowed
 abbrev pub AllAllowed : (limit n : ℕ) → Similarity → Type 0
-AllAllowed limit n s = (a b : ℕ) → a < n → b < n → T (isAllowed limit (carried (s a b)))
+AllAllowed limit n s = (a b : ℕ) → a < n → b < n → T (isAllowedPair limit (carried (s a b)))
 
 pub range-within : {limit : ℕ} {z : ℤ} → T (isInRange limit z) → Within limit z
 unfolding isInRange
@@ -32,24 +32,32 @@ pub within-range : {limit : ℕ} {z : ℤ} → Within limit z → T (isInRange l
 unfolding isInRange
 within-range {limit} {z} h = T-and (leZ (negℤ (pos limit)) z) (leZ z (pos limit)) (h .low .le) (h .top .le)
 
-pub allowed-within : {limit : ℕ} {z : ℤ} → T (isAllowed limit (Scored z)) → Within limit z
-unfolding isAllowed
+pub allowed-within : {limit : ℕ} {z : ℤ} → T (isAllowedPair limit (Scored z)) → Within limit z
+unfolding isAllowedPair
 allowed-within t = range-within t
 
 -- an allowed number is the mark or a score in range
-pub allowed-cases : {limit : ℕ} {z : ℤ} → T (isAllowed limit (carried z)) → (z ≡ mark) ⊎ Within limit z
+pub allowed-cases : {limit : ℕ} {z : ℤ} → T (isAllowedPair limit (carried z)) → (z ≡ mark) ⊎ Within limit z
 allowed-cases {limit} {z} t = go (carried-cases z)
   where
     go : Cases z → (z ≡ mark) ⊎ Within limit z
-    go (inl e) = inr (allowed-within (subst (λ p. T (isAllowed limit p)) e t))
+    go (inl e) = inr (allowed-within (subst (λ p. T (isAllowedPair limit p)) e t))
     go (inr (m, _)) = inl m
 
+pub within-allowed : {limit : ℕ} {z : ℤ} → Within limit z → T (isAllowedPair limit (carried z))
+unfolding isAllowedPair
+within-allowed {limit} {z} h = go (carried-cases z)
+  where
+    go : Cases z → T (isAllowedPair limit (carried z))
+    go (inl e) = subst (λ p. T (isAllowedPair limit p)) (sym e) (within-range h)
+    go (inr (_, e)) = subst (λ p. T (isAllowedPair limit p)) (sym e) tt
+
 -- the test as the code makes it
-pub allowed-test : (limit : ℕ) (z : ℤ) → eqZ z mark || isInRange limit z ≡ isAllowed limit (carried z)
-unfolding carried isAllowed
+pub allowed-test : (limit : ℕ) (z : ℤ) → eqZ z mark || isInRange limit z ≡ isAllowedPair limit (carried z)
+unfolding carried isAllowedPair
 allowed-test limit z = go (eqZ z mark)
   where
-    go : (b : Bool) → b || isInRange limit z ≡ isAllowed limit (cond b Unscored (Scored z))
+    go : (b : Bool) → b || isInRange limit z ≡ isAllowedPair limit (cond b Unscored (Scored z))
     go true = refl
     go false = refl
 
@@ -57,7 +65,7 @@ allowed-test limit z = go (eqZ z mark)
 module _ (n : ℕ) (l : List ℤ) (long : length l ≡ rowStart n) where
   pub list-allowed : T (scoresInRange l) → AllAllowed scoreLimit n (score l)
   unfolding scoresInRange
-  list-allowed t a b ha hb = all-in (λ v. isAllowed scoreLimit (carried v)) l t (score-element n l long ha hb)
+  list-allowed t a b ha hb = all-in (λ v. isAllowedPair scoreLimit (carried v)) l t (score-element n l long ha hb)
 
 all-scored : (l : List ℤ) → T (not (hasUnscored l)) → (z : ℤ) → z ∈ l → T (isScored (carried z))
 unfolding hasUnscored
@@ -68,6 +76,6 @@ list-scored n l long t a b ha hb = all-scored l t (score l a b) (score-element n
 
 -- with no unscored pair every number is in range
 pub scored-in-range : (l : List ℤ) → T (scoresInRange l) → T (not (hasUnscored l)) → T (inRange l)
-unfolding scoresInRange inRange isAllowed
+unfolding scoresInRange inRange isAllowedPair
 scored-in-range l t u = in-all (isInRange scoreLimit) l (λ z m.
-    subst (λ p. T (isAllowed scoreLimit p)) (scored-is (all-scored l u z m)) (all-in (λ v. isAllowed scoreLimit (carried v)) l t m))
+    subst (λ p. T (isAllowedPair scoreLimit p)) (scored-is (all-scored l u z m)) (all-in (λ v. isAllowedPair scoreLimit (carried v)) l t m))

@@ -1,23 +1,28 @@
 -- What holds of the strong groups of scores with unscored pairs, for any number of entries (document 02, 2.2).
-use mathlib.Core.Path.{_≡_, sym, ap, _∙_, subst}
+use mathlib.Core.Path.{_≡_, refl, sym, ap, _∙_, subst, subst₂}
 use mathlib.Core.Bool.{_&&_}
 use mathlib.Core.Logic.{_↔_}
 use mathlib.Core.List.{List, map}
 use Prim.Native.Nat.{ℕ, _^_, _<_}
 use lib.IntN.{ℤ, pos}
 use lib.Signed.{_≤ℤ_, leZ, leZ-yes}
+use native.Mathlib.Decide.{ℕ-discrete}
+use native.Mathlib.Omega.{arith}
 use lib.Dec.{T}
-use Rattle.lists.specs.Lists.{_∈_, _lists_, keep}
+use lib.ListN.{length, getD, set}
+use lib.Seq.{getD-set-same, getD-set-other}
+use Rattle.lists.specs.Lists.{_∈_, _lists_}
 use Rattle.lists.proofs.Tests.{and-T, T-and}
 use Rattle.lists.proofs.Lists.{in-keep, of-keep, keep-cong, map-cong}
+use Rattle.integers.specs.Range.{Within}
 use Rattle.integers.proofs.Linear.{zarith}
 use Rattle.sets.specs.Sets.{_∋_}
-use Rattle.sets.proofs.Sets.{size-less}
-use Rattle.pairs.specs.declared.Carried.the-variants.{Unscored}
+use Rattle.pairs.specs.declared.Carried.{Carried}
+use Rattle.pairs.specs.declared.Carried.the-variants.{Scored, Unscored}
 use Rattle.pairs.specs.Pairs.{carried, isScored}
-use Rattle.clusters.specs.PairList.{Similarity, Symmetric, scoreLimit}
+use Rattle.clusters.specs.PairList.{Similarity, Symmetric, rowStart, place, score, scoreLimit, isAllowedPair}
 use Rattle.clusters.specs.Indices.{strongIndex}
-use Rattle.clusters.specs.Fillings.{Fills, AllScored, ScoredMore, filledIndex}
+use Rattle.clusters.specs.Fillings.{Fills, AllScored, Scoring, ScoredMore, filledIndex}
 use Rattle.clusters.specs.Touched.{untouched}
 use Rattle.clusters.specs.Linkage.{single, link, Tree, blocks}
 use Rattle.clusters.specs.Groups.{
@@ -37,7 +42,6 @@ use Rattle.clusters.specs.Groups.{
   lentScores,
 }
 use Rattle.clusters.proofs.Groups.{
-  speaks-size,
   of-listed,
   is-listed,
   listed-index,
@@ -47,14 +51,14 @@ use Rattle.clusters.proofs.Groups.{
   in-groupSets,
   in-groups,
 }
-use Rattle.clusters.proofs.Scored.{AllAllowed}
+use Rattle.clusters.proofs.PairList.{place-lt}
+use Rattle.clusters.proofs.Scored.{AllAllowed, within-allowed}
 use Rattle.clusters.proofs.Fillings.{lowest, lowest-fills, filled-positive, scoring-raises}
 use Rattle.clusters.proofs.Untouched.{of-untouched, untouched-index, scored-index, positive-untouched}
 use Rattle.clusters.proofs.Trees.{repels-in-tree}
 use Rattle.clusters.proofs.Links.{link-symm}
 use Rattle.clusters.proofs.Single.{strong-repels}
 use Rattle.clusters.proofs.Theorems.{group-in-tree}
-use mathlib.Core.Path.{refl}
 
 pub in-plainSets : (n : ℕ) (s : Similarity) (A : ℕ) → (A ∈ plainSets n s) ↔ ((A < 2 ^ n) × T (speaksOf strong n A) × (pos 1 ≤ℤ strongIndex n s A))
 unfolding plainSets
@@ -94,6 +98,29 @@ scoring-keeps n s later symm more A z m =
       in-groups strong n later A y .1 (h, is-listed strong n later A (of-listed strong n s A t .0) (omega zarith), refl),
       omega zarith,
     )
+
+-- one more pair of a list: its slot gets a score
+scoring-same : (limit : ℕ) (p : Carried) → Scoring limit p p
+unfolding isAllowedPair
+scoring-same limit (Scored z) = refl
+scoring-same limit Unscored = tt
+
+pub scoring-one : (n : ℕ) (l : List ℤ) (a b : ℕ) (z : ℤ) → length l ≡ rowStart n → a < n → b < n → carried (score l a b) ≡ Unscored → Within scoreLimit z
+    → ScoredMore scoreLimit n (score l) (score (set l (place a b) z))
+unfolding score
+scoring-one n l a b z long ha hb e h = record { pairs = λ i j _ _. at (place i j) (ℕ-discrete (place i j) (place a b)) }
+  where
+    here : ℤ
+    here = getD (set l (place a b) z) (place a b) (pos 0)
+
+    stored : z ≡ here
+    stored = sym (getD-set-same l (place a b) z (pos 0) (omega (arith, place-lt n a b ha hb)))
+
+    at : (k : ℕ) → Dec (k ≡ place a b) → Scoring scoreLimit (carried (getD l k (pos 0))) (carried (getD (set l (place a b) z) k (pos 0)))
+    at k (yes q) = subst₂ (Scoring scoreLimit) (sym (ap (λ (k : ℕ). carried (getD l k (pos 0))) q ∙ e))
+        (sym (ap (λ (k : ℕ). carried (getD (set l (place a b) z) k (pos 0))) q)) (subst (λ y. T (isAllowedPair scoreLimit (carried y))) stored (within-allowed h))
+    at k (no d) = subst (λ y. Scoring scoreLimit (carried (getD l k (pos 0))) (carried y)) (sym (getD-set-other l (place a b) k z (pos 0) d))
+        (scoring-same scoreLimit (carried (getD l k (pos 0))))
 
 -- with every pair scored the groups are those of document 01
 pub scored-groups : (n : ℕ) (s : Similarity) → AllScored n s → groups strong n s ≡ plainGroups n s

@@ -18,7 +18,7 @@ use Rattle.pairs.specs.declared.Carried.{Carried}
 use Rattle.pairs.specs.declared.Carried.the-variants.{Scored, Unscored}
 use Rattle.pairs.specs.Pairs.{carried, isScored}
 use Rattle.pairs.proofs.Pairs.{Cases, carried-cases, scored-is, is-scored}
-use Rattle.clusters.specs.PairList.{Similarity, isAllowed}
+use Rattle.clusters.specs.PairList.{Similarity, isAllowedPair}
 use Rattle.clusters.specs.Indices.{strongIndex}
 use Rattle.clusters.specs.Fillings.{AllScored, low, high, worst, filledIndex}
 use Rattle.clusters.specs.Touched.{rowScored, untouched, touchedEntries}
@@ -86,12 +86,12 @@ scored-untouched n s h A = in-untouched n s A (λ a b ha hb _. h a b ha hb)
 pub scored-index : (limit n : ℕ) (s : Similarity) → AllScored n s → (A : ℕ) → filledIndex limit n s A ≡ strongIndex n s A
 scored-index limit n s h A = untouched-index limit n s A (scored-untouched n s h A)
 
-low-le : (limit : ℕ) (p : Carried) → T (isAllowed limit p) → low limit p ≤ℤ pos limit
+low-le : (limit : ℕ) (p : Carried) → T (isAllowedPair limit p) → low limit p ≤ℤ pos limit
 unfolding low
 low-le limit (Scored z) t = allowed-within t .top
 low-le limit Unscored t = low-fill limit Unscored .top
 
-high-ge : (limit : ℕ) (p : Carried) → T (isAllowed limit p) → negℤ (pos limit) ≤ℤ high limit p
+high-ge : (limit : ℕ) (p : Carried) → T (isAllowedPair limit p) → negℤ (pos limit) ≤ℤ high limit p
 unfolding high
 high-ge limit (Scored z) t = allowed-within t .low
 high-ge limit Unscored t = high-fill limit Unscored .low

@@ -11,7 +11,7 @@ use Rattle.sets.specs.Sets.{has}
 use Rattle.pairs.specs.declared.Carried.{Carried}
 use Rattle.pairs.specs.declared.Carried.the-variants.{Scored, Unscored}
 use Rattle.pairs.specs.Pairs.{carried, isScored}
-use Rattle.clusters.specs.PairList.{Similarity, Symmetric, isAllowed}
+use Rattle.clusters.specs.PairList.{Similarity, Symmetric, isAllowedPair}
 use Rattle.clusters.specs.Indices.{strongIndex}
 
 -- "A filling gives each unscored pair any score in the allowed range": the scores that a filling may have for a pair
@@ -38,7 +38,7 @@ AllScored n s = (a b : ℕ) → a < n → b < n → T (isScored (carried (s a b)
 -- "Scoring one more pair", or several: a score stays as it is, an unscored pair may get one in the allowed range
 abbrev pub Scoring : (limit : ℕ) → Carried → Carried → Type 0
 Scoring limit (Scored z) later = later ≡ Scored z
-Scoring limit Unscored later = T (isAllowed limit later)
+Scoring limit Unscored later = T (isAllowedPair limit later)
 
 pub record ScoredMore (limit n : ℕ) (s later : Similarity) : Type 0 where
   pub pairs : (a b : ℕ) → a < n → b < n → Scoring limit (carried (s a b)) (carried (later a b))

@@ -53,12 +53,12 @@ unfoldable pub inRange : List ℤ → Bool
 inRange l = all (isInRange scoreLimit) l
 
 -- with unscored pairs (document 02, 2.2): the mark is "exempt from 11"
-unfoldable pub isAllowed : (limit : ℕ) → Carried → Bool
-isAllowed limit (Scored z) = isInRange limit z
-isAllowed limit Unscored = true
+unfoldable pub isAllowedPair : (limit : ℕ) → Carried → Bool
+isAllowedPair limit (Scored z) = isInRange limit z
+isAllowedPair limit Unscored = true
 
 unfoldable pub scoresInRange : List ℤ → Bool
-scoresInRange l = all (λ v. isAllowed scoreLimit (carried v)) l
+scoresInRange l = all (λ v. isAllowedPair scoreLimit (carried v)) l
 
 -- 16: "a sheet with an unscored pair"
 unfoldable pub hasUnscored : List ℤ → Bool

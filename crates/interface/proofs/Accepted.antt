@@ -1,5 +1,5 @@
 -- What checks 11 and 16 leave of the pairs, for each call that makes them.
-use mathlib.Core.Path.{_≡_, sym, _∙_, subst}
+use mathlib.Core.Path.{_≡_, subst}
 use mathlib.Core.Bool.{Bool, true, false, not, _&&_}
 use mathlib.Core.Logic.{_≢_}
 use mathlib.Core.List.{List}
@@ -8,7 +8,7 @@ use lib.Dec.{T, lit<, not-T}
 use lib.IntN.{ℤ, pos}
 use lib.ListN.{length}
 use Rattle.lists.specs.Lists.{all}
-use Rattle.lists.proofs.Tests.{T-false, T-or-not}
+use Rattle.lists.proofs.Tests.{T-false}
 use Rattle.integers.specs.Integers.{eqZ}
 use Rattle.integers.proofs.Linear.{eqZ-yes}
 use Rattle.clusters.specs.PairList.{rowStart, score, scoreLimit, hasLength, scoresInRange, hasUnscored}

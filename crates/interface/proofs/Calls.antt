@@ -11,7 +11,7 @@ use Rattle.sets.specs.Sets.{has, members, others, size}
 use Rattle.pairs.specs.declared.Carried.the-variants.{Scored, Unscored}
 use Rattle.pairs.specs.declared.Pair.{Pair}
 use Rattle.pairs.specs.Pairs.{mark, numberFor, listNumber, carried, pairOf, isScored}
-use Rattle.clusters.specs.PairList.{rowStart, place, score, pairList, scoreLimit, hasLength, isInRange, inRange, isAllowed, scoresInRange}
+use Rattle.clusters.specs.PairList.{rowStart, place, score, pairList, scoreLimit, hasLength, isInRange, inRange, isAllowedPair, scoresInRange}
 use Rattle.clusters.specs.PairList.{hasUnscored, areDistances}
 use Rattle.clusters.specs.Indices.{strongValues, strongIndex}
 use Rattle.clusters.specs.Fillings.{low, high, worst, filledIndex}
@@ -141,7 +141,7 @@ unfolding own below each keep all minZ maxZ eqZ least half even has members othe
     areDistances strongValues strongIndex unfarris distancesBack isAnchored kindOf index proper speaksOf listed sets groupSets groups groupsFound firstOf
     mostEntries wrongKind wrongCount wrongDistances fewSlots wrongAnchor wrongEntries shortSlice notAnchored numbersChecks numbersRefusal linkageChecks
     linkageRefusal anchoredChecks anchoredRefusal backChecks backRefusal scoreChecks scoreRefusal wrongGroupKind sharedChecks sharedRefusal
-    setsFound indicesFound isPair scoreAmong pairAmong pairOf isInRange isAllowed scoresInRange hasUnscored filledIndex worst xor low high mark carried isScored
+    setsFound indicesFound isPair scoreAmong pairAmong pairOf isInRange isAllowedPair scoresInRange hasUnscored filledIndex worst xor low high mark carried isScored
     wrongUnscored
 examples = record {
   passes = refl;

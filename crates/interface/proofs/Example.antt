@@ -13,8 +13,7 @@ use Rattle.lists.proofs.Lists.{all-in, of-map-cong}
 use Rattle.integers.specs.Integers.{minZ, maxZ, eqZ, least}
 use Rattle.sets.specs.Sets.{has, members, others, size}
 use Rattle.pairs.specs.Pairs.{mark, numberFor, listNumber, carried, isScored}
-use Rattle.clusters.specs.PairList.{rowStart, place, score, pairList, scoreLimit, isInRange, scoresInRange, hasUnscored, areDistances}
-use Rattle.clusters.specs.PairList as PairList
+use Rattle.clusters.specs.PairList.{rowStart, place, score, pairList, scoreLimit, isInRange, isAllowedPair, scoresInRange, hasUnscored, areDistances}
 use Rattle.clusters.specs.Indices.{strongValues, strongIndex}
 use Rattle.clusters.specs.Fillings.{low, high, worst, filledIndex}
 use Rattle.clusters.specs.Groups.{kindOf, index, proper, speaksOf, listed, sets, groupSets, groups}
@@ -226,7 +225,7 @@ unfolding sheet text six signed parted refused many isUpper isDigit isName isNum
     words value mirrored pairs sameBytes isAmong hasEqual kindOf index proper speaksOf listed sets groupSets groups strongValues strongIndex score place
     rowStart pairList has members others size minZ maxZ eqZ least below each keep all lineOf digit digits hexadecimal decimalFrom decimal signedDecimal
     firstText lineText firstLine listing groupsFound pairsListing sheetListing isHexDigit isSet isDecimal isLine lineRead isFirst lineWords isListing
-    listingRead isInRange PairList.isAllowed scoresInRange hasUnscored mark numberFor listNumber carried isScored low high worst xor filledIndex
+    listingRead isInRange isAllowedPair scoresInRange hasUnscored mark numberFor listNumber carried isScored low high worst xor filledIndex
     isLoneMinus isCell pairSaid wrongUnscored unscored unscoredText scoreLimit areDistances firstOf mostBytes mostEntries wrongKind wrongLength isAllowed wrongByte wrongNames equalNames wrongCount
     wrongLines isRow wrongValues wrongDistances sheetCallChecks sheetRefusal readerChecks readerRefusal hasName nameOf startOf nameStart
 computed = record {

@@ -5,19 +5,23 @@ use mathlib.Core.Logic.{_≢_, _↔_}
 use mathlib.Core.List.{List, [], _∷_, _++_}
 use Prim.Native.Nat.{ℕ, _-_, _<_}
 use native.Mathlib.Omega.{arith}
-use lib.Dec.{T, T-not, not-T, eqb, lit<}
-use lib.IntN.{ℤ, pos, negℤ}
+use lib.Signed.{_≤ℤ_}
+use lib.Dec.{T, T-not, not-T, eqb, eqb→eq, lit<}
+use lib.IntN.{ℤ, pos}
 use lib.ListN.{length}
-use Rattle.lists.specs.Lists.{_∈_, _lists_, all}
-use Rattle.lists.proofs.Tests.{and-T, T-and, eqb-no, eqb-yes}
+use Rattle.lists.specs.Lists.{_lists_, all}
+use Rattle.lists.proofs.Lists.{some-fails}
+use Rattle.lists.proofs.Tests.{and-T, T-and, eqb-no}
 use Rattle.integers.specs.Integers.{eqZ}
 use Rattle.integers.proofs.Linear.{eqZ-yes}
-use Rattle.clusters.specs.PairList.{Similarity, Symmetric, rowStart, score, scoreLimit, hasUnscored}
-use Rattle.clusters.specs.Groups.{strong, kindOf, index, groupSets, groups}
-use Rattle.clusters.proofs.PairList.{score-symm}
+use Rattle.pairs.specs.declared.Carried.the-variants.{Unscored}
+use Rattle.pairs.specs.Pairs.{mark, carried}
+use Rattle.clusters.specs.PairList.{Similarity, rowStart, scoreLimit, hasLength, isAllowedPair, scoresInRange, hasUnscored}
+use Rattle.clusters.specs.Fillings.{ScoredMore}
+use Rattle.clusters.specs.Groups.{strong, kindOf, index, groups}
 use Rattle.clusters.proofs.Groups.{in-groups, in-groupSets}
-use Rattle.clusters.proofs.Scored.{AllAllowed}
-use Rattle.clusters.proofs.Unscored.{group-every-filling, scoring-keeps, scored-groups, touched-unlisted}
+use Rattle.clusters.proofs.Scored.{within-allowed}
+use Rattle.clusters.proofs.Unscored.{group-every-filling, scoring-keeps, scoring-one, scored-groups, touched-unlisted}
 use Rattle.answers.specs.declared.Answer.{Answer}
 use Rattle.answers.specs.Answers.{numberOf, answer}
 use Rattle.answers.proofs.Answers.{number-answer}
@@ -36,6 +40,7 @@ use Rattle.interface.specs.Refusals.{
   check6,
   check10,
   check11,
+  check16Of,
   check12,
   check13,
   check14,
@@ -53,7 +58,7 @@ use Rattle.interface.specs.Refusals.{
   sharedRefusal,
 }
 use Rattle.interface.specs.Demands.{Wrote}
-use Rattle.interface.specs.Requests.{Sixteen, Request-2-2}
+use Rattle.interface.specs.Requests.{Sixteen, OutOfRange, Request-2-2}
 use Rattle.interface.proofs.Demands.{c-refused, answered, wrote, wrote-allowed}
 use Rattle.interface.proofs.Requests.{shared-given}
 
@@ -135,6 +140,39 @@ anchored-sixteen n x l slots =
     first-at 16 (lit< tt) (check6 n ∷ check10 n l ∷ check11 l ∷ []) (hasUnscored l)
     (check12 (pos 3) n l ∷ check15 (wrongAnchor n x || shortSlice slots (rowStart n)) ∷ []) tt tt
 
+-- 11, with the mark exempt
+marked : {z : ℤ} → z ≡ mark → carried z ≡ Unscored
+unfolding carried eqZ mark
+marked e = ap carried e
+
+exempt : T (isAllowedPair scoreLimit Unscored)
+unfolding isAllowedPair
+exempt = tt
+
+out-of-range : (l : List ℤ) → T (not (scoresInRange l)) → OutOfRange l
+unfolding scoresInRange
+out-of-range l t =
+    let (v, m, f) = some-fails (λ v. isAllowedPair scoreLimit (carried v)) l t in
+    record {
+      number = v;
+      there = m;
+      no-mark = λ e. T-not (isAllowedPair scoreLimit (carried v)) f (mark-allowed e);
+      out = λ h. T-not (isAllowedPair scoreLimit (carried v)) f (within-allowed h);
+    }
+  where
+    mark-allowed : {v : ℤ} → v ≡ mark → T (isAllowedPair scoreLimit (carried v))
+    mark-allowed e = subst (λ p. T (isAllowedPair scoreLimit p)) (sym (marked e)) exempt
+
+numbers-eleven : (kind : ℤ) (n : ℕ) (l : List ℤ) (sets indices : ℕ) → numbersRefusal kind n l sets indices ≡ 11 → OutOfRange l
+unfolding numbersRefusal numbersChecks all
+numbers-eleven kind n l sets indices e = out-of-range l (first-at 11 (lit< tt) (check1 kind ∷ check6 n ∷ check10 n l ∷ []) (not (scoresInRange l))
+    (check16Of kind l ∷ check12 kind n l ∷ check13 n sets indices ∷ []) tt tt .0 e .1)
+
+sheet-eleven : (kind : ℤ) (s : List ℕ) (buffer : ℕ) → sheetRefusal kind s buffer ≡ 11 → OutOfRange (pairs s)
+unfolding sheetRefusal sheetCallChecks readerChecks all
+sheet-eleven kind s buffer e = out-of-range (pairs s) (first-at 11 (lit< tt) (check1 kind ∷ readerChecks s) (not (scoresInRange (pairs s)))
+    (check16Of kind (pairs s) ∷ check12 kind (entries s) (pairs s) ∷ check14 buffer (sheetListing kind s) ∷ []) tt tt .0 e .1)
+
 -- the number of an answer whose table gives k
 given : {r : Answer} (k c : ℕ) {j : ℕ} {X : Type 0} → r ≡ answer k c → (k ≡ j) ↔ X → (numberOf r ≡ j) ↔ X
 given k c e f =
@@ -145,6 +183,16 @@ given k c e f =
 strong-wrote : {n : ℕ} {s : Similarity} {found : List (ℕ × ℤ)} → Wrote (pos 1) n s found → found ≡ groups strong n s
 unfolding kindOf eqZ
 strong-wrote w = wrote w .0
+
+more-scored : {n : ℕ} {s later : Similarity} {found found′ : List (ℕ × ℤ)} → Wrote (pos 1) n s found → Wrote (pos 1) n later found′
+    → ScoredMore scoreLimit n s later → (A : ℕ) (z : ℤ) → found lists (A, z) → (y : ℤ) × (found′ lists (A, y)) × (z ≤ℤ y)
+more-scored {n} {s} {later} w w′ more A z m =
+    let (y, k, h) = scoring-keeps n s later (wrote w′ .1) more A z (subst (λ (g : List (ℕ × ℤ)). g lists (A, z)) (strong-wrote w) m) in
+    (y, subst (λ (g : List (ℕ × ℤ)). g lists (A, y)) (sym (strong-wrote w′)) k, h)
+
+long : (n : ℕ) (l : List ℤ) → T (hasLength n l) → length l ≡ rowStart n
+unfolding hasLength
+long n l t = eqb→eq (length l) (rowStart n) t
 
 pub request-2-2 : Request-2-2
 request-2-2 = record {
@@ -159,13 +207,19 @@ request-2-2 = record {
             let z = index strong n s A in
             (z, subst (λ (g : List (ℕ × ℤ)). g lists (A, z)) (sym e) (in-groups strong n s A z .1 (h, t, refl))),
       );
-  scoring = λ {n} {s} {later} w w′ more A z m.
-      let (y, k, h) = scoring-keeps n s later (wrote w′ .1) more A z (subst (λ (g : List (ℕ × ℤ)). g lists (A, z)) (strong-wrote w) m) in
-      (y, subst (λ (g : List (ℕ × ℤ)). g lists (A, y)) (sym (strong-wrote w′)) k, h);
+  scoring = λ w w′. more-scored w w′;
+  one-more = λ {n} l a b new w w′ t ha hb e h. more-scored w w′ (scoring-one n l a b new (long n l t) ha hb (marked e) h);
   touched = λ {n} {s} w A z m.
       let (h, t, _) = in-groups strong n s A z .0 (subst (λ (g : List (ℕ × ℤ)). g lists (A, z)) (strong-wrote w) m) in
       touched-unlisted n s (wrote-allowed w) A (in-groupSets strong n s A .1 (h, t));
   all-scored = λ {n} {s} w scored. strong-wrote w ∙ scored-groups n s scored;
+  exempt-sheet = λ {kind} {r} {sheet} {lent} c e.
+      let k = sheetRefusal kind sheet (length lent) in
+      let many = length (sheetListing kind sheet) in
+      sheet-eleven kind sheet (length lent) (c-refused k many 11 (lit< tt) .0 (sym (answered c k many (c .outcome .answered)) ∙ e));
+  exempt-numbers = λ {kind} {n} {l} {lentIndices} {indices} {lentSets} c e.
+      let k = numbersRefusal kind n l (length lentSets) (length lentIndices) in
+      numbers-eleven kind n l (length lentSets) (length lentIndices) (sym (ap numberOf (c .answered) ∙ number-answer k (length (groupsFound kind n l))) ∙ e);
   of-sheet = λ {kind} {r} {sheet} {lent} c.
       let k = sheetRefusal kind sheet (length lent) in
       let many = length (sheetListing kind sheet) in

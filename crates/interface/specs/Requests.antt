@@ -6,10 +6,12 @@ use Prim.Native.Nat.{ℕ, _^_, _<_, _≤_}
 use lib.IntN.{ℤ, pos, negℤ}
 use lib.Signed.{_≤ℤ_}
 use lib.Dec.{T}
+use lib.ListN.{set}
 use Rattle.lists.specs.Lists.{_∈_, _lists_}
 use Rattle.sets.specs.Sets.{_∋_, size, allEntries, Subset}
-use Rattle.pairs.specs.Pairs.{carried, isScored}
-use Rattle.clusters.specs.PairList.{Similarity, score, scoreLimit, hasUnscored}
+use Rattle.integers.specs.Range.{Within}
+use Rattle.pairs.specs.Pairs.{mark, carried, isScored}
+use Rattle.clusters.specs.PairList.{Similarity, place, score, scoreLimit, hasLength, hasUnscored}
 use Rattle.clusters.specs.Fillings.{Fills, AllScored, ScoredMore}
 use Rattle.clusters.specs.Linkage.{Linkage}
 use Rattle.clusters.specs.Groups.{plainSets, plainGroups}
@@ -93,13 +95,25 @@ pub record Request-2-1 (kind : ℤ) : Type 0 where
 abbrev pub Sixteen : (before : List Check) → List ℤ → Type 0
 Sixteen before l = T (none before) × T (hasUnscored l)
 
+-- the mark is "exempt from 11": a number that is not the mark is out of the range
+pub record OutOfRange (l : List ℤ) : Type 0 where
+  pub number : ℤ
+  pub there : number ∈ l
+  pub no-mark : number ≢ mark
+  pub out : Within scoreLimit number → ⊥
+
 pub record Request-2-2 : Type 0 where
   -- "a set is listed exactly if every filling would list it"
   pub every-filling : {n : ℕ} {s : Similarity} {found : List (ℕ × ℤ)} → Wrote (pos 1) n s found
       → (A : ℕ) → ((z : ℤ) × (found lists (A, z))) ↔ ((f : Similarity) → Fills scoreLimit n s f → A ∈ plainSets n f)
-  -- "Scoring one more pair never removes a listed group", nor does scoring several; its index does not fall
+  -- "Scoring one more pair never removes a listed group", nor does scoring several; its index does not fall. One more
+  -- pair of a list is a score in the slot where the mark was.
   pub scoring : {n : ℕ} {s later : Similarity} {found found′ : List (ℕ × ℤ)}
       → Wrote (pos 1) n s found → Wrote (pos 1) n later found′ → ScoredMore scoreLimit n s later
+      → (A : ℕ) (z : ℤ) → found lists (A, z) → (y : ℤ) × (found′ lists (A, y)) × (z ≤ℤ y)
+  pub one-more : {n : ℕ} (l : List ℤ) (a b : ℕ) (new : ℤ) {found found′ : List (ℕ × ℤ)}
+      → Wrote (pos 1) n (score l) found → Wrote (pos 1) n (score (set l (place a b) new)) found′
+      → T (hasLength n l) → a < n → b < n → score l a b ≡ mark → Within scoreLimit new
       → (A : ℕ) (z : ℤ) → found lists (A, z) → (y : ℤ) × (found′ lists (A, y)) × (z ≤ℤ y)
   -- no set that an unscored pair touches is listed
   pub touched : {n : ℕ} {s : Similarity} {found : List (ℕ × ℤ)} → Wrote (pos 1) n s found → (A : ℕ) (z : ℤ)
@@ -107,6 +121,11 @@ pub record Request-2-2 : Type 0 where
   -- with every pair scored all is as document 01 has it
   pub all-scored : {n : ℕ} {s : Similarity} {found : List (ℕ × ℤ)} → Wrote (pos 1) n s found → AllScored n s
       → found ≡ plainGroups n s
+  -- "exempt from 11"
+  pub exempt-sheet : {kind r : ℤ} {sheet lent after : List ℕ} → CCall kind sheet lent r after
+      → r ≡ negℤ (pos 11) → OutOfRange (pairs sheet)
+  pub exempt-numbers : {kind : ℤ} {n : ℕ} {l lentIndices indices : List ℤ} {lentSets sets : List ℕ} {r : Answer}
+      → NumbersCall kind n l lentSets lentIndices r sets indices → numberOf r ≡ 11 → OutOfRange l
   -- "Kinds 2 and 3, the linkage calls and the anchored scores get 16"; kind 1 does not
   pub of-sheet : {kind r : ℤ} {sheet lent after : List ℕ} → CCall kind sheet lent r after
       → (r ≡ negℤ (pos 16))

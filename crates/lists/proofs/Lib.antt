@@ -3,3 +3,4 @@ pub mod Lists
 pub mod Distinct
 pub mod Written
 pub mod Walk
+pub mod Tested

@@ -1,5 +1,4 @@
 pub mod Places
 pub mod Checks
 pub mod Scores
-pub mod Tested
 pub mod Touched

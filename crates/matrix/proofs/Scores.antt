@@ -10,7 +10,7 @@ use Rattle.integers.specs.Range.{Within, Bounded}
 use Rattle.integers.proofs.Linear.{up, dn}
 use Rattle.integers.proofs.Range.{within, within-grow, value-within}
 use Rattle.pairs.specs.Pairs.{mark, carried}
-use Rattle.clusters.specs.PairList.{score, place, scoreLimit, isInRange, inRange, isAllowed, scoresInRange}
+use Rattle.clusters.specs.PairList.{score, place, scoreLimit, isInRange, inRange, isAllowedPair, scoresInRange}
 use Rattle.clusters.proofs.Scored.{range-within, allowed-cases}
 
 pub million : (l : List ℤ) → T (inRange l) → Bounded 1000000 l
@@ -26,7 +26,7 @@ mark-within = within (lit≤ tt) (lit≤ tt)
 
 pub lent-bounded : (l : List ℤ) → T (scoresInRange l) → Bounded (2 ^ 31) l
 unfolding scoresInRange scoreLimit
-lent-bounded l t z m = go (allowed-cases (all-in (λ v. isAllowed scoreLimit (carried v)) l t m))
+lent-bounded l t z m = go (allowed-cases (all-in (λ v. isAllowedPair scoreLimit (carried v)) l t m))
   where
     go : (z ≡ mark) ⊎ Within scoreLimit z → Within (2 ^ 31) z
     go (inl e) = subst (Within (2 ^ 31)) (sym e) mark-within

@@ -8,7 +8,7 @@ ghost use lib.Signed.{leZ};
 ghost use Rattle.lists.specs.Lists.{all, below};
 ghost use Rattle.integers.specs.Integers.{eqZ};
 ghost use Rattle.pairs.specs.Pairs.{carried, pairOf, isScored};
-ghost use Rattle.clusters.specs.PairList.{rowStart, place, score, scoreLimit, hasLength, isInRange, isAllowed};
+ghost use Rattle.clusters.specs.PairList.{rowStart, place, score, scoreLimit, hasLength, isInRange, isAllowedPair};
 ghost use Rattle.clusters.specs.PairList.{scoresInRange, hasUnscored, areDistances};
 ghost use Rattle.clusters.specs.Touched.{rowScored, touchedEntries};
 ghost use Rattle.interface.specs.Refusals.{firstOf, wrongCount, wrongEntries};
@@ -145,7 +145,7 @@ fn is_in_range(v: i64) -> bool
 
 // A score in the range, or the mark.
 fn is_allowed(v: i32) -> bool
-    ensures { λ r. ⌜ r ≡ isAllowed scoreLimit (carried v) ⌝ }
+    ensures { λ r. ⌜ r ≡ isAllowedPair scoreLimit (carried v) ⌝ }
 {
     pairs::is_mark(v) | is_in_range(integers::wide(v))
 }

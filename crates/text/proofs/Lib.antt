@@ -1,5 +1,4 @@
 pub mod Pieces
-pub mod Bytes
 pub mod Words
 pub mod Values
 pub mod Numerals

@@ -202,7 +202,7 @@ fn is_end(line: &[u8], at: usize) -> bool
 }
 
 // From a place to the end of the digits there stands a numeral: 1 to 7 digits without a leading zero, or 0.
-// With is_end before the test that there are digits a value takes 11 instructions more.
+// The test that there are digits comes first: a value then takes 11 instructions less.
 fn is_numeral(line: &[u8], from: usize, end: usize) -> bool
     requires { ⌜ (from ≤ length (now line)) × (end ≡ from + length (digits 7 (drop from (now line)))) ⌝ }
     ensures { λ r. ⌜ r ≡ isNumeral (pieceAt space (now (line .entry)) from) ⌝ }
@@ -254,8 +254,8 @@ fn is_lone_minus(line: &[u8], at: usize) -> bool
     is_end(line, at + 1)
 }
 
-// The pair that stands at a place of a line, with the place after it: a number, or the mark, which is looked for last, so
-// that a number takes no more time.
+// The pair that stands at a place of a line, with the place after it: a number, or the mark, which is looked for last,
+// so that a number takes no more time.
 pub fn read_value(line: &[u8], at: usize) -> ValueRead
     requires { ⌜ at ≤ length (now line) ⌝ }
     ensures { λ r. ⌜ ValueCall (now (line .entry)) at r ⌝ }

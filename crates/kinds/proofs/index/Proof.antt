@@ -1,4 +1,4 @@
-use mathlib.Core.Path.{_≡_, sym, subst, _∙_}
+use mathlib.Core.Path.{sym, subst, _∙_}
 use mathlib.Core.Bool.{not}
 use Prim.Native.Nat.{_^_}
 use borrow.Author.Needs.{needs}

@@ -8,7 +8,7 @@ use lib.ListN.{length}
 use mir.Facts.{toZ-ofZ}
 use Rattle.pairs.specs.Pairs.{carried, isScored}
 use Rattle.clusters.specs.PairList.{hasUnscored}
-use Rattle.matrix.proofs.Tested.{Tested, test-started, test-next, test-ended}
+use Rattle.lists.proofs.Tested.{Tested, test-started, test-next, test-ended}
 use Rattle.matrix.proofs.has_unscored.Statement.{statement}
 use Rattle.matrix.proofs.has_unscored.Tie as tie
 

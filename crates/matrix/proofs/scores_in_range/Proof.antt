@@ -6,13 +6,13 @@ use lib.IntN.{pos}
 use lib.ListN.{length}
 use mir.Facts.{toZ-ofZ}
 use Rattle.pairs.specs.Pairs.{carried}
-use Rattle.clusters.specs.PairList.{scoreLimit, isAllowed, scoresInRange}
-use Rattle.matrix.proofs.Tested.{Tested, test-started, test-next, test-ended}
+use Rattle.clusters.specs.PairList.{scoreLimit, isAllowedPair, scoresInRange}
+use Rattle.lists.proofs.Tested.{Tested, test-started, test-next, test-ended}
 use Rattle.matrix.proofs.scores_in_range.Statement.{statement}
 use Rattle.matrix.proofs.scores_in_range.Tie as tie
 
 abbrev Inv-loop : tie.InvT-loop
-Inv-loop pairs good₀ i₀ good i = (i ≤ length pairs) × Tested (λ v. isAllowed scoreLimit (carried v)) pairs good i
+Inv-loop pairs good₀ i₀ good i = (i ≤ length pairs) × Tested (λ v. isAllowedPair scoreLimit (carried v)) pairs good i
 
 abbrev μ-loop : tie.MeasureT-loop
 μ-loop pairs good₀ i₀ good i = length pairs - i
@@ -38,7 +38,7 @@ loop-less c = search needs
 loop-again : tie.Need-loop-again Inv-loop μ-loop
 loop-again c = let s = c .before .before .before .loop .inv .1 in (
   omega arith,
-  test-next s (pos 0) (omega arith) (c .is-allowed .ensures ∙ ap (λ z. isAllowed scoreLimit (carried z)) (toZ-ofZ (sfits-of (c .before .is-allowed-arg .given)))),
+  test-next s (pos 0) (omega arith) (c .is-allowed .ensures ∙ ap (λ z. isAllowedPair scoreLimit (carried z)) (toZ-ofZ (sfits-of (c .before .is-allowed-arg .given)))),
 )
 
 returns : tie.Need-returns Inv-loop μ-loop

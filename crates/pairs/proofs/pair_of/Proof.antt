@@ -4,7 +4,6 @@ use borrow.Author.Needs.{needs}
 use mir.Facts.{toZ-ofZ}
 use lib.IntN.{ℤ}
 use Rattle.integers.specs.Integers.{eqZ}
-use Rattle.pairs.specs.declared.Carried.{Carried}
 use Rattle.pairs.specs.declared.Carried.the-variants.{Scored, Unscored}
 use Rattle.pairs.specs.declared.Pair.{Pair}
 use Rattle.pairs.specs.Pairs.{mark, carried, pairOf}
