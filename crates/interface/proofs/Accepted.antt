@@ -24,8 +24,6 @@ use Rattle.interface.specs.Refusals.{
   numbersRefusal,
   linkageChecks,
   linkageRefusal,
-  sharedChecks,
-  sharedRefusal,
 }
 use Rattle.interface.proofs.Refusals.{passes, right-length}
 
@@ -64,16 +62,6 @@ pub numbers-passed : (kind : ℤ) (n : ℕ) (l : List ℤ) (sets indices : ℕ) 
 unfolding numbersRefusal numbersChecks all
 numbers-passed kind n l sets indices e =
     let checks = numbersChecks kind n l sets indices in
-    record {
-      long = right-length n l (T-false {b = not (hasLength n l)} (passes checks tt e 2 (lit< tt)));
-      range = not-not (scoresInRange l) (passes checks tt e 3 (lit< tt));
-      sixteen = passes checks tt e 4 (lit< tt);
-    }
-
-pub shared-passed : (kind : ℤ) (n : ℕ) (l : List ℤ) (i j : ℕ) → sharedRefusal kind n l i j ≡ 0 → Passed kind n l
-unfolding sharedRefusal sharedChecks all
-shared-passed kind n l i j e =
-    let checks = sharedChecks kind n l i j in
     record {
       long = right-length n l (T-false {b = not (hasLength n l)} (passes checks tt e 2 (lit< tt)));
       range = not-not (scoresInRange l) (passes checks tt e 3 (lit< tt));

@@ -1,7 +1,7 @@
 -- The demands, from the outcomes of the calls and the theorems about groups.
 use mathlib.Core.Path.{_≡_, refl, sym, ap, ap₂, _∙_, subst, subst₂}
 use mathlib.Core.Bool.{Bool, false, not}
-use mathlib.Core.Logic.{_⊎_, inl, inr, _↔_}
+use mathlib.Core.Logic.{_⊎_, inl, inr, _≢_, _↔_}
 use mathlib.Core.List.{List, _++_, map, map-map, map-id}
 use mathlib.Core.Option.{some, Option·some-injective}
 use Prim.Native.Nat.{ℕ, zero, suc, _-_, _^_, _<_, _≤_}
@@ -19,7 +19,7 @@ use Rattle.integers.specs.Integers.{eqZ}
 use Rattle.integers.proofs.Linear.{zarith, up, dn}
 use Rattle.sets.specs.Sets.{size}
 use Rattle.clusters.specs.PairList.{Similarity, Symmetric, rowStart, score, scoreLimit}
-use Rattle.clusters.specs.Fillings.{Fills}
+use Rattle.clusters.specs.Fillings.{Fills, AllScored}
 use Rattle.clusters.specs.Farris.{farris, unfarris, anchoredScores, distancesBack}
 use Rattle.sets.specs.Sets.{_∪_}
 use Rattle.clusters.specs.Linkage.{Linkage, singles, Tree, mergedBlocks, blocks}
@@ -71,7 +71,7 @@ use Rattle.interface.specs.Demands.{
 use Rattle.interface.proofs.Refusals.{first-iff, first-none, passes, few-count}
 use Rattle.interface.proofs.Lines.{Readable, listing-read}
 use Rattle.interface.proofs.Slots.{groups-slots}
-use Rattle.interface.proofs.Accepted.{Passed, passed-allowed, sheet-passed, numbers-passed, linkage-scored}
+use Rattle.interface.proofs.Accepted.{Passed, passed-allowed, passed-scored, sheet-passed, numbers-passed, linkage-scored}
 use Rattle.interface.proofs.Anchored.{length-anchored, way-back}
 
 -- what a number in C says of the answer: a length, if nothing is refused; minus the number of the refusal
@@ -270,18 +270,22 @@ wrote (in-lines {sheet} {ls = ls} l e) =
     (ap (map {B = ℕ × ℤ} (λ x. (x .set, x .index))) same ∙ lines-groups l, score-symm (pairs sheet))
 wrote (in-slots {l = l} c) = (slots-counted c .0, score-symm l)
 
--- what a call wrote is of scores that are all allowed
+-- what a call wrote is of a list that passes 11 and 16
+numbers-accepted : {kind : ℤ} {n count : ℕ} {l indices : List ℤ} {sets : List ℕ} → Counted kind n l count sets indices → Passed kind n l
+numbers-accepted {kind} {n} {l = l} (by-numbers-call {lentSets} {lentIndices = lentIndices} c z) = numbers-passed kind n l (length lentSets) (length lentIndices)
+    (not-refused (numbersRefusal kind n l (length lentSets) (length lentIndices)) (length (groupsFound kind n l)) (c .answered) z)
+numbers-accepted {kind} {n} {l = l} (by-numbers-in-C {lentSets} {lentIndices = lentIndices} c count e) =
+    let k = numbersRefusal kind n l (length lentSets) (length lentIndices) in
+    let (z, _) = not-refused-in-C c k (length (groupsFound kind n l)) (c .outcome .answered) e in
+    numbers-passed kind n l (length lentSets) (length lentIndices) (not-refused k (length (groupsFound kind n l)) (c .outcome .answered) z)
+
 pub wrote-allowed : {kind : ℤ} {n : ℕ} {s : Similarity} {found : List (ℕ × ℤ)} → Wrote kind n s found → AllAllowed scoreLimit n s
 wrote-allowed {kind} (in-lines {sheet} l e) = let a = accepted l in passed-allowed (sheet-passed kind sheet (a .buffer) (a .passed))
-wrote-allowed {kind} (in-slots {n} {l = l} c) = passed-allowed (go c)
-  where
-    go : {count : ℕ} {indices : List ℤ} {sets : List ℕ} → Counted kind n l count sets indices → Passed kind n l
-    go (by-numbers-call {lentSets} {lentIndices = lentIndices} c z) = numbers-passed kind n l (length lentSets) (length lentIndices)
-        (not-refused (numbersRefusal kind n l (length lentSets) (length lentIndices)) (length (groupsFound kind n l)) (c .answered) z)
-    go (by-numbers-in-C {lentSets} {lentIndices = lentIndices} c count e) =
-        let k = numbersRefusal kind n l (length lentSets) (length lentIndices) in
-        let (z, _) = not-refused-in-C c k (length (groupsFound kind n l)) (c .outcome .answered) e in
-        numbers-passed kind n l (length lentSets) (length lentIndices) (not-refused k (length (groupsFound kind n l)) (c .outcome .answered) z)
+wrote-allowed (in-slots c) = passed-allowed (numbers-accepted c)
+
+pub wrote-scored : {kind : ℤ} {n : ℕ} {s : Similarity} {found : List (ℕ × ℤ)} → kind ≢ pos 1 → Wrote kind n s found → AllScored n s
+wrote-scored {kind} d (in-lines {sheet} l e) = let a = accepted l in passed-scored (sheet-passed kind sheet (a .buffer) (a .passed)) d
+wrote-scored d (in-slots c) = passed-scored (numbers-accepted c) d
 
 -- what computes the index of a set gives its index
 index-is : (k : Kind) (n : ℕ) (s : Similarity) → Symmetric s → (A : ℕ) (z : ℤ) → IndexIs k n s A z ↔ (z ≡ index k n s A)

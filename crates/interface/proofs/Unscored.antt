@@ -59,7 +59,7 @@ use Rattle.interface.specs.Refusals.{
 }
 use Rattle.interface.specs.Demands.{Wrote}
 use Rattle.interface.specs.Requests.{Sixteen, OutOfRange, Request-2-2}
-use Rattle.interface.proofs.Demands.{c-refused, answered, wrote, wrote-allowed}
+use Rattle.interface.proofs.Demands.{c-refused, answered, wrote, wrote-allowed, wrote-scored}
 use Rattle.interface.proofs.Requests.{shared-given}
 
 -- a number that stands once in a table is given exactly if its condition holds and none before it does
@@ -213,6 +213,7 @@ request-2-2 = record {
       let (h, t, _) = in-groups strong n s A z .0 (subst (λ (g : List (ℕ × ℤ)). g lists (A, z)) (strong-wrote w) m) in
       touched-unlisted n s (wrote-allowed w) A (in-groupSets strong n s A .1 (h, t));
   all-scored = λ {n} {s} w scored. strong-wrote w ∙ scored-groups n s scored;
+  only-scored = λ d w. wrote-scored d w;
   exempt-sheet = λ {kind} {r} {sheet} {lent} c e.
       let k = sheetRefusal kind sheet (length lent) in
       let many = length (sheetListing kind sheet) in

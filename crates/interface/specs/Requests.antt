@@ -121,6 +121,9 @@ pub record Request-2-2 : Type 0 where
   -- with every pair scored all is as document 01 has it
   pub all-scored : {n : ℕ} {s : Similarity} {found : List (ℕ × ℤ)} → Wrote (pos 1) n s found → AllScored n s
       → found ≡ plainGroups n s
+  -- what a call wrote for another kind is of scores only
+  pub only-scored : {kind : ℤ} → kind ≢ pos 1 → {n : ℕ} {s : Similarity} {found : List (ℕ × ℤ)} → Wrote kind n s found
+      → AllScored n s
   -- "exempt from 11"
   pub exempt-sheet : {kind r : ℤ} {sheet lent after : List ℕ} → CCall kind sheet lent r after
       → r ≡ negℤ (pos 11) → OutOfRange (pairs sheet)

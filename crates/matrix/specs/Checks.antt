@@ -1,13 +1,22 @@
 -- The code's own vocabulary, which nobody need believe: the checks that calls on a pair list make first, and what they
 -- pass.
 use mathlib.Core.Path.{_≡_}
+use mathlib.Core.Bool.{Bool}
 use mathlib.Core.List.{List, [], _∷_}
 use Prim.Native.Nat.{ℕ, _≤_}
 use lib.Dec.{T}
 use lib.IntN.{ℤ}
 use lib.ListN.{length}
-use Rattle.clusters.specs.PairList.{rowStart, scoresInRange}
+use Rattle.pairs.specs.Pairs.{carried, isScored}
+use Rattle.clusters.specs.PairList.{rowStart, scoreLimit, isAllowedPair, scoresInRange}
 use Rattle.interface.specs.Refusals.{Check, check6, check10, check11, check16}
+use Rattle.matrix.specs.declared.Test.{Test}
+use Rattle.matrix.specs.declared.Test.the-variants.{Range, Score}
+
+-- what 11 and 16 ask of each number
+abbrev pub passes : Test → ℤ → Bool
+passes Range v = isAllowedPair scoreLimit (carried v)
+passes Score v = isScored (carried v)
 
 -- of the way back
 unfoldable pub lengthChecks : ℕ → List ℤ → List Check

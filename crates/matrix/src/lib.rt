@@ -12,7 +12,7 @@ ghost use Rattle.clusters.specs.PairList.{rowStart, place, score, scoreLimit, h
 ghost use Rattle.clusters.specs.PairList.{scoresInRange, hasUnscored, areDistances};
 ghost use Rattle.clusters.specs.Touched.{rowScored, touchedEntries};
 ghost use Rattle.interface.specs.Refusals.{firstOf, wrongCount, wrongEntries};
-ghost use Rattle.matrix.specs.Checks.{lengthChecks, pairChecks, scoredChecks};
+ghost use Rattle.matrix.specs.Checks.{passes, lengthChecks, pairChecks, scoredChecks};
 use pairs::Pair;
 
 // The row starts: row i of the lower triangle starts at i(i+1)/2.
@@ -150,36 +150,52 @@ fn is_allowed(v: i32) -> bool
     pairs::is_mark(v) | is_in_range(integers::wide(v))
 }
 
-// Check 11. Without an early exit the loop becomes vector code, as in has_unscored.
-pub fn scores_in_range(pairs: &[i32]) -> bool
-    ensures { λ r. ⌜ r ≡ scoresInRange (now (pairs .entry)) ⌝ }
-{
-    let mut good = true;
-    let mut i: usize = 0;
-    while i < pairs.len() {
-        good = good & is_allowed(pairs[i]);
-        i += 1;
-    }
-    good
-}
-
 fn is_scored(v: i32) -> bool
     ensures { λ r. ⌜ r ≡ isScored (carried v) ⌝ }
 {
     !pairs::is_mark(v)
 }
 
+// What 11 and 16 ask of each number of a pair list.
+enum Test {
+    Range,
+    Score,
+}
+
+fn passes(test: Test, v: i32) -> bool
+    ensures { λ r. ⌜ r ≡ passes test v ⌝ }
+{
+    match test {
+        Test::Range => is_allowed(v),
+        Test::Score => is_scored(v),
+    }
+}
+
+// Every number passes. Without an early exit the loop becomes vector code.
+fn all_pass(test: Test, pairs: &[i32]) -> bool
+    ensures { λ r. ⌜ r ≡ all (passes test) (now (pairs .entry)) ⌝ }
+{
+    let mut good = true;
+    let mut i: usize = 0;
+    while i < pairs.len() {
+        good = good & passes(test, pairs[i]);
+        i += 1;
+    }
+    good
+}
+
+// Check 11.
+pub fn scores_in_range(pairs: &[i32]) -> bool
+    ensures { λ r. ⌜ r ≡ scoresInRange (now (pairs .entry)) ⌝ }
+{
+    all_pass(Test::Range, pairs)
+}
+
 // Check 16.
 pub fn has_unscored(pairs: &[i32]) -> bool
     ensures { λ r. ⌜ r ≡ hasUnscored (now (pairs .entry)) ⌝ }
 {
-    let mut scored = true;
-    let mut i: usize = 0;
-    while i < pairs.len() {
-        scored = scored & is_scored(pairs[i]);
-        i += 1;
-    }
-    !scored
+    !all_pass(Test::Score, pairs)
 }
 
 // Checks 6 and 10: the first number whose condition holds, 0 if none does.
