@@ -1,21 +1,21 @@
 -- What checks 11 and 16 leave of a pair list.
 use mathlib.Core.Path.{_≡_, refl, sym, subst}
-use mathlib.Core.Bool.{Bool, true, false, not, cond, _||_, Bool·not-not}
-use mathlib.Core.Logic.{_⊎_, inl, inr}
-use mathlib.Core.List.{List}
+use mathlib.Core.Bool.{Bool, true, false, not, cond, _||_}
+use mathlib.Core.Logic.{_⊎_, inl, inr, _↔_}
+use mathlib.Core.List.{List, Memᴰ·cast}
 use Prim.Native.Nat.{ℕ, _<_}
 use lib.IntN.{ℤ, pos, negℤ}
 use lib.Signed.{leZ, leZ-yes}
-use lib.Dec.{T}
+use lib.Dec.{T, T-not, not-T}
 use lib.ListN.{length}
 use Rattle.lists.specs.Lists.{_∈_, all}
 use Rattle.lists.proofs.Tests.{and-T, T-and}
-use Rattle.lists.proofs.Lists.{all-in, in-all}
+use Rattle.lists.proofs.Lists.{all-in, in-all, some-fails}
 use Rattle.integers.specs.Integers.{eqZ}
 use Rattle.integers.specs.Range.{Within}
 use Rattle.pairs.specs.declared.Carried.the-variants.{Scored, Unscored}
 use Rattle.pairs.specs.Pairs.{mark, carried, isScored}
-use Rattle.pairs.proofs.Pairs.{Cases, carried-cases, scored-is}
+use Rattle.pairs.proofs.Pairs.{Cases, carried-cases, scored-is, is-scored}
 use Rattle.clusters.specs.PairList.{Similarity, rowStart, score, scoreLimit, isInRange, inRange, isAllowedPair, scoresInRange, hasUnscored}
 use Rattle.clusters.specs.Fillings.{AllScored}
 use Rattle.clusters.proofs.PairList.{score-element}
@@ -61,15 +61,34 @@ allowed-test limit z = go (eqZ z mark)
     go true = refl
     go false = refl
 
+mark-unscored : T (isScored (carried mark)) → ⊥
+unfolding carried eqZ mark isScored
+mark-unscored t = t
+
 -- a pair list of n entries that passes 11, and one that has no unscored pair
 module _ (n : ℕ) (l : List ℤ) (long : length l ≡ rowStart n) where
   pub list-allowed : T (scoresInRange l) → AllAllowed scoreLimit n (score l)
   unfolding scoresInRange
   list-allowed t a b ha hb = all-in (λ v. isAllowedPair scoreLimit (carried v)) l t (score-element n l long ha hb)
 
-all-scored : (l : List ℤ) → T (not (hasUnscored l)) → (z : ℤ) → z ∈ l → T (isScored (carried z))
+-- a list has an unscored pair exactly if the mark stands in it
+pub unscored-there : (l : List ℤ) → T (hasUnscored l) ↔ (mark ∈ l)
 unfolding hasUnscored
-all-scored l t z m = all-in (λ v. isScored (carried v)) l (subst (λ b. T b) (Bool·not-not (all (λ v. isScored (carried v)) l)) t) m
+unscored-there l = (
+  λ t. let (v, m, f) = some-fails (λ v. isScored (carried v)) l t in at v m f (carried-cases v),
+  λ m. not-T (all (λ v. isScored (carried v)) l) (λ t. mark-unscored (all-in (λ v. isScored (carried v)) l t m)),
+)
+  where
+    at : (v : ℤ) → v ∈ l → T (not (isScored (carried v))) → Cases v → mark ∈ l
+    at v m f (inl e) = absurd (T-not (isScored (carried v)) f (is-scored e))
+    at v m f (inr (e, _)) = Memᴰ·cast (sym e) m
+
+all-scored : (l : List ℤ) → T (not (hasUnscored l)) → (z : ℤ) → z ∈ l → T (isScored (carried z))
+all-scored l t z m = at (carried-cases z)
+  where
+    at : Cases z → T (isScored (carried z))
+    at (inl e) = is-scored e
+    at (inr (e, _)) = absurd (T-not (hasUnscored l) t (unscored-there l .1 (Memᴰ·cast (sym e) m)))
 
 pub list-scored : (n : ℕ) (l : List ℤ) → length l ≡ rowStart n → T (not (hasUnscored l)) → AllScored n (score l)
 list-scored n l long t a b ha hb = all-scored l t (score l a b) (score-element n l long ha hb)

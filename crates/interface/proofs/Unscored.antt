@@ -20,7 +20,7 @@ use Rattle.clusters.specs.PairList.{Similarity, rowStart, scoreLimit, hasLength
 use Rattle.clusters.specs.Fillings.{ScoredMore}
 use Rattle.clusters.specs.Groups.{strong, kindOf, index, groups}
 use Rattle.clusters.proofs.Groups.{in-groups, in-groupSets}
-use Rattle.clusters.proofs.Scored.{within-allowed}
+use Rattle.clusters.proofs.Scored.{within-allowed, unscored-there}
 use Rattle.clusters.proofs.Unscored.{group-every-filling, scoring-keeps, scoring-one, scored-groups, touched-unlisted}
 use Rattle.answers.specs.declared.Answer.{Answer}
 use Rattle.answers.specs.Answers.{numberOf, answer}
@@ -96,9 +96,14 @@ unfolding wrongUnscored eqZ
 of-kind kind l before = (
   λ (x, t).
       let (f, u) = and-T (not (eqZ kind (pos 1))) (hasUnscored l) t in
-      (λ e. T-not (eqZ kind (pos 1)) f (subst (λ k. T (eqZ k (pos 1))) (sym e) tt), (x, u)),
-  λ (d, (x, u)). (x, T-and (not (eqZ kind (pos 1))) (hasUnscored l) (not-T (eqZ kind (pos 1)) (λ t. d (eqZ-yes kind (pos 1) t))) u),
+      (λ e. T-not (eqZ kind (pos 1)) f (subst (λ k. T (eqZ k (pos 1))) (sym e) tt), (x, unscored-there l .0 u)),
+  λ (d, (x, m)).
+      (x, T-and (not (eqZ kind (pos 1))) (hasUnscored l) (not-T (eqZ kind (pos 1)) (λ t. d (eqZ-yes kind (pos 1) t))) (unscored-there l .1 m)),
 )
+
+-- and for a call without one
+of-list : (l : List ℤ) (before : List Check) → (T (none before) × T (hasUnscored l)) ↔ Sixteen before l
+of-list l before = (λ (x, t). (x, unscored-there l .0 t), λ (x, m). (x, unscored-there l .1 m))
 
 -- each table, parted at 16
 module _ (kind : ℤ) (n : ℕ) (l : List ℤ) where
@@ -132,13 +137,19 @@ sheet-sixteen kind s buffer =
 linkage-sixteen : (n : ℕ) (l : List ℤ) (slots : ℕ) → (linkageRefusal n l slots ≡ 16) ↔ Sixteen (check6 n ∷ check10 n l ∷ check11 l ∷ []) l
 unfolding linkageRefusal linkageChecks all
 linkage-sixteen n l slots =
-    first-at 16 (lit< tt) (check6 n ∷ check10 n l ∷ check11 l ∷ []) (hasUnscored l) (check15 (shortSlice slots (n - 1)) ∷ []) tt tt
+    let before = check6 n ∷ check10 n l ∷ check11 l ∷ [] in
+    let f = first-at 16 (lit< tt) before (hasUnscored l) (check15 (shortSlice slots (n - 1)) ∷ []) tt tt in
+    let g = of-list l before in
+    (λ e. g .0 (f .0 e), λ x. f .1 (g .1 x))
 
 anchored-sixteen : (n x : ℕ) (l : List ℤ) (slots : ℕ) → (anchoredRefusal n x l slots ≡ 16) ↔ Sixteen (check6 n ∷ check10 n l ∷ check11 l ∷ []) l
 unfolding anchoredRefusal anchoredChecks all
 anchored-sixteen n x l slots =
-    first-at 16 (lit< tt) (check6 n ∷ check10 n l ∷ check11 l ∷ []) (hasUnscored l)
-    (check12 (pos 3) n l ∷ check15 (wrongAnchor n x || shortSlice slots (rowStart n)) ∷ []) tt tt
+    let before = check6 n ∷ check10 n l ∷ check11 l ∷ [] in
+    let after = check12 (pos 3) n l ∷ check15 (wrongAnchor n x || shortSlice slots (rowStart n)) ∷ [] in
+    let f = first-at 16 (lit< tt) before (hasUnscored l) after tt tt in
+    let g = of-list l before in
+    (λ e. g .0 (f .0 e), λ x. f .1 (g .1 x))
 
 -- 11, with the mark exempt
 marked : {z : ℤ} → z ≡ mark → carried z ≡ Unscored

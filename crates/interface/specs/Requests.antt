@@ -11,7 +11,7 @@ use Rattle.lists.specs.Lists.{_∈_, _lists_}
 use Rattle.sets.specs.Sets.{_∋_, size, allEntries, Subset}
 use Rattle.integers.specs.Range.{Within}
 use Rattle.pairs.specs.Pairs.{mark, carried, isScored}
-use Rattle.clusters.specs.PairList.{Similarity, place, score, scoreLimit, hasLength, hasUnscored}
+use Rattle.clusters.specs.PairList.{Similarity, place, score, scoreLimit, hasLength}
 use Rattle.clusters.specs.Fillings.{Fills, AllScored, ScoredMore}
 use Rattle.clusters.specs.Linkage.{Linkage}
 use Rattle.clusters.specs.Groups.{plainSets, plainGroups}
@@ -91,9 +91,9 @@ pub record Request-2-1 (kind : ℤ) : Type 0 where
       → Reordered n p (score l) (score l′) → (set′ ≡ image n p set) × ((line ≡ 0) ↔ (line′ ≡ 0))
 
 -- 2.2, pairs that were never compared. "get 16 for a sheet with an unscored pair, placed right after 11": what passes
--- the checks up to 11 gets 16 exactly if a pair is unscored
+-- the checks up to 11 gets 16 exactly if the mark stands in the list
 abbrev pub Sixteen : (before : List Check) → List ℤ → Type 0
-Sixteen before l = T (none before) × T (hasUnscored l)
+Sixteen before l = T (none before) × (mark ∈ l)
 
 -- the mark is "exempt from 11": a number that is not the mark is out of the range
 pub record OutOfRange (l : List ℤ) : Type 0 where
