@@ -15,53 +15,12 @@ ghost use Rattle.interface.specs.Refusals.{firstOf, wrongCount, wrongEntries};
 ghost use Rattle.matrix.specs.Checks.{passes, lengthChecks, pairChecks, scoredChecks};
 use pairs::Pair;
 
-// The row starts: row i of the lower triangle starts at i(i+1)/2.
-const ROW_STARTS: [u16; 32] = [
-    0,
-    1,
-    3,
-    6,
-    10,
-    15,
-    21,
-    28,
-    36,
-    45,
-    55,
-    66,
-    78,
-    91,
-    105,
-    120,
-    136,
-    153,
-    171,
-    190,
-    210,
-    231,
-    253,
-    276,
-    300,
-    325,
-    351,
-    378,
-    406,
-    435,
-    465,
-    496,
-];
-
-fn widened(x: u16) -> usize
-    ensures { λ r. ⌜ r ≡ x ⌝ }
-{
-    x as usize
-}
-
+// Where row i of the lower triangle starts.
 pub fn row_start(i: usize) -> usize
     requires { ⌜ i < 32 ⌝ }
     ensures { λ r. ⌜ r ≡ rowStart i ⌝ }
 {
-    widened(ROW_STARTS[i])
+    i * (i + 1) / 2
 }
 
 // How many pairs n entries have: the row that would come next starts there.
