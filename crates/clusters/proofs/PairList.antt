@@ -64,6 +64,11 @@ pub score-symm : (l : List ℤ) → Symmetric (score l)
 unfolding score
 score-symm l a b = ap (λ (i : ℕ). getD l i (pos 0)) (place-comm a b)
 
+-- where it stands in its row
+pub score-row : (l : List ℤ) (a b : ℕ) → b ≤ a → score l a b ≡ getD l (rowStart a + b) (pos 0)
+unfolding score
+score-row l a b h = ap (λ (i : ℕ). getD l i (pos 0)) (place-row a b h)
+
 -- what is in the pair list of s
 pub in-pairList : (n : ℕ) (s : Similarity) {a b : ℕ} → a < n → b ≤ a → s a b ∈ pairList n s
 unfolding pairList
@@ -91,7 +96,7 @@ length-pairList zero s = refl
 length-pairList (suc n) s = ap length (pairList-suc n s) ∙ length-append (pairList n s) (map (s n) (below (suc n)))
     ∙ omega (arith, length-pairList n s, length-map (below (suc n)) (s n), count-below (suc n), rowStart-suc n)
 
-pairList-at : (n : ℕ) (s : Similarity) (a b : ℕ) → a < n → b ≤ a → getD (pairList n s) (rowStart a + b) (pos 0) ≡ s a b
+pub pairList-at : (n : ℕ) (s : Similarity) (a b : ℕ) → a < n → b ≤ a → getD (pairList n s) (rowStart a + b) (pos 0) ≡ s a b
 pairList-at zero s a b h k = absurd (omega arith)
 pairList-at (suc n) s a b h k = ap (λ l. getD l (rowStart a + b) (pos 0)) (pairList-suc n s) ∙ go (ℕ-discrete a n) (pairList-at n s a b)
   where
@@ -107,11 +112,10 @@ pairList-at (suc n) s a b h k = ap (λ l. getD l (rowStart a + b) (pos 0)) (pair
         (omega (arith, length-pairList n s, row-lt n a b (omega arith) k)) ∙ ih (omega arith) k
 
 pub score-pairList : (n : ℕ) (s : Similarity) → Symmetric s → (a b : ℕ) → a < n → b < n → score (pairList n s) a b ≡ s a b
-unfolding score
 score-pairList n s symm a b h k = go (decLe b a)
   where
     lower : (a b : ℕ) → a < n → b ≤ a → score (pairList n s) a b ≡ s a b
-    lower a b h l = ap (λ (i : ℕ). getD (pairList n s) i (pos 0)) (place-row a b l) ∙ pairList-at n s a b h l
+    lower a b h l = score-row (pairList n s) a b l ∙ pairList-at n s a b h l
 
     go : Dec (b ≤ a) → score (pairList n s) a b ≡ s a b
     go (yes l) = lower a b h l

@@ -1,9 +1,8 @@
 -- The table while a row and a column of it are written.
-use mathlib.Core.Path.{_≡_, refl, sym, ap, ap₂, _∙_, subst}
+use mathlib.Core.Path.{_≡_, refl, sym, ap, _∙_, subst}
 use mathlib.Core.Logic.{_≢_}
 use mathlib.Core.List.{List}
 use Prim.Native.Nat.{ℕ, _+_, _*_, _^_, _≤_, _<_}
-use native.Mathlib.Nat.{max-eq-left, min-eq-right}
 use native.Mathlib.Decide.{ℕ-discrete}
 use native.Mathlib.Omega.{arith}
 use lib.Dec.{lit≤}
@@ -12,7 +11,6 @@ use lib.ListN.{length, getD, set, length-set}
 use lib.Seq.{getD-set-same, getD-set-other}
 use Rattle.integers.specs.Range.{Within}
 use Rattle.integers.proofs.Range.{within-grow}
-use Rattle.clusters.specs.PairList.{rowStart, place, score}
 use Rattle.links.specs.Table.{entry, stored, Holds, OwnKept, Small, Written}
 
 module _ (a b : ℕ) (z : ℤ) (t : List ℤ) where
@@ -92,8 +90,3 @@ small-any {t} s a b ha hb = go (ℕ-discrete a b)
     go : Dec (a ≡ b) → Within (2 ^ 47) (entry t a b)
     go (yes e) = subst (λ (x : ℕ). Within (2 ^ 47) (entry t a x)) e (s .own a ha)
     go (no d) = within-grow (lit≤ tt) (s .within a b ha hb d)
-
--- a pair stands in its row of the pair list
-pub score-row : (l : List ℤ) {a start : ℕ} (b : ℕ) → start ≡ rowStart a → b ≤ a → getD l (start + b) (pos 0) ≡ score l a b
-unfolding score place
-score-row l b e h = ap (λ (x : ℕ). getD l x (pos 0)) (sym (ap₂ _+_ (ap rowStart (max-eq-left h) ∙ sym e) (min-eq-right h)))

@@ -51,10 +51,8 @@ pub fn fill(pairs: &[i32], n: usize, t: &mut [i64; 1024])
     requires { ⌜ (n ≤ 32) × (length (now pairs) ≡ rowStart n) × (length (now t) ≡ 1024) ⌝ }
     ensures { λ _. ⌜ Holds n (score (now (pairs .entry))) (now (t .exit)) × OwnKept (now (t .entry)) (now (t .exit)) ⌝ }
 {
-    let mut start = 0;
     for a in 0..n {
-        fill_row(pairs, a, start, t);
-        start += a + 1;
+        fill_row(pairs, a, matrix::row_start(a), t);
     }
 }
 

@@ -1,13 +1,16 @@
-use mathlib.Core.Path.{_≡_, _∙_}
-use Prim.Native.Nat.{_≤_, _-_}
+use mathlib.Core.Path.{_≡_, sym, ap, _∙_}
+use Prim.Native.Nat.{ℕ, _+_, _-_, _≤_}
 use native.Mathlib.Omega.{arith}
 use borrow.Author.Needs.{needs, sfits-of}
+use lib.IntN.{pos}
+use lib.ListN.{getD}
 use mir.Facts.{toZ-ofZ}
 use mir.Syntax.{w64}
 use Rattle.integers.proofs.Held.{passed}
 use Rattle.clusters.specs.PairList.{score}
+use Rattle.clusters.proofs.PairList.{score-row}
 use Rattle.links.specs.Table.{Written}
-use Rattle.links.proofs.Rows.{written-start, written-next, written-all, score-row}
+use Rattle.links.proofs.Rows.{written-start, written-next, written-all}
 use Rattle.links.proofs.fill_row.Statement.{statement}
 use Rattle.links.proofs.fill_row.Tie as tie
 
@@ -46,7 +49,9 @@ loop-again c = let s = c .before .before .before .before .before in
     let a = s .before .args in
     let w = c .before .wide in
     let e : w .result ≡ score (a .pairs .now) (a .a) (s .loop .b) = w .ensures
-    ∙ toZ-ofZ (sfits-of (c .before .before .wide-arg .given)) ∙ score-row (a .pairs .now) (s .loop .b) (s .before .pre .1) (omega arith) in
+    ∙ toZ-ofZ (sfits-of (c .before .before .wide-arg .given))
+    ∙ ap (λ (i : ℕ). getD (a .pairs .now) (i + s .loop .b) (pos 0)) (s .before .pre .1)
+    ∙ sym (score-row (a .pairs .now) (a .a) (s .loop .b) (omega arith)) in
     (omega arith, rw (c .put .ensures) (written-next (s .loop .inv .1) (passed w64 (w .ok) e) (omega arith) (omega arith)))
 
 returns : tie.Need-returns Inv-loop μ-loop
