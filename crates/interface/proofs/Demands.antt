@@ -92,7 +92,7 @@ c-listed k c z = rw z
 
 -- the slots of a call that is not refused
 module _ {A : Type 0} {k : ℕ} (z : k ≡ 0) (result lent : List A) {after : List A} (w : after ≡ slots k result lent) where
-  after-is : after ≡ result ++ drop (length result) lent
+  pub after-is : after ≡ result ++ drop (length result) lent
   after-is = w ∙ ap (λ (j : ℕ). slots j result lent) z ∙ slots-written result lent
 
   taken : {count : ℕ} → length result ≡ count → take count after ≡ result
@@ -103,10 +103,10 @@ module _ {A : Type 0} {k : ℕ} (z : k ≡ 0) (result lent : List A) {after : Li
 
 -- an answer that is no refusal
 module _ {r : Answer} (k c : ℕ) (e : r ≡ answer k c) (none : numberOf r ≡ 0) where
-  not-refused : k ≡ 0
+  pub not-refused : k ≡ 0
   not-refused = sym (ap numberOf e ∙ number-answer k c) ∙ none
 
-  counted : countOf r ≡ c
+  pub counted : countOf r ≡ c
   counted = ap countOf (e ∙ ap (λ (j : ℕ). answer j c) not-refused) ∙ count-answer c
 
 -- the number in C of an answer whose checks give k
@@ -114,7 +114,7 @@ module _ {Outcome : Answer → Type 0} {r : ℤ} (c : InC Outcome r) (k m : ℕ)
   pub answered : r ≡ cNumber (answer k m)
   answered = c .number ∙ ap cNumber e
 
-  not-refused-in-C : {count : ℕ} → r ≡ pos count → (numberOf (c .given) ≡ 0) × (countOf (c .given) ≡ count)
+  pub not-refused-in-C : {count : ℕ} → r ≡ pos count → (numberOf (c .given) ≡ 0) × (countOf (c .given) ≡ count)
   unfolding numberOf countOf answer
   not-refused-in-C {count} q =
       let (z, is) = c-count k m count (sym answered ∙ q) in

@@ -12,4 +12,5 @@ pub mod Calls
 pub mod Unique
 pub mod Requests
 pub mod Unscored
+pub mod RowStarts
 pub mod SharedExample

@@ -2,11 +2,11 @@
 use mathlib.Core.Path.{_≡_}
 use mathlib.Core.Logic.{_⊎_, _≢_, _↔_}
 use mathlib.Core.List.{List, [], _∷_, _++_, map}
-use Prim.Native.Nat.{ℕ, _^_, _<_, _≤_}
+use Prim.Native.Nat.{ℕ, _+_, _*_, _/_, _^_, _<_, _≤_}
 use lib.IntN.{ℤ, pos, negℤ}
 use lib.Signed.{_≤ℤ_}
 use lib.Dec.{T}
-use lib.ListN.{set}
+use lib.ListN.{getD, set}
 use Rattle.lists.specs.Lists.{_∈_, _lists_}
 use Rattle.sets.specs.Sets.{_∋_, size, allEntries, Subset}
 use Rattle.integers.specs.Range.{Within}
@@ -18,13 +18,14 @@ use Rattle.clusters.specs.Groups.{plainSets, plainGroups}
 use Rattle.clusters.specs.Reordering.{Permutation, Reordered, image}
 use Rattle.clusters.specs.Nesting.{smallestOfAll, OnLine}
 use Rattle.answers.specs.declared.Answer.{Answer}
-use Rattle.answers.specs.Answers.{numberOf}
+use Rattle.answers.specs.Answers.{numberOf, countOf}
 use Rattle.answers.specs.declared.Shared.{Shared}
 use Rattle.answers.specs.Shared.{sharedNumber, sharedSet, sharedLine}
-use Rattle.interface.specs.Sheet.{pairs}
+use Rattle.interface.specs.Sheet.{value, pairs}
 use Rattle.interface.specs.Refusals.{Check, none, Given, check1, check6, check10, check11, check1Groups}
 use Rattle.interface.specs.Refusals.{readerChecks, sharedChecks}
-use Rattle.interface.specs.Calls.{CCall, NumbersCall, LinkageCall, AnchoredCall, SharedCall, SharedInC}
+use Rattle.interface.specs.Calls.{InC, CCall, NumbersCall, LinkageCall, AnchoredCall}
+use Rattle.interface.specs.Calls.{ReaderCall, ScoreInC, SharedCall, SharedInC}
 use Rattle.interface.specs.Demands.{Wrote}
 
 -- 2.1, the smallest group two entries share: the refusal's number, 0 for none, the set and the line that the call
@@ -144,3 +145,18 @@ pub record Request-2-2 : Type 0 where
       → (numberOf r ≡ 16) ↔ Sixteen (check6 n ∷ check10 n l ∷ check11 l ∷ []) l
   pub of-anchored : {n x : ℕ} {l lent after : List ℤ} {r : Answer} → AnchoredCall n x l lent r after
       → (numberOf r ≡ 16) ↔ Sixteen (check6 n ∷ check10 n l ∷ check11 l ∷ []) l
+
+-- 2.3, row starts by formula. "i(i+1)/2 for row i, counted from 0": there stands the first value of row i, the others
+-- follow it.
+pub record Request-2-3 : Type 0 where
+  -- in the pair list that the reader writes, here or in C
+  pub written : {sheet : List ℕ} {lent after : List ℤ} {r : Answer} → ReaderCall sheet lent r after → numberOf r ≡ 0
+      → (i j : ℕ) → i < countOf r → j ≤ i → getD after (i * (i + 1) / 2 + j) (pos 0) ≡ value sheet i j
+  pub written-in-C : {sheet : List ℕ} {lent after : List ℤ} {r : ℤ} → InC (λ a. ReaderCall sheet lent a after) r
+      → (n : ℕ) → r ≡ pos n
+      → (i j : ℕ) → i < n → j ≤ i → getD after (i * (i + 1) / 2 + j) (pos 0) ≡ value sheet i j
+  -- in a pair list that is lent, for a score looked up in C, whichever entry is named first
+  pub looked-up : {n i j : ℕ} {l : List ℤ} {lent r after : ℤ} → ScoreInC n l i j lent r after → r ≡ pos 0
+      → j ≤ i → after ≡ getD l (i * (i + 1) / 2 + j) (pos 0)
+  pub looked-up-swapped : {n i j : ℕ} {l : List ℤ} {lent r after : ℤ} → ScoreInC n l j i lent r after → r ≡ pos 0
+      → j ≤ i → after ≡ getD l (i * (i + 1) / 2 + j) (pos 0)
