@@ -9,26 +9,46 @@ use lib.IntN.{ℤ, pos}
 use lib.ListN.{drop, length, getD, List·getD-append}
 use Rattle.pairs.specs.Pairs.{listNumber, pairOf}
 use Rattle.pairs.proofs.Pairs.{number-pair}
-use Rattle.clusters.specs.PairList.{rowStart, score}
+use Rattle.clusters.specs.PairList.{Similarity, rowStart, score, pairList}
+use Rattle.clusters.specs.Farris.{farris, unfarris, anchoredScores, distancesBack}
 use Rattle.clusters.proofs.PairList.{length-pairList, row-lt, pairList-at, score-symm, score-row}
 use Rattle.answers.specs.declared.Answer.{Answer}
-use Rattle.answers.specs.Answers.{numberOf, countOf}
+use Rattle.answers.specs.Answers.{numberOf, answer, slots}
 use Rattle.interface.specs.Sheet.{entries, value, pairs}
 use Rattle.interface.specs.Refusals.{scoreRefusal}
-use Rattle.interface.specs.Calls.{ReaderCall, ScoreInC}
-use Rattle.interface.specs.Requests.{Request-2-3}
+use Rattle.interface.specs.Calls.{ScoreInC}
+use Rattle.interface.specs.Requests.{WrotePairs, by-reader, by-reader-in-C, by-anchored-call, by-anchored-in-C, by-back-call, by-back-in-C, Request-2-3}
 use Rattle.interface.proofs.Demands.{after-is, not-refused, counted, not-refused-in-C}
 
-at-row : {sheet : List ℕ} {lent after : List ℤ} {r : Answer} → ReaderCall sheet lent r after → numberOf r ≡ 0
-    → (i j : ℕ) → i < countOf r → j ≤ i → getD after (rowStart i + j) (pos 0) ≡ value sheet i j
-unfolding pairs
-at-row {sheet} {lent} c none i j h k =
-    let n = entries sheet in
-    let i-in : i < n = omega (arith, counted _ _ (c .answered) none) in
-    ap (λ l. getD l (rowStart i + j) (pos 0)) (after-is (not-refused _ _ (c .answered) none) (pairs sheet) lent (c .written))
-    ∙ List·getD-append (pairs sheet) (drop (length (pairs sheet)) lent) (pos 0) (rowStart i + j)
-    (omega (arith, length-pairList n (value sheet), row-lt n i j i-in k))
-    ∙ pairList-at n (value sheet) i j i-in k
+-- a call that writes the pair list of s and is not refused
+at-row : (n : ℕ) (s : Similarity) (lent : List ℤ) (k c : ℕ) {r : Answer} {after : List ℤ} → r ≡ answer k c → numberOf r ≡ 0
+    → after ≡ slots k (pairList n s) lent → (i j : ℕ) → i < n → j ≤ i → getD after (rowStart i + j) (pos 0) ≡ s i j
+at-row n s lent k c e none w i j h below =
+    ap (λ l. getD l (rowStart i + j) (pos 0)) (after-is (not-refused k c e none) (pairList n s) lent w)
+    ∙ List·getD-append (pairList n s) (drop (length (pairList n s)) lent) (pos 0) (rowStart i + j)
+    (omega (arith, length-pairList n s, row-lt n i j h below))
+    ∙ pairList-at n s i j h below
+
+written-at : {n : ℕ} {s : Similarity} {after : List ℤ} → WrotePairs n s after
+    → (i j : ℕ) → i < n → j ≤ i → getD after (rowStart i + j) (pos 0) ≡ s i j
+unfolding pairs anchoredScores distancesBack
+written-at (by-reader {sheet} {lent} c none) i j h =
+    let e = c .answered in
+    at-row (entries sheet) (value sheet) lent _ _ e none (c .written) i j (omega (arith, counted _ _ e none))
+written-at (by-reader-in-C {sheet} {lent} c n q) i j h =
+    let e = c .outcome .answered in
+    let (none, is) = not-refused-in-C c _ _ e q in
+    at-row (entries sheet) (value sheet) lent _ _ e none (c .outcome .written) i j (omega (arith, is, counted _ _ e none))
+written-at (by-anchored-call {n} {x} {l} {lent} c none) i j h =
+    at-row n (farris (score l) x) lent _ _ (c .answered) none (c .written) i j h
+written-at (by-anchored-in-C {n} {x} {l} {lent} c count q) i j h =
+    let e = c .outcome .answered in
+    at-row n (farris (score l) x) lent _ _ e (not-refused-in-C c _ _ e q .0) (c .outcome .written) i j h
+written-at (by-back-call {n} {l = l} {lent = lent} c none) i j h =
+    at-row n (unfarris (score l)) lent _ _ (c .answered) none (c .written) i j h
+written-at (by-back-in-C {n} {l = l} {lent = lent} c count q) i j h =
+    let e = c .outcome .answered in
+    at-row n (unfarris (score l)) lent _ _ e (not-refused-in-C c _ _ e q .0) (c .outcome .written) i j h
 
 looked : {n a b : ℕ} {l : List ℤ} {lent r after : ℤ} → ScoreInC n l a b lent r after → r ≡ pos 0 → after ≡ score l a b
 looked {n} {a} {b} {l} {lent} c q =
@@ -38,10 +58,7 @@ looked {n} {a} {b} {l} {lent} c q =
 pub request-2-3 : Request-2-3
 unfolding rowStart
 request-2-3 = record {
-  written = λ c none. at-row c none;
-  written-in-C = λ c n q i j h.
-      let (z, is) = not-refused-in-C c _ _ (c .outcome .answered) q in
-      at-row (c .outcome) z i j (omega (arith, is));
+  written = λ w i j h. written-at w i j h;
   looked-up = λ {n} {i} {j} {l} c q h. looked c q ∙ score-row l i j h;
   looked-up-swapped = λ {n} {i} {j} {l} c q h. looked c q ∙ score-symm l j i ∙ score-row l i j h;
 }

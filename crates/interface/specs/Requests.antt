@@ -13,6 +13,7 @@ use Rattle.integers.specs.Range.{Within}
 use Rattle.pairs.specs.Pairs.{mark, carried, isScored}
 use Rattle.clusters.specs.PairList.{Similarity, place, score, scoreLimit, hasLength}
 use Rattle.clusters.specs.Fillings.{Fills, AllScored, ScoredMore}
+use Rattle.clusters.specs.Farris.{farris, unfarris}
 use Rattle.clusters.specs.Linkage.{Linkage}
 use Rattle.clusters.specs.Groups.{plainSets, plainGroups}
 use Rattle.clusters.specs.Reordering.{Permutation, Reordered, image}
@@ -25,7 +26,7 @@ use Rattle.interface.specs.Sheet.{value, pairs}
 use Rattle.interface.specs.Refusals.{Check, none, Given, check1, check6, check10, check11, check1Groups}
 use Rattle.interface.specs.Refusals.{readerChecks, sharedChecks}
 use Rattle.interface.specs.Calls.{InC, CCall, NumbersCall, LinkageCall, AnchoredCall}
-use Rattle.interface.specs.Calls.{ReaderCall, ScoreInC, SharedCall, SharedInC}
+use Rattle.interface.specs.Calls.{BackCall, ReaderCall, ScoreInC, SharedCall, SharedInC}
 use Rattle.interface.specs.Demands.{Wrote}
 
 -- 2.1, the smallest group two entries share: the refusal's number, 0 for none, the set and the line that the call
@@ -146,15 +147,25 @@ pub record Request-2-2 : Type 0 where
   pub of-anchored : {n x : ℕ} {l lent after : List ℤ} {r : Answer} → AnchoredCall n x l lent r after
       → (numberOf r ≡ 16) ↔ Sixteen (check6 n ∷ check10 n l ∷ check11 l ∷ []) l
 
--- 2.3, row starts by formula. "i(i+1)/2 for row i, counted from 0": there stands the first value of row i, the others
--- follow it.
+-- 2.3, row starts by formula: a pair list of n entries that a call wrote, here or in C, and what it holds
+pub data WrotePairs : (n : ℕ) → Similarity → (after : List ℤ) → Type 0 where
+  by-reader : {sheet : List ℕ} {lent after : List ℤ} {r : Answer} → ReaderCall sheet lent r after
+      → numberOf r ≡ 0 → WrotePairs (countOf r) (value sheet) after
+  by-reader-in-C : {sheet : List ℕ} {lent after : List ℤ} {r : ℤ} → InC (λ a. ReaderCall sheet lent a after) r
+      → (n : ℕ) → r ≡ pos n → WrotePairs n (value sheet) after
+  by-anchored-call : {n x : ℕ} {l lent after : List ℤ} {r : Answer} → AnchoredCall n x l lent r after
+      → numberOf r ≡ 0 → WrotePairs n (farris (score l) x) after
+  by-anchored-in-C : {n x : ℕ} {l lent after : List ℤ} {r : ℤ} → InC (λ a. AnchoredCall n x l lent a after) r
+      → (count : ℕ) → r ≡ pos count → WrotePairs n (farris (score l) x) after
+  by-back-call : {n x : ℕ} {l lent after : List ℤ} {r : Answer} → BackCall n x l lent r after
+      → numberOf r ≡ 0 → WrotePairs n (unfarris (score l)) after
+  by-back-in-C : {n x : ℕ} {l lent after : List ℤ} {r : ℤ} → InC (λ a. BackCall n x l lent a after) r
+      → (count : ℕ) → r ≡ pos count → WrotePairs n (unfarris (score l)) after
+
+-- "i(i+1)/2 for row i, counted from 0": there stands the first value of row i, the others follow it
 pub record Request-2-3 : Type 0 where
-  -- in the pair list that the reader writes, here or in C
-  pub written : {sheet : List ℕ} {lent after : List ℤ} {r : Answer} → ReaderCall sheet lent r after → numberOf r ≡ 0
-      → (i j : ℕ) → i < countOf r → j ≤ i → getD after (i * (i + 1) / 2 + j) (pos 0) ≡ value sheet i j
-  pub written-in-C : {sheet : List ℕ} {lent after : List ℤ} {r : ℤ} → InC (λ a. ReaderCall sheet lent a after) r
-      → (n : ℕ) → r ≡ pos n
-      → (i j : ℕ) → i < n → j ≤ i → getD after (i * (i + 1) / 2 + j) (pos 0) ≡ value sheet i j
+  pub written : {n : ℕ} {s : Similarity} {after : List ℤ} → WrotePairs n s after
+      → (i j : ℕ) → i < n → j ≤ i → getD after (i * (i + 1) / 2 + j) (pos 0) ≡ s i j
   -- in a pair list that is lent, for a score looked up in C, whichever entry is named first
   pub looked-up : {n i j : ℕ} {l : List ℤ} {lent r after : ℤ} → ScoreInC n l i j lent r after → r ≡ pos 0
       → j ≤ i → after ≡ getD l (i * (i + 1) / 2 + j) (pos 0)
