@@ -42,10 +42,32 @@ length-erase x (z ∷ l) m = go (eqb z x) refl (length-erase x l) (List·Memᴰ�
     go false e ih (inl q) = absurd (eqb-no z x (false-T e) (sym q))
     go false e ih (inr m) = ap suc (ih m)
 
--- distinct elements of l that are all in m are no more than m has
-pub pigeonhole : (l m : List ℕ) → Distinct l → ((x : ℕ) → x ∈ l → x ∈ m) → length l ≤ length m
-pigeonhole [] m d f = omega arith
-pigeonhole (x ∷ l) m d f =
-    let e = length-erase x m (f x (List·Memᴰ·head refl)) in
-    let r = pigeonhole l (erase x m) (d .1) (λ y k. in-erase x m (λ q. d .0 (Memᴰ·cast (sym q) k)) (f y (List·Memᴰ·tail k))) in
-    omega arith
+-- the same of elements of any type: a list with one x less, which has all the others
+module _ {ℓ} {A : Type ℓ} where
+  taken : {x : A} (m : List A) → x ∈ m → (k : List A) × (suc (length k) ≡ length m) × ((y : A) → y ∈ m → (y ≡ x) ⊎ (y ∈ k))
+  taken {x} (z ∷ m) (List·Memᴰ·head e) = (m, refl, λ y h. go y (List·Memᴰ·cases-cons h))
+    where
+      go : (y : A) → (y ≡ z) ⊎ (y ∈ m) → (y ≡ x) ⊎ (y ∈ m)
+      go y (inl q) = inl (q ∙ sym e)
+      go y (inr h) = inr h
+  taken {x} (z ∷ m) (List·Memᴰ·tail h) = let (k, e, f) = taken m h in (z ∷ k, ap suc e, λ y n. go k f y (List·Memᴰ·cases-cons n))
+    where
+      behind : (k : List A) (y : A) → (y ≡ x) ⊎ (y ∈ k) → (y ≡ x) ⊎ (y ∈ z ∷ k)
+      behind k y (inl q) = inl q
+      behind k y (inr n) = inr (List·Memᴰ·tail n)
+
+      go : (k : List A) → ((y : A) → y ∈ m → (y ≡ x) ⊎ (y ∈ k)) → (y : A) → (y ≡ z) ⊎ (y ∈ m) → (y ≡ x) ⊎ (y ∈ z ∷ k)
+      go k f y (inl q) = inr (List·Memᴰ·head q)
+      go k f y (inr n) = behind k y (f y n)
+
+  -- distinct elements of l that are all in m are no more than m has
+  pub pigeonhole : (l m : List A) → Distinct l → ((x : A) → x ∈ l → x ∈ m) → length l ≤ length m
+  pigeonhole [] m d f = omega arith
+  pigeonhole (x ∷ l) m d f =
+      let (k, e, g) = taken m (f x (List·Memᴰ·head refl)) in
+      let r = pigeonhole l k (d .1) (λ y h. other y h (g y (f y (List·Memᴰ·tail h)))) in
+      omega arith
+    where
+      other : {k : List A} (y : A) → y ∈ l → (y ≡ x) ⊎ (y ∈ k) → y ∈ k
+      other y h (inl q) = absurd (d .0 (Memᴰ·cast (sym q) h))
+      other y h (inr n) = n
