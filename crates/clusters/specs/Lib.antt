@@ -9,3 +9,4 @@ pub mod Stability
 pub mod Touched
 pub mod Bench
 pub mod Nesting
+pub mod Pooling

@@ -20,6 +20,7 @@ use Rattle.answers.specs.declared.Shared.{Shared}
 use Rattle.answers.specs.Shared.{sharedNumber, sharedSet, sharedLine, sharedAnswer}
 use Rattle.interface.specs.Sheet.{names, entries, pairs}
 use Rattle.interface.specs.Listing.{groupsFound, sheetListing}
+use Rattle.interface.specs.Pool.{poolText}
 use Rattle.interface.specs.Refusals.{
   mostEntries,
   sheetRefusal,
@@ -30,6 +31,7 @@ use Rattle.interface.specs.Refusals.{
   readerRefusal,
   scoreRefusal,
   sharedRefusal,
+  poolRefusal,
 }
 
 -- The sheet call: the listing's length, and the listing in the first bytes.
@@ -166,3 +168,9 @@ pub record SharedInC (kind : ℤ) (n : ℕ) (l : List ℤ) (i j : ℕ) (r : ℤ)
   pub outcome : SharedCall kind n l i j given
   pub answered : r ≡ cNumber (answer (sharedNumber given) (sharedLine given))
   pub written : set ≡ sharedSet given
+
+-- The pool of two sheets (document 02, 2.4), which "is written as a sheet": the pool's length, and the pool in the first
+-- bytes.
+pub record PoolCall (first second lent : List ℕ) (r : Answer) (after : List ℕ) : Type 0 where
+  pub answered : r ≡ answer (poolRefusal first second (length lent)) (length (poolText first second))
+  pub written : after ≡ slots (poolRefusal first second (length lent)) (poolText first second) lent

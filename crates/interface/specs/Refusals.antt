@@ -26,9 +26,11 @@ use Rattle.interface.specs.Sheet.{
   value,
   mirrored,
   pairs,
+  isAmong,
   hasEqual,
 }
 use Rattle.interface.specs.Listing.{sheetListing}
+use Rattle.interface.specs.Pool.{poolPairs, poolText}
 
 -- a check: the number of a line of the table, and whether its condition holds
 abbrev pub Check : Type 0
@@ -190,6 +192,17 @@ wrongEntries n i j = wrongAnchor n i || wrongAnchor n j
 abbrev pub check15 : Bool → Check
 check15 holds = (15, holds)
 
+-- "17 means the two name sets differ" (document 02, 2.4): a name of one sheet is not among those of the other
+unfoldable pub namesDiffer : (first second : List (List ℕ)) → Bool
+namesDiffer first second = not (all (λ w. isAmong w second) first && all (λ w. isAmong w first) second)
+
+abbrev pub check17 : (first second : List ℕ) → Check
+check17 first second = (17, namesDiffer (names first) (names second))
+
+-- "18 a sum out of range": that of 11; an unscored pair has no sum
+abbrev pub check18 : (sums : List ℤ) → Check
+check18 sums = (18, not (scoresInRange sums))
+
 -- Which call makes which, 16 "right after 11". "The sheet and C calls make checks 1 to 9, 11, 12, 14"
 unfoldable pub sheetCallChecks : ℤ → List ℕ → (buffer : ℕ) → List Check
 sheetCallChecks kind s buffer =
@@ -283,6 +296,24 @@ sharedChecks kind n l i j =
     ∷ check15 (wrongEntries n i j)
     ∷ []
 
+-- of the pool of two sheets: "The first sheet passes 2 to 9 and 11, then the second; after them 17 .., 18 .., and 14 a
+-- short buffer." (document 02, 2.4)
+unfoldable pub sheetChecks : List ℕ → List Check
+sheetChecks s = readerChecks s ++ (check11 (pairs s) ∷ [])
+
+unfoldable pub poolChecks : (first second : List ℕ) → (buffer : ℕ) → List Check
+poolChecks first second buffer =
+    sheetChecks first
+    ++ (
+    sheetChecks second
+    ++ (
+    check17 first second
+    ∷ check18 (poolPairs first second)
+    ∷ check14 buffer (poolText first second)
+    ∷ []
+    )
+    )
+
 -- the number of the refusal that each call gives, 0 if none
 unfoldable pub sheetRefusal : ℤ → List ℕ → (buffer : ℕ) → ℕ
 sheetRefusal kind s buffer = firstOf (sheetCallChecks kind s buffer)
@@ -307,3 +338,6 @@ scoreRefusal n l a b = firstOf (scoreChecks n l a b)
 
 unfoldable pub sharedRefusal : ℤ → ℕ → List ℤ → (i j : ℕ) → ℕ
 sharedRefusal kind n l i j = firstOf (sharedChecks kind n l i j)
+
+unfoldable pub poolRefusal : (first second : List ℕ) → (buffer : ℕ) → ℕ
+poolRefusal first second buffer = firstOf (poolChecks first second buffer)

@@ -3,30 +3,32 @@ use mathlib.Core.Path.{_≡_}
 use mathlib.Core.Logic.{_⊎_, _≢_, _↔_}
 use mathlib.Core.List.{List, [], _∷_, _++_, map}
 use Prim.Native.Nat.{ℕ, _+_, _*_, _/_, _^_, _<_, _≤_}
-use lib.IntN.{ℤ, pos, negℤ}
+use lib.IntN.{ℤ, pos, negℤ, _+ℤ_}
 use lib.Signed.{_≤ℤ_}
 use lib.Dec.{T}
-use lib.ListN.{getD, set}
+use lib.ListN.{length, getD, set, take, drop}
 use Rattle.lists.specs.Lists.{_∈_, _lists_}
 use Rattle.sets.specs.Sets.{_∋_, size, allEntries, Subset}
 use Rattle.integers.specs.Range.{Within}
+use Rattle.pairs.specs.declared.Carried.the-variants.{Scored}
 use Rattle.pairs.specs.Pairs.{mark, carried, isScored}
 use Rattle.clusters.specs.PairList.{Similarity, place, score, scoreLimit, hasLength}
 use Rattle.clusters.specs.Fillings.{Fills, AllScored, ScoredMore}
 use Rattle.clusters.specs.Farris.{farris, unfarris}
 use Rattle.clusters.specs.Linkage.{Linkage}
-use Rattle.clusters.specs.Groups.{plainSets, plainGroups}
+use Rattle.clusters.specs.Pooling.{added}
+use Rattle.clusters.specs.Groups.{kindOf, plainSets, plainGroups, writtenSet}
 use Rattle.clusters.specs.Reordering.{Permutation, Reordered, image}
 use Rattle.clusters.specs.Nesting.{smallestOfAll, OnLine}
 use Rattle.answers.specs.declared.Answer.{Answer}
 use Rattle.answers.specs.Answers.{numberOf, countOf}
 use Rattle.answers.specs.declared.Shared.{Shared}
 use Rattle.answers.specs.Shared.{sharedNumber, sharedSet, sharedLine}
-use Rattle.interface.specs.Sheet.{value, pairs}
+use Rattle.interface.specs.Sheet.{names, entries, value, pairs}
 use Rattle.interface.specs.Refusals.{Check, none, Given, check1, check6, check10, check11, check1Groups}
-use Rattle.interface.specs.Refusals.{readerChecks, sharedChecks}
+use Rattle.interface.specs.Refusals.{readerChecks, sharedChecks, sheetChecks, poolChecks}
 use Rattle.interface.specs.Calls.{InC, CCall, NumbersCall, LinkageCall, AnchoredCall}
-use Rattle.interface.specs.Calls.{BackCall, ReaderCall, ScoreInC, SharedCall, SharedInC}
+use Rattle.interface.specs.Calls.{BackCall, ReaderCall, ScoreInC, SharedCall, SharedInC, PoolCall}
 use Rattle.interface.specs.Demands.{Wrote}
 
 -- 2.1, the smallest group two entries share: the refusal's number, 0 for none, the set and the line that the call
@@ -171,3 +173,89 @@ pub record Request-2-3 : Type 0 where
       → j ≤ i → after ≡ getD l (i * (i + 1) / 2 + j) (pos 0)
   pub looked-up-swapped : {n i j : ℕ} {l : List ℤ} {lent r after : ℤ} → ScoreInC n l j i lent r after → r ≡ pos 0
       → j ≤ i → after ≡ getD l (i * (i + 1) / 2 + j) (pos 0)
+
+-- 2.4, pooled sheets: the pool that a call wrote, here or in C: as many bytes as it answers, if it did not refuse
+pub data Pooled (first second : List ℕ) : (bytes : List ℕ) → Type 0 where
+  by-pool-call : {lent after : List ℕ} {r : Answer} → PoolCall first second lent r after
+      → numberOf r ≡ 0 → Pooled first second (take (countOf r) after)
+  by-pool-in-C : {lent after : List ℕ} {r : ℤ} → InC (λ a. PoolCall first second lent a after) r
+      → (count : ℕ) → r ≡ pos count → Pooled first second (take count after)
+
+-- entry i of one sheet and entry j of the other have the same name
+pub record SameName (first second : List ℕ) (i j : ℕ) : Type 0 where
+  pub here : i < entries first
+  pub there : j < entries second
+  pub same : getD (names first) i [] ≡ getD (names second) j []
+
+-- "a set of names": a set of entries of one sheet, and that of the entries of the other with the same names
+pub record SameSet (first second : List ℕ) (A B : ℕ) : Type 0 where
+  pub here : A < 2 ^ entries first
+  pub there : B < 2 ^ entries second
+  pub same : (i j : ℕ) → SameName first second i j → (A ∋ i) ↔ (B ∋ j)
+
+-- "the two name sets": every name of one sheet is on the other
+pub record SameNames (first second : List ℕ) : Type 0 where
+  pub there : (w : List ℕ) → w ∈ names first → w ∈ names second
+  pub back : (w : List ℕ) → w ∈ names second → w ∈ names first
+
+-- the sum of the scores that two names have on either sheet is out of the range
+pub record SumOutOfRange (first second : List ℕ) : Type 0 where
+  pub i : ℕ
+  pub j : ℕ
+  pub i′ : ℕ
+  pub j′ : ℕ
+  pub one : SameName first second i i′
+  pub other : SameName first second j j′
+  pub y : ℤ
+  pub z : ℤ
+  pub here : carried (value first i j) ≡ Scored y
+  pub there : carried (value second i′ j′) ≡ Scored z
+  pub out : Within scoreLimit (y +ℤ z) → ⊥
+
+pub record Request-2-4 : Type 0 where
+  -- each number is given if and only if its line holds and none before it does; nothing is then written
+  pub refusal : {first second lent after : List ℕ} {r : ℤ} → InC (λ a. PoolCall first second lent a after) r
+      → (k : ℕ) → 0 < k → (r ≡ negℤ (pos k)) ↔ Given (poolChecks first second (length lent)) k
+  pub refused : {first second lent after : List ℕ} {r : ℤ} → InC (λ a. PoolCall first second lent a after) r
+      → (k : ℕ) → 0 < k → r ≡ negℤ (pos k) → after ≡ lent
+  -- "answers its length and touches only its bytes"; there is no third
+  pub own-bytes : {first second lent after : List ℕ} {r : ℤ} → InC (λ a. PoolCall first second lent a after) r
+      → (count : ℕ) → r ≡ pos count → (length (take count after) ≡ count) × (drop count after ≡ drop count lent)
+  pub either : {first second lent after : List ℕ} {r : ℤ} → InC (λ a. PoolCall first second lent a after) r
+      → ((k : ℕ) × (0 < k) × (r ≡ negℤ (pos k))) ⊎ ((count : ℕ) × (r ≡ pos count))
+  -- "17 means the two name sets differ, 18 a sum out of range"
+  pub seventeen : {first second lent after : List ℕ} {r : ℤ} → InC (λ a. PoolCall first second lent a after) r
+      → (r ≡ negℤ (pos 17)) ↔ (T (none (sheetChecks first ++ sheetChecks second)) × (SameNames first second → ⊥))
+  pub eighteen : {first second lent after : List ℕ} {r : ℤ} → InC (λ a. PoolCall first second lent a after) r
+      → (r ≡ negℤ (pos 18))
+      ↔ (T (none (sheetChecks first ++ sheetChecks second)) × SameNames first second × SumOutOfRange first second)
+  -- "The pool is written as a sheet": one that passes 2 to 9 and 11
+  pub a-sheet : {first second bytes : List ℕ} → Pooled first second bytes → T (none (sheetChecks bytes))
+  -- "the names stand in the first sheet's order", and each is on the second
+  pub its-names : {first second bytes : List ℕ} → Pooled first second bytes
+      → (names bytes ≡ names first) × SameNames first second
+  -- "each score is the sum. A pair unscored in either is unscored in the pool."
+  pub its-pairs : {first second bytes : List ℕ} → Pooled first second bytes
+      → (i i′ j j′ : ℕ) → SameName first second i i′ → SameName first second j j′
+      → carried (value bytes i j) ≡ added (carried (value first i j)) (carried (value second i′ j′))
+  -- "whatever the second's": another order of the second's names gives the same bytes
+  pub any-order : {first second second′ bytes bytes′ : List ℕ}
+      → Pooled first second bytes → Pooled first second′ bytes′
+      → ((i i′ j j′ : ℕ) → SameName second second′ i i′ → SameName second second′ j j′
+      → value second′ i′ j′ ≡ value second i j) → bytes′ ≡ bytes
+  -- "a set of names strong in both is strong in the pool, with an index no smaller than the two added": of all that a
+  -- call wrote for the two sheets and for the pool, with unscored pairs too
+  pub strong-in-both : {first second bytes : List ℕ} → Pooled first second bytes → {found found′ pool : List (ℕ × ℤ)}
+      → Wrote (pos 1) (entries first) (score (pairs first)) found
+      → Wrote (pos 1) (entries second) (score (pairs second)) found′
+      → Wrote (pos 1) (entries bytes) (score (pairs bytes)) pool
+      → (A B : ℕ) → SameSet first second A B → (y z : ℤ) → found lists (A, y) → found′ lists (B, z)
+      → (x : ℤ) × (pool lists (A, x)) × ((y +ℤ z) ≤ℤ x)
+  -- the pool of the sheets the other way round has the same groups and splits, with the same indices
+  pub turned : {first second bytes bytes′ : List ℕ} → Pooled first second bytes → Pooled second first bytes′
+      → {kind : ℤ} {found found′ : List (ℕ × ℤ)}
+      → Wrote kind (entries bytes) (score (pairs bytes)) found
+      → Wrote kind (entries bytes′) (score (pairs bytes′)) found′
+      → (A B : ℕ) → SameSet bytes bytes′ A B → (z : ℤ)
+      → (found lists (writtenSet (kindOf kind) (entries bytes) A, z))
+      ↔ (found′ lists (writtenSet (kindOf kind) (entries bytes′) B, z))
