@@ -2,7 +2,7 @@
 // does.
 ghost use mathlib.Core.Path.{_≡_};
 ghost use Prim.Native.Nat.{_-_, _^_, _≤_};
-ghost use lib.IntN.{pos, _+ℤ_, _-ℤ_, _*ℤ_};
+ghost use lib.IntN.{pos, natAbs, _+ℤ_, _-ℤ_, _*ℤ_};
 ghost use lib.Signed.{leZ};
 ghost use Rattle.integers.specs.Integers.{minZ, maxZ, eqZ, half, even};
 ghost use Rattle.integers.specs.Range.{Within};
@@ -83,6 +83,14 @@ pub fn times(k: usize, x: i64) -> i64
     ensures { λ r. ⌜ r ≡ pos k *ℤ x ⌝ }
 {
     (k as i64) * x
+}
+
+// A number without its sign.
+pub fn magnitude(x: i64) -> usize
+    requires { ⌜ Within (2 ^ 61) x ⌝ }
+    ensures { λ r. ⌜ r ≡ natAbs x ⌝ }
+{
+    larger(x, difference(0, x)) as usize
 }
 
 pub fn half(x: i64) -> i64

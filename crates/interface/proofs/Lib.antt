@@ -1,8 +1,12 @@
 pub mod Refusals
+pub mod Pieces
+pub mod Names
+pub mod Places
 pub mod Digits
 pub mod Numerals
-pub mod Pieces
 pub mod Lines
+pub mod Values
+pub mod SheetTexts
 pub mod Accepted
 pub mod Anchored
 pub mod Slots

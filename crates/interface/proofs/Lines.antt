@@ -1,18 +1,18 @@
 -- A listing read back: what is written is read back as it was.
-use mathlib.Core.Path.{_≡_, refl, sym, ap, _∙_, subst}
+use mathlib.Core.Path.{_≡_, sym, ap, _∙_, subst}
 use mathlib.Core.Bool.{not, _&&_, _||_}
-use mathlib.Core.List.{List, [], _∷_, _++_, map, append-assoc, map-map, map-id, List·Memᴰ·head, List·Memᴰ·tail}
+use mathlib.Core.List.{List, [], _∷_, _++_, map, append-assoc, map-map, map-id}
 use mathlib.Core.Option.{some}
 use Prim.Native.Nat.{ℕ, suc, _-_, _^_, _<_}
 use native.Mathlib.Omega.{arith}
 use lib.IntN.{ℤ, pos, natAbs}
 use lib.Signed.{_≤ℤ_}
-use lib.Dec.{T, eqb, leb, le→leb, eqb→eq, not-T, T-not}
+use lib.Dec.{T, eqb, leb, le→leb}
 use lib.ListN.{length, getD, take, drop, length-append}
 use lib.Seq.{take-at, getD-at}
 use Rattle.lists.specs.Lists.{_∈_, each, all}
 use Rattle.lists.proofs.Tests.{and-T, T-and, T-true, true-T, or-first, eqb-yes}
-use Rattle.lists.proofs.Lists.{in-all, all-in, of-map, map-cong}
+use Rattle.lists.proofs.Lists.{in-all, all-in, of-map, map-cong, each-map}
 use Rattle.interface.specs.Sheet.{isDigit, numberFrom, longer, cut, lines, sameBytes}
 use Rattle.interface.specs.Listing.{
   Line,
@@ -35,13 +35,12 @@ use Rattle.interface.specs.Listing.{
 }
 use Rattle.interface.proofs.Digits.{natural}
 use Rattle.interface.proofs.Numerals.{set-form, read-hexadecimal, decimal-run, decimal-form, read-decimal}
-use Rattle.interface.proofs.Pieces.{free, free-append, cut-last, cut-first}
+use Rattle.interface.proofs.Pieces.{free, all-free, free-append, cut-last, cut-first, cut-ended}
 
 -- no digit is a byte that is none, as a space or a line feed
 module _ (c : ℕ) (no : T (not (isHexDigit c))) where
   hex-free : (w : List ℕ) → T (all isHexDigit w) → free c w
-  hex-free w t = in-all (λ b. not (eqb b c)) w λ b m.
-      not-T (eqb b c) (λ e. T-not (isHexDigit c) no (subst (λ (x : ℕ). T (isHexDigit x)) (eqb→eq b c e) (all-in isHexDigit w t m)))
+  hex-free w t = all-free isHexDigit c no w t
 
   set-free : (A : ℕ) → free c (hexadecimal A)
   unfolding isSet
@@ -110,13 +109,9 @@ module _ {l : Line} (r : Readable l) where
 
 -- the pieces of a listing: the first line, the lines, nothing behind the last line feed
 cut-lines : (ls : List Line) → ((l : Line) → l ∈ ls → Readable l) → cut 10 (each ls (λ l. lineText l ++ (10 ∷ []))) ≡ map lineText ls ++ ([] ∷ [])
-unfolding cut each
-cut-lines [] f = refl
-cut-lines (l ∷ ls) f =
-    let rest = each ls (λ l. lineText l ++ (10 ∷ [])) in
-    ap (cut 10) (append-assoc (lineText l) (10 ∷ []) rest)
-    ∙ cut-first 10 (lineText l) rest (line-free (f l (List·Memᴰ·head refl)))
-    ∙ ap (λ (x : List (List ℕ)). lineText l ∷ x) (cut-lines ls (λ x m. f x (List·Memᴰ·tail m)))
+cut-lines ls f =
+    ap (cut 10) (sym (each-map ls lineText (λ w. w ++ (10 ∷ []))))
+    ∙ cut-ended 10 (map lineText ls) (λ w m. let (l, k, e) = of-map lineText ls m in subst (λ (t : List ℕ). free 10 t) (sym e) (line-free (f l k)))
 
 listing-pieces : (ls : List Line) → ((l : Line) → l ∈ ls → Readable l) → lines (listing ls) ≡ firstText ∷ (map lineText ls ++ ([] ∷ []))
 unfolding lines listing firstLine firstText all

@@ -10,9 +10,10 @@ use borrow.Author.Tests.{le-leb, lt-leb, lt-ltb, le-ltb}
 use lib.Dec.{T, eqb, leb, eqb→eq, not-T, lit<}
 use lib.ListN.{length, getD}
 use Rattle.lists.specs.Lists.{all}
-use Rattle.lists.proofs.Tests.{and-T, T-and, T-true, true-T, or-first, eqb-yes}
+use Rattle.lists.proofs.Tests.{T-and, T-true, true-T, or-first, eqb-yes}
 use Rattle.interface.specs.Sheet.{isDigit, digitValue, numberFrom}
 use Rattle.interface.specs.Listing.{digit, digits, hexadecimal, decimal, isHexDigit, isSet, isDecimal}
+use Rattle.interface.proofs.Pieces.{all-append}
 use Rattle.interface.proofs.Digits.{ten, length-digits, decimal-one, decimal-more}
 
 -- one digit
@@ -82,8 +83,7 @@ read-digits base (suc w) n some few h =
 
 all-last : (p : ℕ → Bool) (w : List ℕ) (b : ℕ) → T (all p w) → T (p b) → T (all p (w ++ (b ∷ [])))
 unfolding all
-all-last p [] b s t = T-and (p b) true t tt
-all-last p (c ∷ w) b s t = let (h, r) = and-T (p c) (all p w) s in T-and (p c) (all p (w ++ (b ∷ []))) h (all-last p w b r t)
+all-last p w b s t = all-append p w (b ∷ []) s (T-and (p b) true t tt)
 
 hex-digits : (w n : ℕ) → T (all isHexDigit (digits 16 w n))
 unfolding digits all
@@ -103,9 +103,9 @@ unfolding hexadecimal
 read-hexadecimal A h = read-digits 16 8 A (lit< tt) (omega arith) h
 
 -- digits, of which the first is not 0
-record Leads (w : List ℕ) : Type 0 where
-  run : T (all isDigit w)
-  first : T (not (eqb (getD w 0 48) 48))
+pub record Leads (w : List ℕ) : Type 0 where
+  pub run : T (all isDigit w)
+  pub first : T (not (eqb (getD w 0 48) 48))
 
 leads-last : (w : List ℕ) (b : ℕ) → Leads w → T (isDigit b) → Leads (w ++ (b ∷ []))
 leads-last [] b l t = absurd (l .first)
@@ -127,6 +127,9 @@ leads-decimal (suc k) n h some = go (ten n) (leads-decimal k (n / 10))
     go (inr l) ih = subst (λ (w : List ℕ). Leads w) (sym (decimal-more n l))
         (leads-last (decimal (n / 10)) (digit (n % 10)) (ih (omega arith) (omega arith)) (decimal-digit (n % 10) (omega arith)))
 
+pub decimal-leads : (n : ℕ) → 0 < n → Leads (decimal n)
+decimal-leads n some = leads-decimal (suc n) n (omega arith) some
+
 zero-text : decimal 0 ≡ 48 ∷ []
 zero-text = decimal-one 0 (lit< tt) ∙ ap (λ (b : ℕ). b ∷ []) (low-digit 0 (lit< tt))
 
@@ -141,12 +144,12 @@ leads-form (b ∷ w) l =
 pub decimal-run : (n : ℕ) → T (all isDigit (decimal n))
 unfolding isDigit all
 decimal-run zero = subst (λ (w : List ℕ). T (all isDigit w)) (sym zero-text) tt
-decimal-run (suc n) = leads-decimal (suc (suc n)) (suc n) (omega arith) (omega arith) .run
+decimal-run (suc n) = decimal-leads (suc n) (omega arith) .run
 
 pub decimal-form : (n : ℕ) → T (isDecimal (decimal n))
 unfolding isDecimal isDigit all
 decimal-form zero = subst (λ (w : List ℕ). T (isDecimal w)) (sym zero-text) tt
-decimal-form (suc n) = leads-form (decimal (suc n)) (leads-decimal (suc (suc n)) (suc n) (omega arith) (omega arith))
+decimal-form (suc n) = leads-form (decimal (suc n)) (decimal-leads (suc n) (omega arith))
 
 read-below : (k n : ℕ) → n < k → numberFrom 10 0 (decimal n) ≡ n
 read-below zero n h = absurd (omega arith)

@@ -4,8 +4,8 @@ use mathlib.Core.List.{List, [], _∷_, _++_}
 use Prim.Native.Nat.{ℕ, suc, _+_, _≤_}
 use native.Mathlib.Nat.{add-zero, zero-add}
 use native.Mathlib.Omega.{arith}
-use lib.ListN.{length, drop, set, length-append}
-use lib.Seq.{sets, sets-eq, set-comm}
+use lib.ListN.{length, take, drop, set, length-append}
+use lib.Seq.{sets, sets-eq, set-comm, take-length, take-append-seam}
 use Rattle.lists.proofs.Written.{sets-sets}
 use Rattle.listing.specs.Put.{Put}
 
@@ -37,3 +37,13 @@ pub start-put : {l m xs : List ℕ} {end : ℕ} → Put l 0 xs m end → length 
 start-put {l} {m} {xs} {end} a h =
     let p : end ≡ length xs = omega (arith, a .place) in
     (p, a .stored ∙ sets-eq xs l 0 (omega arith) ∙ ap (λ (k : ℕ). xs ++ drop k l) (zero-add (length xs) ∙ sym p))
+
+-- a writer wrote the text, which it was given in another form
+pub written : (rest : List ℕ) {text given held : List ℕ} {r : ℕ} → given ≡ text → r ≡ length given → held ≡ given ++ rest
+    → (r ≡ length text) × (take r held ≡ text)
+written rest {given = given} e p q = (p ∙ ap length e, rw (q, p) (take-append-seam given rest) ∙ e)
+
+-- the text was copied
+pub copied : (lent : List ℕ) {text part after : List ℕ} → part ≡ text → after ≡ take (length part) part ++ drop (length part) lent
+    → after ≡ text ++ drop (length text) lent
+copied lent e q = q ∙ rw (e, take-length)

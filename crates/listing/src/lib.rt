@@ -59,7 +59,7 @@ fn put_set(out: &mut [u8], at: usize, set: u32) -> usize
 }
 
 // Puts a number and the byte after it, 21 bytes at most.
-fn put_number(out: &mut [u8], at: usize, n: usize, after: u8) -> usize
+pub fn put_number(out: &mut [u8], at: usize, n: usize, after: u8) -> usize
     requires { ⌜ at + 21 ≤ length (now out) ⌝ }
     ensures { λ r. ⌜ Put (now (out .entry)) at (decimal n ++ (after ∷ [])) (now (out .exit)) r ⌝ }
 {

@@ -16,9 +16,9 @@ use Rattle.matrix.specs.Checks.{Checked}
 use Rattle.kinds.proofs.Listed.{told, accepted}
 use Rattle.groups.specs.Found.{Groups}
 use Rattle.interface.specs.Listing.{groupsFound, pairsListing}
+use Rattle.listing.proofs.Puts.{written, copied}
 use Rattle.farzhudyl.specs.Pairs.{pairsRefusal, PairsListed}
 use Rattle.farzhudyl.proofs.Found.{found-slots, found-listing}
-use Rattle.farzhudyl.proofs.Pairs.{written, copied}
 use native.Mathlib.Omega.{arith}
 use borrow.Author.Needs.{needs}
 use Rattle.farzhudyl.proofs.list_pairs.Statement.{statement}
