@@ -18,7 +18,7 @@ use Rattle.pairs.proofs.Pairs.{scored-is}
 use Rattle.clusters.specs.PairList.{Similarity, Symmetric, isAllowedPair}
 use Rattle.clusters.specs.Indices.{strongIndex}
 use Rattle.clusters.specs.Fillings.{Fill, Fills, LeastFilling, AllScored, low, high, worst, filledIndex, Scoring, ScoredMore}
-use Rattle.clusters.proofs.Strong.{strong-mono}
+use Rattle.clusters.proofs.Strong.{strong-mono, strong-cong}
 use Rattle.clusters.proofs.Scored.{AllAllowed, allowed-within}
 
 -- the filling that gives each unscored pair the least score
@@ -86,6 +86,12 @@ filled-least limit n s f A fills = strong-mono n (worst limit A s) f A (λ a b x
   where
     at : {p q l h y z : ℤ} → p ≡ l → q ≡ h → l ≤ℤ y → z ≤ℤ h → (p -ℤ q) ≤ℤ (y -ℤ z)
     at {p} {q} {l} {h} {y} {z} e d k₁ k₂ = omega (zarith, -at p q, -at y z)
+
+-- it goes by the scores of the n entries only
+pub filled-cong : (limit n : ℕ) (s t : Similarity) (A : ℕ) → ((a b : ℕ) → a < n → b < n → s a b ≡ t a b) → filledIndex limit n s A ≡ filledIndex limit n t A
+unfolding filledIndex worst
+filled-cong limit n s t A e = strong-cong n (worst limit A s) (worst limit A t) A
+    (λ a b ha hb _. ap (λ z. cond (xor (has A a) (has A b)) (high limit (carried z)) (low limit (carried z))) (e a b ha hb))
 
 -- it is the least over all fillings, and there is one such number
 pub least-filling : (limit n : ℕ) (s : Similarity) → Symmetric s → (A : ℕ) → LeastFilling limit n s A (filledIndex limit n s A)

@@ -18,6 +18,7 @@ use Rattle.clusters.specs.Groups.{Kind, strong, clean, splits, index, gr
 use Rattle.clusters.specs.Reordering.{Permutation, Reordered, image}
 use Rattle.clusters.specs.Nesting.{Hit, firstFrom, holdsBoth, smallestShared}
 use Rattle.clusters.proofs.Groups.{in-groupSets, in-groups}
+use Rattle.clusters.proofs.Reindex.{Image}
 use Rattle.clusters.proofs.Reordering.{image-lt, size-image, inverse, groups-image}
 use Rattle.clusters.proofs.Hierarchies.{Hierarchy, groups-hierarchy}
 use Rattle.clusters.proofs.Searches.{Outcome, Smallest, first-cases, first-in, smallest-unique, first-smallest}
@@ -55,6 +56,15 @@ module _ (n : ℕ) (p : Permutation n) where
   pub image-all : image n p (allEntries n) ≡ allEntries n
   image-all = subset-antisymm n (image n p (allEntries n)) (allEntries n) (image-lt n p (allEntries n)) (all-entries-lt n)
       (record { all = λ j h _. all-entries-in n h }) (record { all = λ j h _. image-of (allEntries n) h (all-entries-in n (p .from-lt j h)) })
+
+-- the image of a set is the only set with its members
+pub image-only : (n : ℕ) (p : Permutation n) (A B : ℕ) → B < 2 ^ n → Image n p A B → B ≡ image n p A
+image-only n p A B h im = subset-antisymm n B (image n p A) h (image-lt n p A)
+    (record { all = λ j l k. has-yes (image n p A) j (subst (λ b. T b) (same j l) (yes-has B j k)) })
+    (record { all = λ j l k. has-yes B j (subst (λ b. T b) (sym (same j l)) (yes-has (image n p A) j k)) })
+  where
+    same : (j : ℕ) → j < n → has B j ≡ has (image n p A) j
+    same j l = ap (has B) (sym (p .to-from j l)) ∙ im (p .from j) (p .from-lt j l) ∙ sym (image-from n p A l)
 
 -- every set is an image
 pub image-inverse : (n : ℕ) (p : Permutation n) (B : ℕ) → B < 2 ^ n → image n p (image n (inverse p) B) ≡ B

@@ -24,3 +24,4 @@ pub mod Scored
 pub mod Fillings
 pub mod Untouched
 pub mod Unscored
+pub mod Pooled

@@ -111,15 +111,19 @@ pairList-at (suc n) s a b h k = ap (λ l. getD l (rowStart a + b) (pos 0)) (pair
         List·getD-append (pairList n s) (map (s n) (below (suc n))) (pos 0) (rowStart a + b)
         (omega (arith, length-pairList n s, row-lt n a b (omega arith) k)) ∙ ih (omega arith) k
 
-pub score-pairList : (n : ℕ) (s : Similarity) → Symmetric s → (a b : ℕ) → a < n → b < n → score (pairList n s) a b ≡ s a b
-score-pairList n s symm a b h k = go (decLe b a)
+-- the scores looked up in the pair list of s, which is symmetric as far as its n entries go
+pub score-mirrored : (n : ℕ) (s : Similarity) → ((a b : ℕ) → a < n → b < n → s a b ≡ s b a) → (a b : ℕ) → a < n → b < n → score (pairList n s) a b ≡ s a b
+score-mirrored n s symm a b h k = go (decLe b a)
   where
     lower : (a b : ℕ) → a < n → b ≤ a → score (pairList n s) a b ≡ s a b
     lower a b h l = score-row (pairList n s) a b l ∙ pairList-at n s a b h l
 
     go : Dec (b ≤ a) → score (pairList n s) a b ≡ s a b
     go (yes l) = lower a b h l
-    go (no f) = score-symm (pairList n s) a b ∙ lower b a k (omega arith) ∙ symm b a
+    go (no f) = score-symm (pairList n s) a b ∙ lower b a k (omega arith) ∙ symm b a k h
+
+pub score-pairList : (n : ℕ) (s : Similarity) → Symmetric s → (a b : ℕ) → a < n → b < n → score (pairList n s) a b ≡ s a b
+score-pairList n s symm = score-mirrored n s (λ a b _ _. symm a b)
 
 pub pairList-score : (n : ℕ) (l : List ℤ) → length l ≡ rowStart n → pairList n (score l) ≡ l
 unfolding score

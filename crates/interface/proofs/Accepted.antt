@@ -27,7 +27,7 @@ use Rattle.interface.specs.Refusals.{
 }
 use Rattle.interface.proofs.Refusals.{passes, right-length}
 
-not-not : (b : Bool) → T (not (not b)) → T b
+pub not-not : (b : Bool) → T (not (not b)) → T b
 not-not true t = tt
 not-not false t = absurd t
 

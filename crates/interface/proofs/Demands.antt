@@ -1,7 +1,7 @@
 -- The demands, from the outcomes of the calls and the theorems about groups.
 use mathlib.Core.Path.{_≡_, refl, sym, ap, ap₂, _∙_, subst, subst₂}
 use mathlib.Core.Bool.{Bool, false, not}
-use mathlib.Core.Logic.{_⊎_, inl, inr, _≢_, _↔_}
+use mathlib.Core.Logic.{_⊎_, inl, inr, _≢_, _↔_, Iff·trans}
 use mathlib.Core.List.{List, _++_, map, map-map, map-id}
 use mathlib.Core.Option.{some, Option·some-injective}
 use Prim.Native.Nat.{ℕ, zero, suc, _-_, _^_, _<_, _≤_}
@@ -40,6 +40,8 @@ use Rattle.interface.specs.Listing.{Line, lineOf, listing, groupsFound, 
 use Rattle.interface.specs.Refusals.{
   Check,
   firstOf,
+  none,
+  Given,
   mostEntries,
   wrongCount,
   sheetCallChecks,
@@ -68,7 +70,7 @@ use Rattle.interface.specs.Demands.{
   Complete,
   Demand3,
 }
-use Rattle.interface.proofs.Refusals.{first-iff, first-none, passes, few-count}
+use Rattle.interface.proofs.Refusals.{numbered, first-iff, first-none, passes, few-count}
 use Rattle.interface.proofs.Lines.{Readable, listing-read}
 use Rattle.interface.proofs.Slots.{groups-slots}
 use Rattle.interface.proofs.Accepted.{Passed, passed-allowed, passed-scored, sheet-passed, numbers-passed, linkage-scored}
@@ -95,7 +97,7 @@ module _ {A : Type 0} {k : ℕ} (z : k ≡ 0) (result lent : List A) {after : Li
   pub after-is : after ≡ result ++ drop (length result) lent
   after-is = w ∙ ap (λ (j : ℕ). slots j result lent) z ∙ slots-written result lent
 
-  taken : {count : ℕ} → length result ≡ count → take count after ≡ result
+  pub taken : {count : ℕ} → length result ≡ count → take count after ≡ result
   taken e = rw (sym e, after-is) (take-append-seam result (drop (length result) lent))
 
   dropped : {count : ℕ} → length result ≡ count → drop count after ≡ drop count lent
@@ -121,45 +123,61 @@ module _ {Outcome : Answer → Type 0} {r : ℤ} (c : InC Outcome r) (k m : ℕ)
       let a = e ∙ ap (λ (j : ℕ). answer j m) z in
       (ap numberOf a, ap countOf a ∙ is)
 
+-- a call in C whose checks are a table, and which writes a text
+module _ {Outcome : Answer → Type 0} {r : ℤ} (c : InC Outcome r) (checks : List Check) (text lent : List ℕ) {after : List ℕ}
+    (e : c .given ≡ answer (firstOf checks) (length text)) (w : after ≡ slots (firstOf checks) text lent) where
+  abbrev k : ℕ
+  k = firstOf checks
+
+  number : r ≡ cNumber (answer k (length text))
+  number = answered c k (length text) e
+
+  -- minus a number is answered exactly if its line holds and none before it does; nothing is then written
+  pub text-number : (j : ℕ) → 0 < j → (r ≡ negℤ (pos j)) ↔ (firstOf checks ≡ j)
+  text-number j h = let f = c-refused k (length text) j h in (λ q. f .0 (sym number ∙ q), λ z. number ∙ f .1 z)
+
+  pub text-refusal : (j : ℕ) → 0 < j → (r ≡ negℤ (pos j)) ↔ Given checks j
+  text-refusal j h = Iff·trans (text-number j h) (first-iff checks j h)
+
+  pub text-refused : (j : ℕ) → 0 < j → r ≡ negℤ (pos j) → after ≡ lent
+  text-refused j h q = let is = text-number j h .0 q in w ∙ slots-refused k text lent (omega arith)
+
+  -- the text's length is answered exactly if no line holds; the text is then written, and nothing else
+  pub text-listed : T (numbered checks) → (r ≡ pos (length text)) ↔ T (none checks)
+  text-listed t = (
+    λ q. first-none checks t .0 (c-count k (length text) (length text) (sym number ∙ q) .0),
+    λ u. number ∙ c-listed k (length text) (first-none checks t .1 u),
+  )
+
+  pub text-count : (count : ℕ) → r ≡ pos count → (firstOf checks ≡ 0) × (length text ≡ count)
+  text-count count q = c-count k (length text) count (sym number ∙ q)
+
+  pub text-written : (count : ℕ) → r ≡ pos count → (take count after ≡ text) × (drop count after ≡ drop count lent)
+  text-written count q = let (z, is) = text-count count q in (taken z text lent w is, dropped z text lent w is)
+
+  -- there is no third
+  pub text-either : ((j : ℕ) × (0 < j) × (r ≡ negℤ (pos j))) ⊎ (r ≡ pos (length text))
+  text-either = go k refl
+    where
+      go : (j : ℕ) → k ≡ j → ((j : ℕ) × (0 < j) × (r ≡ negℤ (pos j))) ⊎ (r ≡ pos (length text))
+      go zero z = inr (number ∙ c-listed k (length text) z)
+      go (suc j) z = inl (suc j, omega arith, text-number (suc j) (omega arith) .1 z)
+
 -- demand 1
 pub demand-1 : (kind : ℤ) (sheet lent : List ℕ) (r : ℤ) (after : List ℕ) → CCall kind sheet lent r after → Demand1 kind sheet lent r after
 unfolding sheetRefusal sheetCallChecks all
-demand-1 kind sheet lent r after c = record {
-  refusal = λ j h. (
-    λ q. first-iff checks j h .0 (c-refused k many j h .0 (sym (number) ∙ q)),
-    λ g. number ∙ c-refused k many j h .1 (first-iff checks j h .1 g),
-  );
-  refused = λ j h q.
-      let is : k ≡ j = c-refused k many j h .0 (sym (number) ∙ q) in
-      c .outcome .written ∙ slots-refused k text lent (omega arith);
-  listed = (
-    λ q. first-none checks tt .0 (c-count k many many (sym (number) ∙ q) .0),
-    λ t. number ∙ c-listed k many (first-none checks tt .1 t),
-  );
-  written = λ count q.
-      let (z, e) = c-count k many count (sym (number) ∙ q) in
-      (taken z text lent (c .outcome .written) e, dropped z text lent (c .outcome .written) e);
-  either = go k refl;
-}
-  where
-    checks : List Check
-    checks = sheetCallChecks kind sheet (length lent)
-
-    k : ℕ
-    k = firstOf checks
-
-    text : List ℕ
-    text = sheetListing kind sheet
-
-    many : ℕ
-    many = length text
-
-    number : r ≡ cNumber (answer k many)
-    number = answered c k many (c .outcome .answered)
-
-    go : (j : ℕ) → k ≡ j → ((j : ℕ) × (0 < j) × (r ≡ negℤ (pos j))) ⊎ (r ≡ pos many)
-    go zero e = inr (number ∙ c-listed k many e)
-    go (suc j) e = inl (suc j, omega arith, number ∙ c-refused k many (suc j) (omega arith) .1 e)
+demand-1 kind sheet lent r after c =
+    let checks = sheetCallChecks kind sheet (length lent) in
+    let text = sheetListing kind sheet in
+    let e = c .outcome .answered in
+    let w = c .outcome .written in
+    record {
+      refusal = text-refusal c checks text lent e w;
+      refused = text-refused c checks text lent e w;
+      listed = text-listed c checks text lent e w tt;
+      written = text-written c checks text lent e w;
+      either = text-either c checks text lent e w;
+    }
 
 -- bytes that either call listed are the sheet's listing, and no check refused
 record Accepted (kind : ℤ) (sheet bytes : List ℕ) : Type 0 where
@@ -361,10 +379,10 @@ module _ {n x : ℕ} {distances lent after : List ℤ} {r : Answer} (a : Anchore
       (z′, count′ ∙ sym count, taken first′ (distancesBack n S) lent′ (b .written) long ∙ ap (distancesBack n) scores ∙ same)
 
 -- an answer that is no refusal is its count in C
-count-in-C : (a : Answer) → numberOf a ≡ 0 → cNumber a ≡ pos (countOf a)
+answer-in-C : (a : Answer) → numberOf a ≡ 0 → cNumber a ≡ pos (countOf a)
 unfolding numberOf countOf cNumber
-count-in-C (Count c) z = refl
-count-in-C (Refused k) z = ap (λ (j : ℕ). negℤ (pos j)) z
+answer-in-C (Count c) z = refl
+answer-in-C (Refused k) z = ap (λ (j : ℕ). negℤ (pos j)) z
 
 pub demand-2 : Demand2
 demand-2 = record {
@@ -375,7 +393,7 @@ demand-2 = record {
       let there = subst (λ (j : ℕ). BackCall n x (take j after) lent′ (b .given) after′) (sym is) (b .outcome) in
       let (z′, same, e) = back-again (a .outcome) z there (omega arith) in
       let count′ : countOf (b .given) ≡ count = same ∙ is in
-      (b .number ∙ count-in-C (b .given) z′ ∙ ap pos count′, sym (ap (λ (j : ℕ). take j after′) count′) ∙ e);
+      (b .number ∙ answer-in-C (b .given) z′ ∙ ap pos count′, sym (ap (λ (j : ℕ). take j after′) count′) ∙ e);
 }
 
 -- the blocks that a linkage call writes are those of a tree, but for the single entries

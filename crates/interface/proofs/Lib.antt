@@ -1,7 +1,6 @@
 pub mod Refusals
 pub mod Pieces
 pub mod Names
-pub mod Places
 pub mod Digits
 pub mod Numerals
 pub mod Lines
@@ -17,4 +16,6 @@ pub mod Unique
 pub mod Requests
 pub mod Unscored
 pub mod RowStarts
+pub mod Places
+pub mod Pool
 pub mod SharedExample

@@ -115,6 +115,15 @@ pub passes : (checks : List (ℕ × Bool)) → T (numbered checks) → firstOf c
 passes checks t e i h = all-in (λ (c : ℕ × Bool). not (c .1)) checks (first-none checks t .0 e) (getD-in checks i (0, false) h)
 
 -- two tables, one behind the other
+pub none-append : (l m : List (ℕ × Bool)) → T (none (l ++ m)) ↔ (T (none l) × T (none m))
+unfolding all
+none-append [] m = (λ t. (tt, t), λ (_, u). u)
+none-append (c ∷ l) m = go (c .1) (none-append l m)
+  where
+    go : (b : Bool) → T (none (l ++ m)) ↔ (T (none l) × T (none m)) → T (not b && none (l ++ m)) ↔ (T (not b && none l) × T (none m))
+    go true ih = (λ t. absurd t, λ (t, _). absurd t)
+    go false ih = ih
+
 pub first-append : (l m : List (ℕ × Bool)) → T (numbered l) → firstOf (l ++ m) ≡ cond (eqb (firstOf l) 0) (firstOf m) (firstOf l)
 unfolding firstOf all
 first-append [] m t = refl

@@ -63,7 +63,7 @@ use Rattle.interface.proofs.Demands.{c-refused, answered, wrote, wrote-
 use Rattle.interface.proofs.Requests.{shared-given}
 
 -- a number that stands once in a table is given exactly if its condition holds and none before it does
-abbrev apart : ℕ → List Check → Bool
+abbrev pub apart : ℕ → List Check → Bool
 apart k checks = all (λ c. not (eqb (c .0) k)) checks
 
 never : (k : ℕ) (checks : List Check) → 0 < k → T (apart k checks) → firstOf checks ≡ k → ⊥
@@ -75,7 +75,7 @@ never k (c ∷ checks) h t e = go (c .0) (c .1) t e (never k checks h)
     go m true t e ih = eqb-no m k (and-T (not (eqb m k)) (apart k checks) t .0) e
     go m false t e ih = ih (and-T (not (eqb m k)) (apart k checks) t .1) e
 
-first-at : (k : ℕ) → 0 < k → (before : List Check) (holds : Bool) (after : List Check) → T (apart k before) → T (apart k after)
+pub first-at : (k : ℕ) → 0 < k → (before : List Check) (holds : Bool) (after : List Check) → T (apart k before) → T (apart k after)
     → (firstOf (before ++ ((k, holds) ∷ after)) ≡ k) ↔ (T (none before) × T holds)
 unfolding firstOf all
 first-at k h [] true after t u = (λ _. (tt, tt), λ _. refl)
@@ -191,7 +191,7 @@ given k c e f =
     (λ z. f .0 (sym q ∙ z), λ x. q ∙ f .1 x)
 
 -- what was written for kind 1 is the strong groups
-strong-wrote : {n : ℕ} {s : Similarity} {found : List (ℕ × ℤ)} → Wrote (pos 1) n s found → found ≡ groups strong n s
+pub strong-wrote : {n : ℕ} {s : Similarity} {found : List (ℕ × ℤ)} → Wrote (pos 1) n s found → found ≡ groups strong n s
 unfolding kindOf eqZ
 strong-wrote w = wrote w .0
 

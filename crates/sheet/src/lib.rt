@@ -51,7 +51,7 @@ pub fn wrong_names(sheet: &[u8]) -> bool
     !are_names(&sheet[..end])
 }
 
-fn same_bytes(a: &[u8], b: &[u8]) -> bool
+pub fn same_bytes(a: &[u8], b: &[u8]) -> bool
     ensures { λ r. ⌜ r ≡ sameBytes (now (a .entry)) (now (b .entry)) ⌝ }
 {
     let mut i: usize = 0;

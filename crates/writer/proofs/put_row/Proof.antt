@@ -98,9 +98,11 @@ returns c =
     let l = p .before .before .before .before in
     let s = l .before .before .before in
     let e : l .loop .j + 1 ≡ s .args .n = omega (arith, l .loop .inv .0, l .loop .inv .1) in
-    let few = cell-short (s .args .n) (s .args .pairs .now) (s .pre .0 .2) (s .pre .0 .3) (s .args .i) (l .loop .j) (omega arith) (omega arith) 10 in
-    (omega (arith, last-put p .place, few, l .loop .inv .4), subst (λ (n : ℕ). Put (s .args .out .now) (s .args .at) (rowText n (score (s .args .pairs .now)) (s .args .i) ++ (10 ∷ [])) (p .put-pair2 .last .0) (p .put-pair2 .result)) e
-    (rw (add-one (l .loop .j), row-cells (l .loop .j)) (then (l .loop .inv .5) (last-put p))))
+    let few = cell-short (s .args .n) (s .args .pairs .now) (s .pre .0 .2) (s .pre .0 .3) (s .args .i) (l .loop .j) (omega arith) (omega arith) 10 in (
+      omega (arith, last-put p .place, few, l .loop .inv .4),
+      subst (λ (n : ℕ). Put (s .args .out .now) (s .args .at) (rowText n (score (s .args .pairs .now)) (s .args .i) ++ (10 ∷ [])) (p .put-pair2 .last .0) (p .put-pair2 .result)) e
+          (rw (add-one (l .loop .j), row-cells (l .loop .j)) (then (l .loop .inv .5) (last-put p))),
+    )
 
 pub put-row-spec : {M : Type 1} → statement M
 put-row-spec =

@@ -1,0 +1,453 @@
+-- Request 2.4, from the outcomes of the calls, what is read back of a sheet as it is written, and the theorems about pooled scores.
+use mathlib.Core.Path.{_≡_, refl, sym, ap, ap₂, _∙_, subst, subst₂}
+use mathlib.Core.Bool.{Bool, true, false, not}
+use mathlib.Core.Logic.{_⊎_, inl, inr, _↔_, Iff·trans}
+use mathlib.Core.List.{List, [], _∷_, _++_}
+use Prim.Native.Nat.{ℕ, _^_, _<_}
+use native.Mathlib.Omega.{arith}
+use borrow.Author.Tests.{not-false}
+use lib.Dec.{T, T-not, not-T, eqb, lit<}
+use lib.IntN.{ℤ, pos, _+ℤ_}
+use lib.ListN.{length, getD}
+use lib.Signed.{_≤ℤ_}
+use Rattle.lists.specs.Lists.{_lists_, below, all, Distinct}
+use Rattle.lists.proofs.Tests.{T-false, false-T, true-T, and-T, T-and, T-or-not, T-same, or-none}
+use Rattle.lists.proofs.Lists.{lt-below, all-in, some-fails}
+use Rattle.integers.specs.Integers.{eqZ}
+use Rattle.integers.proofs.Linear.{eqZ-yes}
+use Rattle.sets.specs.Sets.{has}
+use Rattle.sets.proofs.Sets.{has-yes, yes-has}
+use Rattle.pairs.specs.declared.Carried.{Carried}
+use Rattle.pairs.specs.declared.Carried.the-variants.{Scored, Unscored}
+use Rattle.pairs.specs.Pairs.{numberFor, carried}
+use Rattle.clusters.specs.PairList.{Similarity, Symmetric, score, scoreLimit, isAllowedPair, scoresInRange}
+use Rattle.clusters.specs.Groups.{strong, kindOf, index, writtenSet}
+use Rattle.clusters.specs.Reordering.{Permutation, Reordered, image}
+use Rattle.clusters.specs.Pooling.{added, pooled}
+use Rattle.clusters.proofs.PairList.{length-pairList, of-pairList, score-symm, score-mirrored, score-pairList}
+use Rattle.clusters.proofs.Groups.{of-listed, is-listed, listed-index, in-groups}
+use Rattle.clusters.proofs.Images.{image-only}
+use Rattle.clusters.proofs.Scored.{AllAllowed, allowed-within, within-range, list-allowed}
+use Rattle.clusters.proofs.Fillings.{filled-cong}
+use Rattle.clusters.proofs.Pooled.{added-carried, pooled-symmetric, pooled-turned, pooled-index, pooled-strong}
+use Rattle.interface.specs.Sheet.{isName, lines, names, entries, value, pairs, mirrored}
+use Rattle.interface.specs.Pool.{placeOn, poolScores, poolPairs, poolText}
+use Rattle.interface.specs.Refusals.{
+  Check,
+  none,
+  wrongNames,
+  equalNames,
+  wrongCount,
+  namesDiffer,
+  check17,
+  check18,
+  check14,
+  readerChecks,
+  sheetChecks,
+  poolChecks,
+  poolRefusal,
+}
+use Rattle.interface.specs.Demands.{Wrote}
+use Rattle.interface.specs.Requests.{Pooled, by-pool-call, by-pool-in-C, SameName, SameSet, SameNames, SumOutOfRange, Request-2-4}
+use Rattle.interface.proofs.Refusals.{first-none, none-append, passes, some-count}
+use Rattle.interface.proofs.Accepted.{not-not}
+use Rattle.interface.proofs.Names.{distinct-names}
+use Rattle.interface.proofs.Places.{Matching, same-count, moved-lt, moved-name, moved-only, renumbering, same-names, names-same}
+use Rattle.interface.proofs.SheetTexts.{
+  WellFormed,
+  sheetText-cong,
+  sheetText-names,
+  sheetText-value,
+  sheetText-pairs,
+  sheetText-accepted,
+}
+use Rattle.interface.proofs.Demands.{taken, not-refused, counted, wrote-allowed, demand-3}
+use Rattle.interface.proofs.Demands.{text-number, text-refusal, text-refused, text-count, text-written, text-either}
+use Rattle.interface.proofs.Unscored.{first-at, strong-wrote}
+
+-- what checks 2 to 9 and 11 leave of a sheet
+record Sound (s : List ℕ) : Type 0 where
+  named : T (all isName (names s))
+  distinct : Distinct (names s)
+  count : wrongCount (length (names s)) ≡ false
+  scores : (i j : ℕ) → i < entries s → j < entries s → score (pairs s) i j ≡ value s i j
+  allowed : AllAllowed scoreLimit (entries s) (value s)
+
+left : (s : List ℕ) → T (none (sheetChecks s))
+    → T (not (wrongNames s)) × T (not (equalNames s)) × T (not (wrongCount (entries s))) × T (mirrored (entries s) (value s)) × T (scoresInRange (pairs s))
+unfolding sheetChecks readerChecks all
+left s t =
+    let checks = sheetChecks s in
+    let e = first-none checks tt .1 t in (
+      passes checks tt e 2 (lit< tt),
+      passes checks tt e 3 (lit< tt),
+      passes checks tt e 4 (lit< tt),
+      not-not (mirrored (entries s) (value s)) (passes checks tt e 7 (lit< tt)),
+      not-not (scoresInRange (pairs s)) (passes checks tt e 8 (lit< tt)),
+    )
+
+mirrored-same : (n : ℕ) (v : Similarity) → T (mirrored n v) → (i j : ℕ) → i < n → j < n → v i j ≡ v j i
+unfolding mirrored
+mirrored-same n v t i j h k = eqZ-yes (v i j) (v j i) (all-in (λ j. eqZ (v i j) (v j i)) (below n)
+    (all-in (λ i. all (λ j. eqZ (v i j) (v j i)) (below n)) (below n) t (lt-below n i h)) (lt-below n j k))
+
+sound : (s : List ℕ) → T (none (sheetChecks s)) → Sound s
+unfolding wrongNames equalNames entries pairs
+sound s t =
+    let (four, five, six, nine, eleven) = left s t in
+    let n = entries s in
+    let same = score-mirrored n (value s) (mirrored-same n (value s) nine) in
+    record {
+      named = true-T (not-false (all isName (names s)) (or-none (eqb (length (lines s)) 1) (not (all isName (names s))) (T-false {b = wrongNames s} four) .1));
+      distinct = distinct-names (names s) (T-false {b = equalNames s} five);
+      count = T-false {b = wrongCount n} six;
+      scores = same;
+      allowed = λ i j h k. subst (λ z. T (isAllowedPair scoreLimit (carried z))) (same i j h k)
+          (list-allowed n (pairs s) (length-pairList n (value s)) eleven i j h k);
+    }
+
+-- the pool's scores are symmetric, and those that its pair list holds
+pool-symmetric : (first second : List ℕ) → Symmetric (poolScores first second)
+unfolding poolScores
+pool-symmetric first second =
+    pooled-symmetric (placeOn first second) (score (pairs first)) (score (pairs second)) (score-symm (pairs first)) (score-symm (pairs second))
+
+pool-allowed : (first second : List ℕ) → T (scoresInRange (poolPairs first second)) → AllAllowed scoreLimit (entries first) (poolScores first second)
+unfolding poolPairs
+pool-allowed first second t i j h k =
+    let n = entries first in
+    let s = poolScores first second in
+    subst (λ z. T (isAllowedPair scoreLimit (carried z))) (score-pairList n s (pool-symmetric first second) i j h k)
+    (list-allowed n (poolPairs first second) (length-pairList n s) t i j h k)
+
+-- two sheets that pass their checks, with the same names
+module _ {first second : List ℕ} (a : Sound first) (b : Sound second) (m : SameNames first second) where
+  matching : Matching (names first) (names second)
+  matching = record { first = a .distinct; second = b .distinct; there = m .there; back = m .back }
+
+  same-entries : entries first ≡ entries second
+  unfolding entries
+  same-entries = same-count matching
+
+  -- entry i of the first: the second has its name at one place
+  on-second : (i : ℕ) → i < entries first → SameName first second i (placeOn first second i)
+  unfolding entries placeOn
+  on-second i h = record { here = h; there = omega (arith, same-count matching, moved-lt matching i h); same = sym (moved-name matching i h) }
+
+  only-there : {i j : ℕ} → SameName first second i j → placeOn first second i ≡ j
+  unfolding entries placeOn
+  only-there {i} {j} q = moved-only matching i j (q .there) (q .same)
+
+  -- "each score is the sum. A pair unscored in either is unscored in the pool."
+  pool-number : {i i′ j j′ : ℕ} → SameName first second i i′ → SameName first second j j′
+      → poolScores first second i j ≡ numberFor (added (carried (value first i j)) (carried (value second i′ j′)))
+  unfolding poolScores pooled
+  pool-number {i} {i′} {j} {j′} p q = ap₂ (λ y z. numberFor (added (carried y) (carried z))) (a .scores i j (p .here) (q .here))
+      (ap₂ (score (pairs second)) (only-there p) (only-there q) ∙ b .scores i′ j′ (p .there) (q .there))
+
+  pool-carried : {i i′ j j′ : ℕ} → SameName first second i i′ → SameName first second j j′
+      → carried (poolScores first second i j) ≡ added (carried (value first i j)) (carried (value second i′ j′))
+  pool-carried {i} {i′} {j} {j′} p q = ap carried (pool-number p q)
+      ∙ added-carried (carried (value first i j)) (carried (value second i′ j′)) (a .allowed i j (p .here) (q .here)) (b .allowed i′ j′ (p .there) (q .there))
+
+  -- 18: "a sum out of range"
+  sum-out : T (not (scoresInRange (poolPairs first second))) → SumOutOfRange first second
+  unfolding scoresInRange poolPairs added isAllowedPair
+  sum-out t =
+      let (v, k, f) = some-fails (λ v. isAllowedPair scoreLimit (carried v)) (poolPairs first second) t in
+      let (i, j, h, l, e) = of-pairList (entries first) (poolScores first second) k in
+      let p = on-second i h in
+      let q = on-second j (omega arith) in
+      go i (placeOn first second i) j (placeOn first second j) p q (carried (value first i j)) (carried (value second (placeOn first second i) (placeOn first second j))) refl refl
+      (subst (λ c. T (not (isAllowedPair scoreLimit c))) (ap carried e ∙ pool-carried p q) f)
+    where
+      go : (i i′ j j′ : ℕ) → SameName first second i i′ → SameName first second j j′ → (c d : Carried) → carried (value first i j) ≡ c → carried (value second i′ j′) ≡ d
+          → T (not (isAllowedPair scoreLimit (added c d))) → SumOutOfRange first second
+      go i i′ j j′ p q (Scored y) (Scored z) e f t = record {
+        i = i;
+        j = j;
+        i′ = i′;
+        j′ = j′;
+        one = p;
+        other = q;
+        y = y;
+        z = z;
+        here = e;
+        there = f;
+        out = λ w. T-not (isAllowedPair scoreLimit (Scored (y +ℤ z))) t (within-range w);
+      }
+      go i i′ j j′ p q (Scored y) Unscored e f t = absurd t
+      go i i′ j j′ p q Unscored d e f t = absurd t
+
+  out-sum : SumOutOfRange first second → T (not (scoresInRange (poolPairs first second)))
+  unfolding added
+  out-sum o = not-T (scoresInRange (poolPairs first second)) (λ t. o .out (allowed-within (subst (λ c. T (isAllowedPair scoreLimit c))
+      (pool-carried (o .one) (o .other) ∙ ap₂ added (o .here) (o .there)) (pool-allowed first second t (o .i) (o .j) (o .one .here) (o .other .here)))))
+
+-- the table
+module _ (first second : List ℕ) where
+  abbrev before : List Check
+  before = sheetChecks first ++ sheetChecks second
+
+  abbrev differing : Bool
+  differing = namesDiffer (names first) (names second)
+
+  abbrev ranging : Bool
+  ranging = scoresInRange (poolPairs first second)
+
+  both-sound : T (none before) → Sound first × Sound second
+  both-sound t = let (p, q) = none-append (sheetChecks first) (sheetChecks second) .0 t in (sound first p, sound second q)
+
+  -- 17: "the two name sets differ"
+  same-iff : T (not differing) ↔ SameNames first second
+  same-iff = (
+    λ t. let (f, g) = same-names (names first) (names second) (T-false {b = differing} t) in record { there = f; back = g },
+    λ m. false-T (names-same (names first) (names second) (m .there) (m .back)),
+  )
+
+  differ-iff : T differing ↔ (SameNames first second → ⊥)
+  differ-iff = (λ t m. T-not differing (same-iff .1 m) t, λ f. go f (T-or-not differing))
+    where
+      go : (SameNames first second → ⊥) → T differing ⊎ T (not differing) → T differing
+      go f (inl t) = t
+      go f (inr t) = absurd (f (same-iff .0 t))
+
+  module _ (buffer : ℕ) where
+    abbrev room : Check
+    room = check14 buffer (poolText first second)
+
+    at-seventeen : (poolRefusal first second buffer ≡ 17) ↔ (T (none before) × T differing)
+    unfolding poolRefusal poolChecks sheetChecks readerChecks all
+    at-seventeen = first-at 17 (lit< tt) before differing (check18 (poolPairs first second) ∷ room ∷ []) tt tt
+
+    at-eighteen : (poolRefusal first second buffer ≡ 18) ↔ (T (none (before ++ (check17 first second ∷ []))) × T (not ranging))
+    unfolding poolRefusal poolChecks sheetChecks readerChecks all
+    at-eighteen = first-at 18 (lit< tt) (before ++ (check17 first second ∷ [])) (not ranging) (room ∷ []) tt tt
+
+    pool-seventeen : (poolRefusal first second buffer ≡ 17) ↔ (T (none before) × (SameNames first second → ⊥))
+    pool-seventeen = Iff·trans at-seventeen (λ (t, u). (t, differ-iff .0 u), λ (t, f). (t, differ-iff .1 f))
+
+    pool-eighteen : (poolRefusal first second buffer ≡ 18) ↔ (T (none before) × SameNames first second × SumOutOfRange first second)
+    unfolding all
+    pool-eighteen =
+        let g = none-append before (check17 first second ∷ []) in
+        Iff·trans at-eighteen (
+          λ (t, u).
+              let (s, d) = g .0 t in
+              let (a, b) = both-sound s in
+              let m = same-iff .0 (and-T (not differing) true d .0) in
+              (s, m, sum-out a b m u),
+          λ (s, m, o). let (a, b) = both-sound s in (g .1 (s, T-and (not differing) true (same-iff .1 m) tt), out-sum a b m o),
+        )
+
+    -- what a table that gives no number leaves
+    pool-passed : poolRefusal first second buffer ≡ 0 → T (none before) × T (not differing) × T ranging
+    unfolding poolRefusal poolChecks sheetChecks readerChecks all
+    pool-passed e =
+        let checks = poolChecks first second buffer in (
+          none-append before (check17 first second ∷ check18 (poolPairs first second) ∷ room ∷ []) .0 (first-none checks tt .0 e) .0,
+          passes checks tt e 18 (lit< tt),
+          not-not ranging (passes checks tt e 19 (lit< tt)),
+        )
+
+-- bytes that a call wrote are the pool of two sheets that pass
+record Written (first second bytes : List ℕ) : Type 0 where
+  one : Sound first
+  two : Sound second
+  same : SameNames first second
+  range : T (scoresInRange (poolPairs first second))
+  are : bytes ≡ poolText first second
+
+accepted : (first second : List ℕ) (buffer : ℕ) {bytes : List ℕ} → poolRefusal first second buffer ≡ 0 → bytes ≡ poolText first second → Written first second bytes
+accepted first second buffer e q =
+    let (t, m, r) = pool-passed first second buffer e in
+    let (a, b) = both-sound first second t in
+    record { one = a; two = b; same = same-iff first second .0 m; range = r; are = q }
+
+written : {first second bytes : List ℕ} → Pooled first second bytes → Written first second bytes
+unfolding poolRefusal
+written {first} {second} (by-pool-call {lent} {after} {r} c z) =
+    let k = poolRefusal first second (length lent) in
+    let text = poolText first second in
+    let e = not-refused k (length text) (c .answered) z in
+    accepted first second (length lent) e (taken e text lent (c .written) (sym (counted k (length text) (c .answered) z)))
+written {first} {second} (by-pool-in-C {lent} c count e) =
+    let checks = poolChecks first second (length lent) in
+    let text = poolText first second in
+    let a = c .outcome .answered in
+    let w = c .outcome .written in
+    accepted first second (length lent) (text-count c checks text lent a w count e .0) (text-written c checks text lent a w count e .0)
+
+-- what is read back of the pool
+module _ {first second bytes : List ℕ} (x : Written first second bytes) where
+  formed : WellFormed (names first) (poolScores first second)
+  unfolding entries poolPairs
+  formed = record {
+    some = some-count (length (names first)) (x .one .count);
+    named = x .one .named;
+    distinct = x .one .distinct;
+    symmetric = λ i j _ _. pool-symmetric first second i j;
+    allowed = x .range;
+  }
+
+  pool-sheet : T (none (sheetChecks bytes))
+  unfolding poolText
+  pool-sheet = subst (λ (t : List ℕ). T (none (sheetChecks t))) (sym (x .are)) (sheetText-accepted formed (x .one .count))
+
+  pool-names : names bytes ≡ names first
+  unfolding poolText
+  pool-names = ap names (x .are) ∙ sheetText-names formed
+
+  pool-entries : entries bytes ≡ entries first
+  unfolding entries
+  pool-entries = ap length pool-names
+
+  pool-value : (i j : ℕ) → i < entries first → j < entries first → value bytes i j ≡ poolScores first second i j
+  unfolding poolText entries
+  pool-value i j h k = ap (λ (t : List ℕ). value t i j) (x .are) ∙ sheetText-value formed i j h k
+
+  pool-score : (i j : ℕ) → i < entries first → j < entries first → score (pairs bytes) i j ≡ poolScores first second i j
+  unfolding poolText entries
+  pool-score i j h k =
+      ap (λ (t : List ℕ). score (pairs t) i j) (x .are) ∙ ap (λ (l : List ℤ). score l i j) (sheetText-pairs formed)
+      ∙ score-pairList (length (names first)) (poolScores first second) (pool-symmetric first second) i j h k
+
+  -- from an entry of the first sheet to that of the second with the same name
+  order : Permutation (entries first)
+  unfolding entries
+  order = renumbering (matching (x .one) (x .two) (x .same))
+
+  -- a set of names: a set of entries of the first sheet, and its image on the second
+  set-image : {A B : ℕ} → SameSet first second A B → B ≡ image (entries first) order A
+  unfolding order renumbering entries placeOn
+  set-image {A} {B} q = image-only (entries first) order A B (subst (λ (n : ℕ). B < 2 ^ n) (sym (same-entries (x .one) (x .two) (x .same))) (q .there)) λ i h.
+      let (to, from) = q .same i (order .to i) (on-second (x .one) (x .two) (x .same) i h) in
+      T-same (has B (order .to i)) (has A i) (λ t. yes-has A i (from (has-yes B (order .to i) t))) (λ t. yes-has B (order .to i) (to (has-yes A i t)))
+
+  scores-turned : Reordered (entries first) order (poolScores first second) (poolScores second first)
+  unfolding order renumbering entries poolScores placeOn
+  scores-turned = pooled-turned (entries first) order (score (pairs first)) (score (pairs second))
+
+  -- "a set of names strong in both is strong in the pool, with an index no smaller than the two added"
+  pool-strong : {found found′ pool : List (ℕ × ℤ)}
+      → Wrote (pos 1) (entries first) (score (pairs first)) found
+      → Wrote (pos 1) (entries second) (score (pairs second)) found′
+      → Wrote (pos 1) (entries bytes) (score (pairs bytes)) pool
+      → (A B : ℕ) → SameSet first second A B → (y z : ℤ) → found lists (A, y) → found′ lists (B, z)
+      → (v : ℤ) × (pool lists (A, v)) × ((y +ℤ z) ≤ℤ v)
+  unfolding order renumbering entries poolScores placeOn index
+  pool-strong {found} {found′} {pool} w w′ u A B q y z l l′ =
+      let n = entries first in
+      let s = score (pairs first) in
+      let t = score (pairs second) in
+      let r = score (pairs bytes) in
+      let c = same-entries (x .one) (x .two) (x .same) in
+      let w₁ = subst (λ (m : ℕ). Wrote (pos 1) m t found′) (sym c) w′ in
+      let u₁ = subst (λ (m : ℕ). Wrote (pos 1) m r pool) pool-entries u in
+      let (h, a, e) = in-groups strong n s A y .0 (subst (λ (g : List (ℕ × ℤ)). g lists (A, y)) (strong-wrote w) l) in
+      let (_, b, f) = in-groups strong n t (image n order A) z .0
+      (subst₂ (λ (g : List (ℕ × ℤ)) (C : ℕ). g lists (C, z)) (strong-wrote w₁) (set-image q) l′) in
+      let is : index strong n (poolScores first second) A ≡ index strong n r A = filled-cong scoreLimit n (poolScores first second) r A (λ i j hi hj. sym (pool-score i j hi hj)) in
+      let p = pooled-strong n order s t (wrote-allowed w) (wrote-allowed w₁) A a b in
+      let least = pooled-index n order s t (wrote-allowed w) (wrote-allowed w₁) A a b in
+      let v = index strong n r A in (
+        v,
+        subst (λ (g : List (ℕ × ℤ)). g lists (A, v)) (sym (strong-wrote u₁)) (in-groups strong n r A v .1
+            (h, is-listed strong n r A (of-listed strong n s A a .0) (subst (λ i. pos 1 ≤ℤ i) is (listed-index strong n (poolScores first second) A p)), refl)),
+        subst₂ (λ i k. i ≤ℤ k) (sym (ap₂ _+ℤ_ e f)) is least,
+      )
+
+-- a set of names, of sheets with the same lines of names
+set-named : {s t s′ t′ : List ℕ} {A B : ℕ} → names s ≡ names s′ → names t ≡ names t′ → SameSet s t A B → SameSet s′ t′ A B
+unfolding entries
+set-named {A = A} {B = B} e f q = record {
+  here = subst (λ (ns : List (List ℕ)). A < 2 ^ length ns) e (q .here);
+  there = subst (λ (ns : List (List ℕ)). B < 2 ^ length ns) f (q .there);
+  same = λ i j r. q .same i j (record {
+    here = subst (λ (ns : List (List ℕ)). i < length ns) (sym e) (r .here);
+    there = subst (λ (ns : List (List ℕ)). j < length ns) (sym f) (r .there);
+    same = ap (λ (ns : List (List ℕ)). getD ns i []) e ∙ r .same ∙ sym (ap (λ (ns : List (List ℕ)). getD ns j []) f);
+  });
+}
+
+-- the pool of the sheets the other way round
+module _ {first second bytes bytes′ : List ℕ} (x : Written first second bytes) (x′ : Written second first bytes′) where
+  pool-reordered : Reordered (entries first) (order x) (score (pairs bytes)) (score (pairs bytes′))
+  pool-reordered = record {
+    same = λ i j h k. pool-score x′ (order x .to i) (order x .to j) (there i h) (there j k) ∙ scores-turned x .same i j h k ∙ sym (pool-score x i j h k);
+  }
+    where
+      there : (i : ℕ) → i < entries first → order x .to i < entries second
+      there i h = subst (λ (n : ℕ). order x .to i < n) (same-entries (x .one) (x .two) (x .same)) (order x .to-lt i h)
+
+  pool-turned : {kind : ℤ} {found found′ : List (ℕ × ℤ)}
+      → Wrote kind (entries bytes) (score (pairs bytes)) found → Wrote kind (entries bytes′) (score (pairs bytes′)) found′
+      → (A B : ℕ) → SameSet bytes bytes′ A B → (z : ℤ)
+      → (found lists (writtenSet (kindOf kind) (entries bytes) A, z)) ↔ (found′ lists (writtenSet (kindOf kind) (entries bytes′) B, z))
+  pool-turned {kind} {found} {found′} w w′ A B q z =
+      let n = entries first in
+      let k = kindOf kind in
+      let e = pool-entries x in
+      let e′ = pool-entries x′ ∙ sym (same-entries (x .one) (x .two) (x .same)) in
+      let these = set-named (pool-names x) (pool-names x′) q in
+      let g = demand-3 kind .reordered (subst (λ (m : ℕ). Wrote kind m (score (pairs bytes)) found) e w)
+      (subst (λ (m : ℕ). Wrote kind m (score (pairs bytes′)) found′) e′ w′) (order x) pool-reordered A (these .here) z in
+      subst₂ (λ (m m′ : ℕ). (found lists (writtenSet k m A, z)) ↔ (found′ lists (writtenSet k m′ B, z))) (sym e) (sym e′)
+      (subst (λ (C : ℕ). (found lists (writtenSet k n A, z)) ↔ (found′ lists (writtenSet k n C, z))) (sym (set-image x these)) g)
+
+-- another order of the second's names
+other-order : {first second second′ bytes bytes′ : List ℕ} → Written first second bytes → Written first second′ bytes′
+    → ((i i′ j j′ : ℕ) → SameName second second′ i i′ → SameName second second′ j j′ → value second′ i′ j′ ≡ value second i j) → bytes′ ≡ bytes
+unfolding poolText entries
+other-order {first} {second} {second′} x x′ f = x′ .are ∙ sheetText-cong (names first) (poolScores first second′) (poolScores first second) scores ∙ sym (x .are)
+  where
+    here : (i : ℕ) → i < entries first → SameName first second i (placeOn first second i)
+    here = on-second (x .one) (x .two) (x .same)
+
+    there : (i : ℕ) → i < entries first → SameName first second′ i (placeOn first second′ i)
+    there = on-second (x′ .one) (x′ .two) (x′ .same)
+
+    across : (i : ℕ) → i < entries first → SameName second second′ (placeOn first second i) (placeOn first second′ i)
+    across i h = record { here = here i h .there; there = there i h .there; same = sym (here i h .same) ∙ there i h .same }
+
+    scores : (i j : ℕ) → i < entries first → j < entries first → poolScores first second′ i j ≡ poolScores first second i j
+    scores i j h k =
+        pool-number (x′ .one) (x′ .two) (x′ .same) (there i h) (there j k)
+        ∙ ap (λ z. numberFor (added (carried (value first i j)) (carried z)))
+        (f (placeOn first second i) (placeOn first second′ i) (placeOn first second j) (placeOn first second′ j) (across i h) (across j k))
+        ∙ sym (pool-number (x .one) (x .two) (x .same) (here i h) (here j k))
+
+pub request-2-4 : Request-2-4
+unfolding poolRefusal
+request-2-4 = record {
+  refusal = λ {first} {second} {lent} c. text-refusal c (table first second lent) (poolText first second) lent (c .outcome .answered) (c .outcome .written);
+  refused = λ {first} {second} {lent} c. text-refused c (table first second lent) (poolText first second) lent (c .outcome .answered) (c .outcome .written);
+  own-bytes = λ {first} {second} {lent} c count e.
+      let checks = table first second lent in
+      let text = poolText first second in
+      let a = c .outcome .answered in
+      let w = c .outcome .written in
+      let (bytes, rest) = text-written c checks text lent a w count e in
+      (ap length bytes ∙ text-count c checks text lent a w count e .1, rest);
+  either = λ {first} {second} {lent} c.
+      or-count (text-either c (table first second lent) (poolText first second) lent (c .outcome .answered) (c .outcome .written));
+  seventeen = λ {first} {second} {lent} c. Iff·trans
+      (text-number c (table first second lent) (poolText first second) lent (c .outcome .answered) (c .outcome .written) 17 (lit< tt))
+      (pool-seventeen first second (length lent));
+  eighteen = λ {first} {second} {lent} c. Iff·trans
+      (text-number c (table first second lent) (poolText first second) lent (c .outcome .answered) (c .outcome .written) 18 (lit< tt))
+      (pool-eighteen first second (length lent));
+  a-sheet = λ c. pool-sheet (written c);
+  its-names = λ c. let x = written c in (pool-names x, x .same);
+  its-pairs = λ c i i′ j j′ p q. let x = written c in ap carried (pool-value x i j (p .here) (q .here)) ∙ pool-carried (x .one) (x .two) (x .same) p q;
+  any-order = λ c c′. other-order (written c) (written c′);
+  strong-in-both = λ c w w′ u. pool-strong (written c) w w′ u;
+  turned = λ c c′ w w′. pool-turned (written c) (written c′) w w′;
+}
+  where
+    table : (first second lent : List ℕ) → List Check
+    table first second lent = poolChecks first second (length lent)
+
+    or-count : {X : Type 0} {r : ℤ} {count : ℕ} → X ⊎ (r ≡ pos count) → X ⊎ ((count : ℕ) × (r ≡ pos count))
+    or-count (inl x) = inl x
+    or-count {count = count} (inr e) = inr (count, e)
