@@ -1,26 +1,24 @@
 -- The sheet call: its checks, what was read, and its ways out.
-use mathlib.Core.Path.{_≡_, sym, ap, _∙_}
+use mathlib.Core.Path.{_≡_, sym}
 use mathlib.Core.Bool.{true, false, cond}
 use mathlib.Core.List.{List}
-use Prim.Native.Nat.{ℕ, _≤_}
+use Prim.Native.Nat.{ℕ}
 use native.Mathlib.Omega.{arith}
 use borrow.Author.Tests.{ne-eqb}
 use lib.Dec.{eqb}
 use lib.IntN.{ℤ}
-use lib.ListN.{length, take, length-take}
+use lib.ListN.{length}
 use Rattle.lists.specs.Lists.{all}
-use Rattle.clusters.specs.PairList.{rowStart}
 use Rattle.answers.specs.declared.Answer.{Answer}
 use Rattle.answers.specs.declared.Answer.the-variants.{Count, Refused}
 use Rattle.answers.specs.Answers.{answer, slots}
 use Rattle.answers.proofs.WaysOut.{refused}
-use Rattle.interface.specs.Sheet.{space, names, entries, pairs}
+use Rattle.interface.specs.Sheet.{entries, pairs}
 use Rattle.interface.specs.Listing.{sheetListing}
 use Rattle.interface.specs.Refusals.{wrongKind, sheetCallChecks, sheetRefusal, readerChecks, readerRefusal}
 use Rattle.interface.specs.Calls.{SheetCall}
 use Rattle.interface.proofs.Refusals.{gives, first-yes, first-no, first-append}
-use Rattle.interface.proofs.Pieces.{some-piece}
-use Rattle.reader.proofs.Answers.{number-is, entries-is, passes-few, pairs-length, slots-pairs}
+use Rattle.reader.proofs.Answers.{number-is, entries-is}
 use Rattle.farzhudyl.specs.Pairs.{pairsRefusal, PairsListed}
 
 -- the call's checks: check 1, then the sheet's, then the pair list's
@@ -32,24 +30,6 @@ module _ (kind : ℤ) (s : List ℕ) (room : ℕ) where
   right-kind : wrongKind kind ≡ false → let k = readerRefusal s in sheetRefusal kind s room ≡ cond (eqb k 0) (pairsRefusal kind (entries s) (pairs s) room) k
   unfolding sheetRefusal sheetCallChecks sheetListing pairsRefusal readerRefusal readerChecks all
   right-kind e = sym (gives (first-no e (record { is = sym (first-append (readerChecks s) _ tt) })))
-
--- the entries and the pair list of a sheet that was read
-module _ (s : List ℕ) {n : ℕ} (e : answer (readerRefusal s) (entries s) ≡ Count n) where
-  pub few-entries : n ≤ 32
-  few-entries = rw (entries-is s n e .1) (passes-few s (entries-is s n e .0))
-
-  pub some-entries : 1 ≤ n
-  unfolding entries names
-  some-entries = rw (entries-is s n e .1) (some-piece space _)
-
-  pub pairs-read : (lent : List ℤ) {held : List ℤ} {count : ℕ} → held ≡ slots (readerRefusal s) (pairs s) lent → count ≡ rowStart n → take count held ≡ pairs s
-  pairs-read lent w c = rw (c, entries-is s n e .1, w) (slots-pairs s lent (entries-is s n e .0))
-
-  pub pairs-long : {l : List ℤ} → l ≡ pairs s → length l ≡ rowStart n
-  pairs-long p = ap length p ∙ pairs-length s ∙ ap rowStart (sym (entries-is s n e .1))
-
-  pub pairs-fit : (held : List ℤ) {count : ℕ} → count ≡ rowStart n → take count held ≡ pairs s → count ≤ length held
-  pairs-fit held {count} c p = omega (arith, pairs-long p, length-take count held)
 
 -- the ways out
 module _ (kind : ℤ) (s lent : List ℕ) where

@@ -66,12 +66,13 @@ use Rattle.interface.proofs.Demands.{text-number, text-refusal, text-re
 use Rattle.interface.proofs.Unscored.{first-at, strong-wrote}
 
 -- what checks 2 to 9 and 11 leave of a sheet
-record Sound (s : List ℕ) : Type 0 where
-  named : T (all isName (names s))
-  distinct : Distinct (names s)
-  count : wrongCount (length (names s)) ≡ false
-  scores : (i j : ℕ) → i < entries s → j < entries s → score (pairs s) i j ≡ value s i j
-  allowed : AllAllowed scoreLimit (entries s) (value s)
+pub record Sound (s : List ℕ) : Type 0 where
+  pub named : T (all isName (names s))
+  pub distinct : Distinct (names s)
+  pub count : wrongCount (length (names s)) ≡ false
+  pub range : T (scoresInRange (pairs s))
+  pub scores : (i j : ℕ) → i < entries s → j < entries s → score (pairs s) i j ≡ value s i j
+  pub allowed : AllAllowed scoreLimit (entries s) (value s)
 
 left : (s : List ℕ) → T (none (sheetChecks s))
     → T (not (wrongNames s)) × T (not (equalNames s)) × T (not (wrongCount (entries s))) × T (mirrored (entries s) (value s)) × T (scoresInRange (pairs s))
@@ -91,7 +92,7 @@ unfolding mirrored
 mirrored-same n v t i j h k = eqZ-yes (v i j) (v j i) (all-in (λ j. eqZ (v i j) (v j i)) (below n)
     (all-in (λ i. all (λ j. eqZ (v i j) (v j i)) (below n)) (below n) t (lt-below n i h)) (lt-below n j k))
 
-sound : (s : List ℕ) → T (none (sheetChecks s)) → Sound s
+pub sound : (s : List ℕ) → T (none (sheetChecks s)) → Sound s
 unfolding wrongNames equalNames entries pairs
 sound s t =
     let (four, five, six, nine, eleven) = left s t in
@@ -101,13 +102,14 @@ sound s t =
       named = true-T (not-false (all isName (names s)) (or-none (eqb (length (lines s)) 1) (not (all isName (names s))) (T-false {b = wrongNames s} four) .1));
       distinct = distinct-names (names s) (T-false {b = equalNames s} five);
       count = T-false {b = wrongCount n} six;
+      range = eleven;
       scores = same;
       allowed = λ i j h k. subst (λ z. T (isAllowedPair scoreLimit (carried z))) (same i j h k)
           (list-allowed n (pairs s) (length-pairList n (value s)) eleven i j h k);
     }
 
 -- the pool's scores are symmetric, and those that its pair list holds
-pool-symmetric : (first second : List ℕ) → Symmetric (poolScores first second)
+pub pool-symmetric : (first second : List ℕ) → Symmetric (poolScores first second)
 unfolding poolScores
 pool-symmetric first second =
     pooled-symmetric (placeOn first second) (score (pairs first)) (score (pairs second)) (score-symm (pairs first)) (score-symm (pairs second))

@@ -1,0 +1,5 @@
+pub mod Pieces
+pub mod Sums
+pub mod Texts
+pub mod Readings
+pub mod Sheets

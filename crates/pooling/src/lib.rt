@@ -112,7 +112,7 @@ fn write_sums(line: &[u8], sums: &[i32], n: usize, out: &mut [u8]) -> Answer
         return Answer::Refused(18);
     }
     // room for line 1 and 32 lines of 32 values, 9 bytes each, and for what the writer asks beyond
-    let mut text = [0u8; 9518];
+    let mut text = [0u8; 9517];
     let written = writer::write(&mut text, line, sums, n);
     if out.len() < written {
         return Answer::Refused(14);

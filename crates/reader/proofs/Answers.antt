@@ -8,7 +8,7 @@ use borrow.Author.Tests.{ne-eqb, eqb-false, ltb-false, lt-ltb, le-ltb}
 use native.Mathlib.Decide.{decLt}
 use lib.Dec.{T, eqb, ltb, lit<}
 use lib.IntN.{ℤ}
-use lib.ListN.{length, getD, take, drop}
+use lib.ListN.{length, getD, take, drop, length-take}
 use lib.Seq.{take-at}
 use Rattle.lists.specs.Lists.{below, all}
 use Rattle.lists.proofs.Lists.{below-lt, lt-below, all-in, in-all, all-cong}
@@ -21,7 +21,7 @@ use Rattle.answers.specs.declared.Answer.the-variants.{Count, Refused}
 use Rattle.answers.specs.Answers.{answer, slots}
 use Rattle.answers.proofs.Answers.{slots-written}
 use Rattle.answers.proofs.WaysOut as ways
-use Rattle.interface.specs.Sheet.{names, entries, value, pairs, mirrored}
+use Rattle.interface.specs.Sheet.{space, names, entries, value, pairs, mirrored}
 use Rattle.interface.specs.Refusals.{
   mostBytes,
   wrongLength,
@@ -34,6 +34,7 @@ use Rattle.interface.specs.Refusals.{
 }
 use Rattle.interface.specs.Calls.{ReaderCall, hasName, nameOf, startOf, nameStart, behind, NameCall}
 use Rattle.interface.proofs.Refusals.{Gives, no-first, right-count}
+use Rattle.interface.proofs.Pieces.{some-piece}
 use Rattle.reader.specs.Square.{square, Holds}
 use Rattle.reader.specs.Names.{NamePart}
 
@@ -133,6 +134,24 @@ passes-few s e₁ =
 pub slots-pairs : (s : List ℕ) (l : List ℤ) → readerRefusal s ≡ 0
     → take (rowStart (entries s)) (slots (readerRefusal s) (pairs s) l) ≡ pairs s
 slots-pairs s l e = rw (e, slots-written (pairs s) l) (take-at (pairs s) _ (rowStart (entries s)) (pairs-length s))
+
+-- the entries and the pair list of a sheet that was read
+module _ (s : List ℕ) {n : ℕ} (e : answer (readerRefusal s) (entries s) ≡ Count n) where
+  pub few-entries : n ≤ 32
+  few-entries = rw (entries-is s n e .1) (passes-few s (entries-is s n e .0))
+
+  pub some-entries : 1 ≤ n
+  unfolding entries names
+  some-entries = rw (entries-is s n e .1) (some-piece space _)
+
+  pub pairs-read : (lent : List ℤ) {held : List ℤ} {count : ℕ} → held ≡ slots (readerRefusal s) (pairs s) lent → count ≡ rowStart n → take count held ≡ pairs s
+  pairs-read lent w c = rw (c, entries-is s n e .1, w) (slots-pairs s lent (entries-is s n e .0))
+
+  pub pairs-long : {l : List ℤ} → l ≡ pairs s → length l ≡ rowStart n
+  pairs-long p = ap length p ∙ pairs-length s ∙ ap rowStart (sym (entries-is s n e .1))
+
+  pub pairs-fit : (held : List ℤ) {count : ℕ} → count ≡ rowStart n → take count held ≡ pairs s → count ≤ length held
+  pairs-fit held {count} c p = omega (arith, pairs-long p, length-take count held)
 
 -- the name of an entry: whether there is one, and where it stands
 module _ (s : List ℕ) (i : ℕ) where

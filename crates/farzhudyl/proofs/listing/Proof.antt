@@ -7,7 +7,8 @@ use Rattle.interface.specs.Refusals.{wrongKind, readerRefusal}
 use Rattle.interface.specs.Sheet.{entries, pairs}
 use Rattle.answers.specs.declared.Answer.the-variants.{Count}
 use Rattle.answers.specs.Answers.{answer}
-use Rattle.farzhudyl.proofs.Sheets.{few-entries, some-entries, pairs-read, pairs-long, pairs-fit, refused-kind, refused-sheet, read-sheet}
+use Rattle.reader.proofs.Answers.{few-entries, some-entries, pairs-read, pairs-long, pairs-fit}
+use Rattle.farzhudyl.proofs.Sheets.{refused-kind, refused-sheet, read-sheet}
 use Rattle.farzhudyl.proofs.listing.Statement.{statement}
 use Rattle.farzhudyl.proofs.listing.Tie as tie
 

@@ -1,44 +1,45 @@
-use borrow.Author.Needs.{needs}
+use mathlib.Core.Path.{_≡_, refl, _∙_}
+use Prim.Native.Nat.{_-_, _≤_}
 use native.Mathlib.Omega.{arith}
+use borrow.Author.Needs.{needs}
+use lib.ListN.{length, getD}
+use Rattle.clusters.specs.PairList.{score}
+use Rattle.clusters.specs.Pooling.{pooled}
+use Rattle.clusters.proofs.Rows.{Rows, rows-none, rows-row, rows-all}
 use Rattle.pooling.proofs.add.Statement.{statement}
 use Rattle.pooling.proofs.add.Tie as tie
-use Rattle.pooling.proofs.add.Reads as reads
-use Rattle.pooling.proofs.add.Lts as lts
-use Rattle.pooling.proofs.add_row.Reads as add-row-reads
 
 abbrev Inv-loop : tie.InvT-loop
-Inv-loop first second places n out₀ i₀ out i = ?
+Inv-loop first second places n out₀ i₀ out i =
+    (i ≤ n) × (length out ≡ length out₀) × Rows (pooled (λ k. getD places k 0) (score first) (score second)) out₀ out i
 
 abbrev μ-loop : tie.MeasureT-loop
-μ-loop first second places n out₀ i₀ out i = ?
+μ-loop first second places n out₀ i₀ out i = n - i
 
--- src/lib.rt:100:5
+-- the row that is written
+loop-again : tie.Need-loop-again Inv-loop μ-loop
+loop-again c = let v = c .before .before .before .before .loop .inv in let r = c .before .add-row in
+    (omega arith, r .kept .1 .1 .1 .1 .1 .0 ∙ v .1, rows-row (v .2) (r .ensures))
+
 loop-holds : tie.Need-loop-holds Inv-loop μ-loop
-loop-holds c = search needs
+loop-holds c = (omega arith, refl, rows-none)
 
--- src/lib.rt:101:9
 add-row-requires : tie.Need-add-row-requires Inv-loop μ-loop
-add-row-requires c κs = search needs
+add-row-requires c κs = let p = c .before .before .before .before .pre in
+    (p .0, p .1, p .2, p .3, p .4, p .5, p .6, omega arith, omega arith)
 
--- src/lib.rt:100:9
 add-i : tie.Need-add-i Inv-loop μ-loop
 add-i c = search needs
 
--- src/lib.rt:100:5
 loop-less : tie.Need-loop-less Inv-loop μ-loop
 loop-less c = search needs
 
--- src/lib.rt:100:5
-loop-again : tie.Need-loop-again Inv-loop μ-loop
-loop-again c = search needs
-
--- src/lib.rt:93:1
 same-length : tie.Need-same-length Inv-loop μ-loop
 same-length c = search needs
 
--- src/lib.rt:93:1
 returns : tie.Need-returns Inv-loop μ-loop
-returns c = search needs
+returns c = let s = c .before in let a = s .before .before in let e : s .loop .i ≡ a .args .n = omega arith in
+    rows-all (a .args .n) (s .loop .inv .2) e (a .pre .7)
 
 pub add-spec : {M : Type 1} → statement M
 add-spec =

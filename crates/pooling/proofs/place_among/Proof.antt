@@ -1,65 +1,84 @@
-use borrow.Author.Needs.{needs}
+use mathlib.Core.Path.{_≡_, sym, ap, _∙_}
+use Prim.Native.Nat.{_+_, _-_, _≤_}
 use native.Mathlib.Omega.{arith}
+use borrow.Author.Needs.{needs}
+use lib.ListN.{length, drop}
+use Rattle.interface.specs.Sheet.{cut, sameBytes}
+use Rattle.interface.specs.Pool.{placeOf}
+use Rattle.text.specs.Reading.{pieceAt}
+use Rattle.text.proofs.Pieces.{piece-inside, piece-part}
+use Rattle.pooling.proofs.Pieces.{place-here, place-last, place-next}
 use Rattle.pooling.proofs.place_among.Statement.{statement}
 use Rattle.pooling.proofs.place_among.Tie as tie
-use Rattle.pooling.proofs.place_among.Reads as reads
-use Rattle.pooling.proofs.place_among.Lts as lts
-use Rattle.sheet.proofs.same_bytes.Reads as same-bytes-reads
-use Rattle.text.proofs.piece_end.Reads as piece-end-reads
 
 abbrev Inv-loop : tie.InvT-loop
-Inv-loop word line at₀ place₀ at place = ?
+Inv-loop word line at₀ place₀ at place =
+    (at ≤ length line) × (place ≤ at) × (place + placeOf word (cut 32 (drop at line)) ≡ placeOf word (cut 32 line))
 
 abbrev μ-loop : tie.MeasureT-loop
-μ-loop word line at₀ place₀ at place = ?
+μ-loop word line at₀ place₀ at place = length line - at
 
--- src/lib.rt:26:5
 loop-holds : tie.Need-loop-holds Inv-loop μ-loop
-loop-holds c = search needs
+loop-holds c = (omega arith, omega arith, omega arith)
 
--- src/lib.rt:27:13
 piece-end-requires : tie.Need-piece-end-requires Inv-loop μ-loop
 piece-end-requires c κs = search needs
 
--- src/lib.rt:28:36
 sub-same-bytes : tie.Need-sub-same-bytes Inv-loop μ-loop
 sub-same-bytes c = search needs
 
--- src/lib.rt:28:36
 part-same-bytes-start : tie.Need-part-same-bytes-start Inv-loop μ-loop
 part-same-bytes-start c = search needs
 
--- src/lib.rt:28:36
 part-same-bytes-end : tie.Need-part-same-bytes-end Inv-loop μ-loop
-part-same-bytes-end c = search needs
+part-same-bytes-end c =
+    let l = c .before .loop in
+    piece-inside 32 (c .before .before .before .before .args .line .now) (l .at) _ (l .inv .0) (c .piece-end .ensures)
 
--- src/lib.rt:28:12
 same-bytes-requires : tie.Need-same-bytes-requires Inv-loop μ-loop
 same-bytes-requires c κs = search needs
 
--- src/lib.rt:29:13
-returns : tie.Need-returns Inv-loop μ-loop
-returns c = search needs
+-- what the call says of the piece of a turn
+compared : (c : tie.After-same-bytes Inv-loop μ-loop) →
+    let p = c .before .before in
+    let a = p .before .before .before .before .args in
+    c .same-bytes .result ≡ sameBytes (a .word .now) (pieceAt 32 (a .line .now) (p .before .loop .at))
+compared c =
+    let p = c .before .before in
+    let a = p .before .before .before .before .args in
+    let l = p .before .loop in
+    c .same-bytes .ensures ∙ ap (sameBytes (a .word .now)) (piece-part 32 _ (l .at) _ (l .inv .0) (p .piece-end .ensures))
 
--- src/lib.rt:31:9
+returns : tie.Need-returns Inv-loop μ-loop
+returns c =
+    let l = c .before .before .before .before .loop in
+    omega (arith, l .inv .2, place-here _ _ (l .at) (sym (compared (c .before)) ∙ c .if1 .taken))
+
 add-place : tie.Need-add-place Inv-loop μ-loop
 add-place c = search needs
 
--- src/lib.rt:33:13
 returns-2 : tie.Need-returns-2 Inv-loop μ-loop
-returns-2 c = search needs
+returns-2 c =
+    let p = c .before .before .before .before in
+    let l = p .before .loop in
+    let e = sym (compared (c .before .before)) ∙ c .before .if1 .left in
+    omega (arith, l .inv .2, place-last _ _ (l .at) _ (l .inv .0) (p .piece-end .ensures) e (c .if2 .taken))
 
--- src/lib.rt:35:14
 add-at : tie.Need-add-at Inv-loop μ-loop
 add-at c = search needs
 
--- src/lib.rt:26:5
 loop-less : tie.Need-loop-less Inv-loop μ-loop
-loop-less c = search needs
+loop-less c = omega (arith, c .before .before .before .before .piece-end .ensures)
 
--- src/lib.rt:26:5
 loop-again : tie.Need-loop-again Inv-loop μ-loop
-loop-again c = search needs
+loop-again c =
+    let p = c .before .before .before .before in
+    let l = p .before .loop in
+    let e = sym (compared (c .before .before)) ∙ c .before .if1 .left in (
+      omega arith,
+      omega (arith, l .inv .1, p .piece-end .ensures),
+      omega (arith, l .inv .2, place-next _ _ (l .at) _ (l .inv .0) (p .piece-end .ensures) e (c .if2 .left)),
+    )
 
 pub place-among-spec : {M : Type 1} → statement M
 place-among-spec =
