@@ -1,4 +1,4 @@
--- What each call can answer: a refusal's number is at most 16, and the count is bounded where no check refuses.
+-- What each call can answer: a refusal's number is at most 18, and the count is bounded where no check refuses.
 use mathlib.Core.Path.{_≡_, ap}
 use mathlib.Core.Bool.{Bool}
 use mathlib.Core.List.{List, _∷_}
@@ -23,7 +23,12 @@ use Rattle.interface.specs.Refusals.{
   backRefusal,
   readerChecks,
   readerRefusal,
+  sheetChecks,
+  poolChecks,
+  poolRefusal,
 }
+use Rattle.interface.specs.Pool.{poolText}
+use Rattle.interface.proofs.Pool.{pool-room}
 use Rattle.clusters.specs.Groups.{kindOf}
 use Rattle.clusters.proofs.PairList.{rowStart-le}
 use Rattle.interface.proofs.Refusals.{no-first, first-le, right-count}
@@ -40,10 +45,10 @@ use Rattle.farzhudyl.proofs.Room.{groups-few}
 abbrev pub Small : Answer → Type 0
 Small a = (numberOf a < 2 ^ 63) × (countOf a < 2 ^ 63)
 
-small : (checks : List (ℕ × Bool)) {a : Answer} {c : ℕ} → T (all (λ k. leb (k .0) 16) checks)
-    → a ≡ answer (firstOf checks) c → (firstOf checks ≡ 0 → c ≤ 528) → Small a
+small : (checks : List (ℕ × Bool)) {a : Answer} {c : ℕ} → T (all (λ k. leb (k .0) 18) checks)
+    → a ≡ answer (firstOf checks) c → (firstOf checks ≡ 0 → c ≤ 9504) → Small a
 small checks {a} {c} t e h =
-    (omega (arith, ap numberOf e, number-answer (firstOf checks) c, first-le 16 checks t), omega (arith, ap countOf e, count-most (firstOf checks) h))
+    (omega (arith, ap numberOf e, number-answer (firstOf checks) c, first-le 18 checks t), omega (arith, ap countOf e, count-most (firstOf checks) h))
 
 -- a call whose first check is 6
 few : (n : ℕ) (checks : List (ℕ × Bool)) → firstOf ((6, wrongCount n) ∷ checks) ≡ 0 → n ≤ 32
@@ -56,11 +61,11 @@ module _ {a : Answer} (n : ℕ) (l : List ℤ) where
 
   pub anchored-small : (x room : ℕ) → a ≡ answer (anchoredRefusal n x l room) (rowStart n) → Small a
   unfolding anchoredRefusal anchoredChecks all
-  anchored-small x room e = small (anchoredChecks n x l room) tt e (λ z. rowStart-le n (few n _ z))
+  anchored-small x room e = small (anchoredChecks n x l room) tt e (λ z. let h = rowStart-le n (few n _ z) in omega arith)
 
   pub back-small : (x room : ℕ) → a ≡ answer (backRefusal n x l room) (rowStart n) → Small a
   unfolding backRefusal backChecks all
-  back-small x room e = small (backChecks n x l room) tt e (λ z. rowStart-le n (few n _ z))
+  back-small x room e = small (backChecks n x l room) tt e (λ z. let h = rowStart-le n (few n _ z) in omega arith)
 
   pub numbers-small : (kind : ℤ) (sets indices : ℕ)
       → a ≡ answer (numbersRefusal kind n l sets indices) (length (groupsFound kind n l)) → Small a
@@ -71,3 +76,7 @@ module _ {a : Answer} (n : ℕ) (l : List ℤ) where
 pub read-small : {a : Answer} (s : List ℕ) → a ≡ answer (readerRefusal s) (entries s) → Small a
 unfolding readerRefusal readerChecks all
 read-small s e = small (readerChecks s) tt e (λ z. let h = passes-few s z in omega arith)
+
+pub pool-small : {a : Answer} (first second : List ℕ) (room : ℕ) → a ≡ answer (poolRefusal first second room) (length (poolText first second)) → Small a
+unfolding poolRefusal poolChecks sheetChecks readerChecks all
+pool-small first second room e = small (poolChecks first second room) tt e (pool-room first second room)

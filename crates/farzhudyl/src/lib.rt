@@ -7,7 +7,7 @@ ghost use Rattle.clusters.specs.PairList.{rowStart};
 ghost use Rattle.clusters.specs.Linkage.{single, average};
 ghost use Rattle.answers.specs.Answers.{numberOf, countOf};
 ghost use Rattle.interface.specs.Calls.{SheetCall, cNumber, InC, CCall, NumbersCall, LinkageCall};
-ghost use Rattle.interface.specs.Calls.{AnchoredCall, BackCall, ReaderCall, NameInC, ScoreInC, SharedInC};
+ghost use Rattle.interface.specs.Calls.{AnchoredCall, BackCall, ReaderCall, NameInC, ScoreInC, SharedInC, PoolCall};
 ghost use Rattle.farzhudyl.specs.Pairs.{PairsListed};
 use answers::Answer;
 use answers::Shared;
@@ -216,4 +216,12 @@ pub extern "C" fn farzhudyl_smallest_shared(
             minus(number)
         }
     }
+}
+
+#[no_mangle]
+pub extern "C" fn farzhudyl_pool(first: &[u8], second: &[u8], out: &mut [u8]) -> i64
+    ensures { λ r. ⌜ InC (λ a. PoolCall (now (first .entry)) (now (second .entry))
+        (now (out .entry)) a (now (out .exit))) r ⌝ }
+{
+    as_number(pooling::pool(first, second, out))
 }

@@ -301,18 +301,15 @@ sharedChecks kind n l i j =
 unfoldable pub sheetChecks : List ℕ → List Check
 sheetChecks s = readerChecks s ++ (check11 (pairs s) ∷ [])
 
-unfoldable pub poolChecks : (first second : List ℕ) → (buffer : ℕ) → List Check
-poolChecks first second buffer =
-    sheetChecks first
-    ++ (
-    sheetChecks second
-    ++ (
+abbrev pub bothChecks : (first second : List ℕ) → (buffer : ℕ) → List Check
+bothChecks first second buffer =
     check17 first second
     ∷ check18 (poolPairs first second)
     ∷ check14 buffer (poolText first second)
     ∷ []
-    )
-    )
+
+unfoldable pub poolChecks : (first second : List ℕ) → (buffer : ℕ) → List Check
+poolChecks first second buffer = sheetChecks first ++ (sheetChecks second ++ bothChecks first second buffer)
 
 -- the number of the refusal that each call gives, 0 if none
 unfoldable pub sheetRefusal : ℤ → List ℕ → (buffer : ℕ) → ℕ

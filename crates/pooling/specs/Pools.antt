@@ -11,8 +11,8 @@ use Rattle.answers.specs.Answers.{answer, slots}
 use Rattle.clusters.specs.PairList.{rowStart, score}
 use Rattle.interface.specs.Sheet.{space, cut, entries, pairs, isAmong}
 use Rattle.interface.specs.SheetText.{sheetText}
-use Rattle.interface.specs.Pool.{placeOf, poolPairs, poolText}
-use Rattle.interface.specs.Refusals.{firstOf, check14, check17, check18, sheetChecks}
+use Rattle.interface.specs.Pool.{placeOf, poolText}
+use Rattle.interface.specs.Refusals.{firstOf, check14, check18, sheetChecks, bothChecks}
 
 -- a sheet that checks 2 to 9 and 11 pass, its number of entries and its pair list
 pub record Accepted (sheet : List ℕ) (n : ℕ) (l : List ℤ) : Type 0 where
@@ -39,9 +39,7 @@ pub record SumsWritten (line : List ℕ) (sums : List ℤ) (lent : List ℕ) (r 
 
 -- checks 17, 18 and 14; and the outcome
 unfoldable pub pairsRefusal : (first second : List ℕ) → (buffer : ℕ) → ℕ
-pairsRefusal first second buffer =
-    firstOf
-    (check17 first second ∷ check18 (poolPairs first second) ∷ check14 buffer (poolText first second) ∷ [])
+pairsRefusal first second buffer = firstOf (bothChecks first second buffer)
 
 pub record PairsPooled (first second lent : List ℕ) (r : Answer) (after : List ℕ) : Type 0 where
   pub answered : r ≡ answer (pairsRefusal first second (length lent)) (length (poolText first second))
