@@ -57,9 +57,10 @@
    Two groups of one kind are nested or share no entry.
 
    REFUSALS
-   A call that can be refused makes its checks in the order of this table, and the first that fails is the answer. A refused call
-   has written nothing, but for the set that farzhudyl_smallest_shared answers, which is then 0. No call asks anything of the values it
-   is handed: any bytes and any numbers get the answer described here.
+   A call that can be refused makes its checks in the order of this table, and the first that fails is the answer; farzhudyl_pool makes
+   those up to 11 on its first sheet, then on its second. A refused call has written nothing, but for the set that
+   farzhudyl_smallest_shared answers, which is then 0. No call asks anything of the values it is handed: any bytes and any numbers get
+   the answer described here.
       1  kind is not 1, 2 or 3; in farzhudyl_smallest_shared, not 1 or 2
       2  the sheet has 0 bytes, or over 12,288
       3  a byte of the sheet is not A to Z, 0 to 9, minus, space or line feed
@@ -74,9 +75,11 @@
      16  a pair is unscored; not for kind 1
      12  distances: a value is negative, or an own value is not 0
      13  a result slice of farzhudyl_numbers has fewer than 2n slots
-     14  the listing has more bytes than the buffer
      15  an anchor or an entry number is n or more; a result slice is shorter than the result; a list is not the anchored scores, at
          that anchor, of any distances passing 11 and 12
+     17  the sets of names of the two sheets differ
+     18  a sum of two scores is below -1,000,000 or above 1,000,000
+     14  the listing or the pool has more bytes than the buffer
 
    WHAT THE CALLER OWES
    A pointer with a length points to that many bytes or slots; it may be null where the length is 0. A pointer without a length
@@ -112,8 +115,10 @@ enum {
 /* The value of an unscored pair in a pair list: -2,147,483,648. */
 #define FARZHUDYL_UNSCORED INT32_MIN
 
-/* Room that always serves: bytes for a listing; slots for the groups of farzhudyl_numbers; slots for the blocks of a linkage. */
+/* Room that always serves: bytes for a listing; bytes for the pool of two sheets; slots for the groups of farzhudyl_numbers; slots for
+   the blocks of a linkage. */
 #define FARZHUDYL_LISTING_MAX 2048
+#define FARZHUDYL_POOL_MAX 9504
 #define FARZHUDYL_GROUPS_MAX 64
 #define FARZHUDYL_BLOCKS_MAX 31
 
@@ -182,6 +187,25 @@ int64_t farzhudyl_pair_list(const uint8_t *sheet, size_t sheet_len, int32_t pair
    sheet[*start + length - 1]. If one of checks 2 to 9 refuses the sheet, or the sheet has no such entry, the length is 0 and *start
    is 0. */
 size_t farzhudyl_name(const uint8_t *sheet, size_t sheet_len, size_t entry, size_t *start);
+
+/* The pool of two sheets of the same entries, as a sheet, to the buffer out of out_len bytes. The entries go by their names, which may
+   stand in another order on the second sheet; in the pool they stand in the first's. Each score is the sum of the two sheets' scores. A
+   pair unscored on either sheet is unscored in the pool. Example, the first sheet, the second, their pool:
+
+       A B C D     C A D B     A B C D
+       9 7 2 1     8 2 - 1     18 13 4 4
+       7 8 3 1     2 9 3 6     13 17 4 3
+       2 3 9 4     - 3 7 2     4 4 17 -
+       1 1 4 6     1 6 2 9     4 3 - 13
+
+   Answers the pool's length in bytes, and has then written that many bytes at the start of out and no other; or minus the refusal's
+   number. Checks 2 to 9 and 11 of the first sheet, then 2 to 9 and 11 of the second, 17, 18 (an unscored pair has no sum), 14. Room that
+   always serves: FARZHUDYL_POOL_MAX bytes.
+
+   The pool passes 2 to 9 and 11, so every call takes it as far as these go. Any order of the second sheet's names gives the same bytes.
+   A set of names that is a strong group of both sheets is one of the pool, with an index of at least the two added: above, A and B have
+   4, 3 and 9. The other way round the names stand in the other order, and the groups of each kind are the same. */
+int64_t farzhudyl_pool(const uint8_t *first, size_t first_len, const uint8_t *second, size_t second_len, uint8_t *out, size_t out_len);
 
 /* The score of two entries a and b, counted from 0, in the pair list of n entries; any values may stand in it.
 
