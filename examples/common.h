@@ -22,14 +22,21 @@ static inline bool read_kind(const char *text, int32_t *kind)
     return true;
 }
 
-/* Reads standard input, up to one byte more than a sheet may have, so that a longer sheet is refused. */
+/* Reads a file, called by its name where it fails, up to one byte more than a sheet may have, so that a longer sheet is refused. */
+static inline bool read_file(const char *program, FILE *file, const char *name, uint8_t sheet[FARZHUDYL_SHEET_MAX + 1],
+                             size_t *sheet_len)
+{
+    *sheet_len = file == NULL ? 0 : fread(sheet, 1, FARZHUDYL_SHEET_MAX + 1, file);
+    if (file != NULL && !ferror(file))
+        return true;
+    fprintf(stderr, "%s: cannot read %s\n", program, name);
+    return false;
+}
+
+/* Reads standard input. */
 static inline bool read_sheet(const char *program, uint8_t sheet[FARZHUDYL_SHEET_MAX + 1], size_t *sheet_len)
 {
-    *sheet_len = fread(sheet, 1, FARZHUDYL_SHEET_MAX + 1, stdin);
-    if (!ferror(stdin))
-        return true;
-    fprintf(stderr, "%s: cannot read standard input\n", program);
-    return false;
+    return read_file(program, stdin, "standard input", sheet, sheet_len);
 }
 
 /* Whether an entry, counted from 0, is in a set. */

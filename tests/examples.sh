@@ -2,8 +2,9 @@
 # Compiles the header alone and every program of examples/, as C11 and as C++17. Runs each program on every sheet of examples/ and of
 # tests/examples/ under each kind, and compares what it writes with tests/examples/PROGRAM/SHEET.KIND, or with the file beside the sheet
 # (examples/SHEET.KIND for client, examples/SHEET.KIND.names for show). For shared each line of SHEET.KIND has two names and what is to be
-# written of them. Tries bad usage, refused sheets, input and output that fail, for shared names that are not there, and for lines damaged
-# listings. Runs the C builds under valgrind. The last line is `N passed, M failed`; the exit status is 1 if anything failed.
+# written of them. pool, which takes no kind but two sheets, has cases of its own. Tries bad usage, refused sheets, input and output that
+# fail, for shared names that are not there, and for lines damaged listings. Runs the C builds under valgrind. The last line is
+# `N passed, M failed`; the exit status is 1 if anything failed.
 # usage: tests/examples.sh [PREFIX]     PREFIX is where the library is installed; without it, this folder's header and library are taken
 set -u
 root=$(cd "$(dirname "$0")/.." && pwd) || exit 2
@@ -193,6 +194,48 @@ on_names() { # FILE
     done
 }
 
+# Pools: in the order of either sheet, of a sheet with itself, and of as many bytes as there can be; 17, of two of four names too, and 18.
+on_pools() { # COMMAND ..
+    local four=examples/four.sheet two=$built/refused/12.own books=examples/books.sheet stones=examples/stones.sheet
+    expect "$* of books and stones" 0 examples/pooled.sheet '' "$@" "$books" "$stones"
+    expect "$* of stones and books" 0 tests/examples/pool/stones-books '' "$@" "$stones" "$books"
+    expect "$* of four and four" 0 tests/examples/pool/four-four '' "$@" "$four" "$four"
+    expect "$* of 32 entries" 0 "$built/crowd.-1000000" '' "$@" "$built/crowd.-1" "$built/crowd.-999999"
+    expect_refusal "$* of other names" 17 pool "$@" "$four" examples/burials.sheet
+    expect_refusal "$* of more names" 17 pool "$@" "$two" "$four"
+    expect_refusal "$* of fewer names" 17 pool "$@" "$four" "$two"
+    expect_refusal "$* of a sum out of range" 18 pool "$@" "$built/crowd.-1000000" "$built/crowd.-1"
+}
+
+# A refused sheet as the first and as the second to pool; where both are refused, it is the first that counts.
+on_refused_pool() { # NUMBER.WHAT COMMAND ..
+    local sheet=$built/refused/$1 number=${1%%.*} empty=$built/refused/2.no-bytes
+    shift
+    expect_refusal "$* $sheet, first" "$number" pool "$@" "$sheet" examples/four.sheet
+    expect_refusal "$* $sheet, second" "$number" pool "$@" examples/four.sheet "$sheet"
+    expect_refusal "$* $sheet, before no bytes" "$number" pool "$@" "$sheet" "$empty"
+    expect_refusal "$* $sheet, after no bytes" 2 pool "$@" "$empty" "$sheet"
+}
+
+# All that pool is tried on.
+on_pool() { # FILE
+    local file=$1 four=examples/four.sheet sheet bad way usage='usage: pool FIRST SECOND'
+    on_pools "$file"
+    for sheet in "$built"/refused/{?.*,11.*}; do on_refused_pool "$(basename "$sheet")" "$file"; done
+    expect "$file without sheets" 2 /dev/null "$usage" "$file"
+    expect "$file with one sheet" 2 /dev/null "$usage" "$file" "$four"
+    expect "$file with three sheets" 2 /dev/null "$usage" "$file" "$four" "$four" "$four"
+    for bad in / "$built/none" ''; do
+        expect "$file '$bad', first" 2 /dev/null "pool: cannot read $bad" "$file" "$bad" "$four"
+        expect "$file '$bad', second" 2 /dev/null "pool: cannot read $bad" "$file" "$four" "$bad"
+    done
+    for way in to_full to_closed; do
+        for sheet in "$four" examples/burials.sheet; do # a pool, and a refusal
+            expect "$way $file $sheet" 2 /dev/null 'pool: cannot write standard output' "$way" "$file" "$four" "$sheet"
+        done
+    done
+}
+
 from_folder() { "$@" </; }
 from_closed() { "$@" <&-; }
 to_full() { "$@" >/dev/full; }
@@ -247,6 +290,12 @@ printf 'A B\n0 -\n- 0\n' >16.unscored
 printf 'A B\n- -1\n-1 1\n' >16.own-unscored
 cd "$root" || exit 2
 
+# 32 entries with names of 8 bytes, each value the same.
+for value in -1 -999999 -1000000; do
+    row=$(yes -- "$value" | head -n 32 | paste -sd ' ')
+    { seq -f 'ENTRY%03g' -s ' ' 32 && yes -- "$row" | head -n 32; } >"$built/crowd.$value"
+done
+
 printf '#include "farzhudyl.h"\n#include "farzhudyl.h"\n' >"$built/alone.c"
 for language in c c++; do
     compile "$language" -c "$built/alone.c" "${header[@]}" -o "$built/alone.o"
@@ -259,6 +308,10 @@ for language in c c++; do
         status=$?
         count "$status" "compiling $source as $language"
         if [ "$status" != 0 ]; then continue; fi
+        if [ "$program" = pool ]; then
+            on_pool "$file"
+            continue
+        fi
         for sheet in examples/*.sheet tests/examples/*.sheet; do
             for kind in 1 2 3; do on_sheet "$program" "$sheet" "$kind" "$file"; done
         done
@@ -282,6 +335,11 @@ for source in examples/*.c; do
     program=$(basename "$source" .c)
     file=$built/c/$program
     if [ ! -x "$file" ]; then continue; fi
+    if [ "$program" = pool ]; then
+        on_pools "${memory[@]}" "$file"
+        for sheet in 2.12289-bytes 9.mirrored 11.over; do on_refused_pool "$sheet" "${memory[@]}" "$file"; done
+        continue
+    fi
     set_names "$program"
     on_sheet "$program" examples/burials.sheet 1 "${memory[@]}" "$file"
     on_sheet "$program" examples/burials.sheet 2 "${memory[@]}" "$file"
@@ -292,12 +350,12 @@ for source in examples/*.c; do
 done
 on_missing LONGNAMEX "${memory[@]}" "$built/c/shared"
 
-# What examples/README.md shows of shared: each command, and the line behind it.
-mkdir "$built/shown" && ln -s "$root/examples" "$built/c/shared" "$built/shown" || exit 2
-sed -n 's/^    \$ \(\.\/shared .*\)/\1/p' examples/README.md >"$built/commands"
-sed -n '/^    \$ \.\/shared /{n;s/^    //p}' examples/README.md >"$built/wanted"
-[ -s "$built/wanted" ]
-count $? "examples/README.md shows what shared writes"
+# What examples/README.md shows: each command, and the lines behind it.
+mkdir "$built/shown" && ln -s "$root/examples" "$built/c/"{shared,pool} "$built/shown" || exit 2
+sed -n 's/^    \$ \(\.\/.*\)/\1/p' examples/README.md >"$built/commands"
+sed -n '/^    \$ /,/^$/{/^    \$ /d;s/^    //p}' examples/README.md >"$built/wanted"
+grep -q '^\./shared ' "$built/commands" && grep -q '^\./pool ' "$built/commands" && [ -s "$built/wanted" ]
+count $? "examples/README.md shows what shared and pool write"
 expect "the commands of examples/README.md" 0 "$built/wanted" '' env -C "$built/shown" bash -e "$built/commands"
 
 # How lines reads a listing: each case is a listing, in which printf's escapes stand for bytes.

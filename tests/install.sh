@@ -37,7 +37,7 @@ expected() {
         printf -- '-rwxr-xr-x ./bin/farzhudyl-%s \n' "$name"
         printf 'lrwxrwxrwx ./share/man/man1/farzhudyl-%s.1 farzhudyl.1\n' "$name"
     done
-    for name in listing numbers smallest_shared single_linkage average_linkage anchored_scores distances_back pair_list name score; do
+    for name in listing numbers smallest_shared single_linkage average_linkage anchored_scores distances_back pair_list name pool score; do
         printf 'lrwxrwxrwx ./share/man/man3/farzhudyl_%s.3 farzhudyl.3\n' "$name"
     done
 }
@@ -144,17 +144,25 @@ block() { # SECTION NUMBER
     awk -v wanted="$2" '/^\.Bd -literal/ { number++; on = 1; next } /^\.Ed/ { on = 0 } on && number == wanted' \
         "$prefix/share/man/man$1/farzhudyl.$1" | sed 's/\\&//g; s/\\e/\\/g'
 }
-for case in '3 1 examples/four.sheet' '3 2 tests/examples/client/four.strong' '1 1 examples/four.sheet' '1 2 tests/examples/client/four.clean' \
-    '1 3 examples/unscored.sheet' '1 4 examples/unscored.strong' '1 5 examples/copies.sheet' '1 6 tests/examples/client/copies.splits'; do
+for case in '3 1 examples/four.sheet' '3 2 tests/examples/client/four.strong' '3 3 examples/books.sheet' '3 4 examples/stones.sheet' \
+    '3 5 examples/pooled.sheet' '1 1 examples/four.sheet' '1 2 tests/examples/client/four.clean' '1 3 examples/unscored.sheet' \
+    '1 4 examples/unscored.strong' '1 5 examples/copies.sheet' '1 6 tests/examples/client/copies.splits'; do
     read -r section number file <<<"$case"
     block "$section" "$number" | diff "$file" -
     count $? "block $number of farzhudyl.$section"
 done
 (
-    cd "$room" && block 3 3 >groups.c && cp "$root/examples/four.sheet" . &&
-        block 3 4 | PKG_CONFIG_PATH=$prefix/lib/pkgconfig bash -e | diff "$root/tests/examples/client/four.strong" -
+    cd "$room" && block 3 6 >groups.c && cp "$root/examples/four.sheet" . &&
+        block 3 7 | PKG_CONFIG_PATH=$prefix/lib/pkgconfig bash -e | diff "$root/tests/examples/client/four.strong" -
 )
 count $? "the program that farzhudyl.3 shows, compiled as it says"
+# What the header shows of a pool: the two sheets and the pool, side by side.
+sed -n '/their pool:$/,/^   Answers/s/^       //p' include/farzhudyl.h >"$room/shown"
+for case in '1-7 books' '13-19 stones' '25- pooled'; do
+    read -r columns sheet <<<"$case"
+    diff "examples/$sheet.sheet" <(cut -c "$columns" "$room/shown")
+    count $? "$sheet.sheet in the header"
+done
 # And what README.md shows: the sheet with its two listings side by side, and the program with the line that compiles it.
 diff examples/four.sheet <(sed -n '/^    A B C D$/,/^$/s/^    //p' README.md | head -n 5)
 count $? "the sheet of README.md"
