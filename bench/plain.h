@@ -1,4 +1,5 @@
-/* Isolated groups and splits of a score sheet, in plain C. */
+/* Isolated groups and splits of a score sheet, and the pool of two sheets, in
+   plain C. */
 #ifndef PLAIN_H
 #define PLAIN_H
 
@@ -19,5 +20,11 @@ int64_t plain_listing(int32_t kind, const uint8_t *sheet, size_t sheet_len,
    the kind wants them. */
 int64_t plain_numbers(int32_t kind, int32_t n, const int32_t *pairs,
                       uint32_t *sets, int64_t *indices);
+
+/* Writes the pool of two sheets with the same names, which is a sheet, and
+   answers its length in bytes.  A refusal answers minus its number and writes
+   nothing. */
+int64_t plain_pool(const uint8_t *first, size_t first_len, const uint8_t *second,
+                   size_t second_len, uint8_t *out, size_t out_len);
 
 #endif

@@ -1,5 +1,5 @@
 /* Tests of the plain engine: the bench cases, the refusals, a check of random
-   sheets against the definitions over all sets, and reordering.
+   sheets against the definitions over all sets, reordering, and pools.
 
    cc -std=c11 -O2 -Wall -Wextra -Werror -pedantic plain.c plain_test.c */
 
@@ -12,6 +12,7 @@
 #include <string.h>
 
 enum { MAX_N = 32, MAX_PAIRS = MAX_N * (MAX_N + 1) / 2, ROOM = 4096 };
+enum { MAX_SHEET = 12288, MAX_POOL = 9504 };
 enum { MAX_SCORE = 1000000, UNSCORED = INT32_MIN };
 
 static int failures;
@@ -24,28 +25,49 @@ static void fail(const char *what)
 
 /* ---- sheets and expected answers ---- */
 
-/* Runs a call on copies of exact length, so that a checker of memory sees any
-   access beyond them, and checks that nothing but the listing is written. */
-static int64_t call(int32_t kind, const char *sheet, size_t len, uint8_t *text,
-                    size_t room)
+/* A copy of exact length, so that a checker of memory sees any access beyond
+   it. */
+static uint8_t *lend(const char *sheet, size_t len)
 {
-    uint8_t *lent = malloc(len + 1), *out = malloc(room + 1);
-    if (lent == NULL || out == NULL)
+    uint8_t *lent = malloc(len > 0 ? len : 1);
+    if (lent == NULL)
         abort();
     memcpy(lent, sheet, len);
-    lent = realloc(lent, len > 0 ? len : 1);
+    return lent;
+}
+
+/* Room for a text, and a byte more. */
+static uint8_t *lend_room(size_t room)
+{
+    uint8_t *out = malloc(room + 1);
+    if (out == NULL)
+        abort();
     memset(out, 0xA5, room + 1);
-    int64_t answer = plain_listing(kind, lent, len, out, room);
+    return out;
+}
+
+/* Takes the room back: copies what was written, and checks that nothing else
+   was. */
+static void take_back(uint8_t *out, size_t room, int64_t answer, uint8_t *text)
+{
     for (size_t i = answer > 0 ? (size_t)answer : 0; i <= room; i++) {
         if (out[i] != 0xA5) {
-            fail("a byte beyond the listing was written");
+            fail("a byte beyond the text was written");
             break;
         }
     }
     if (answer > 0)
         memcpy(text, out, (size_t)answer);
-    free(lent);
     free(out);
+}
+
+static int64_t call(int32_t kind, const char *sheet, size_t len, uint8_t *text,
+                    size_t room)
+{
+    uint8_t *lent = lend(sheet, len), *out = lend_room(room);
+    int64_t answer = plain_listing(kind, lent, len, out, room);
+    take_back(out, room, answer, text);
+    free(lent);
     return answer;
 }
 
@@ -83,15 +105,18 @@ static void refuses(int32_t kind, const char *sheet, int number)
     expect_refusal(sheet, kind, sheet, strlen(sheet), number);
 }
 
-/* Writes the sheet of a pair list; entry i has the name Ei. */
-static size_t write_sheet(int n, const int32_t *pairs, char *sheet)
+/* Writes the sheet of a pair list, in which entry i has the name Ei; the
+   entries stand in the given order. */
+static size_t write_ordered(int n, const int *order, const int32_t *pairs,
+                            char *sheet)
 {
     char *to = sheet;
     for (int i = 0; i < n; i++)
-        to += sprintf(to, "E%d%c", i, i < n - 1 ? ' ' : '\n');
+        to += sprintf(to, "E%d%c", order[i], i < n - 1 ? ' ' : '\n');
     for (int i = 0; i < n; i++) {
         for (int j = 0; j < n; j++) {
-            int high = i > j ? i : j, low = i > j ? j : i;
+            int a = order[i], b = order[j];
+            int high = a > b ? a : b, low = a > b ? b : a;
             int32_t value = pairs[high * (high + 1) / 2 + low];
             to += value == UNSCORED ? sprintf(to, "-")
                                     : sprintf(to, "%" PRId32, value);
@@ -99,6 +124,14 @@ static size_t write_sheet(int n, const int32_t *pairs, char *sheet)
         }
     }
     return (size_t)(to - sheet);
+}
+
+static size_t write_sheet(int n, const int32_t *pairs, char *sheet)
+{
+    int order[MAX_N + 1]; /* one entry too many is written too */
+    for (int i = 0; i < n; i++)
+        order[i] = i;
+    return write_ordered(n, order, pairs, sheet);
 }
 
 /* ---- bench cases ---- */
@@ -540,6 +573,15 @@ static void test_against_definitions(int sheets)
 
 /* ---- reordering, up to 32 entries ---- */
 
+static void random_order(int n, int *order)
+{
+    for (int i = 0; i < n; i++) {
+        int j = random_below(i + 1);
+        order[i] = order[j];
+        order[j] = i;
+    }
+}
+
 static void reorder_pairs(int n, const int *p, const int32_t *old, int32_t *new)
 {
     for (int i = 0; i < n; i++)
@@ -575,11 +617,7 @@ static void test_reordering(int sheets)
         uint32_t sets[2 * MAX_N + 1], moved_sets[2 * MAX_N + 1];
         int64_t indices[2 * MAX_N + 1], moved_indices[2 * MAX_N + 1];
         random_pairs(kind, n, pairs);
-        for (int i = 0; i < n; i++) {
-            int j = random_below(i + 1);
-            p[i] = p[j];
-            p[j] = i;
-        }
+        random_order(n, p);
         reorder_pairs(n, p, pairs, moved);
         int count = run_engine(kind, n, pairs, sets, indices);
         int moved_count = run_engine(kind, n, moved, moved_sets, moved_indices);
@@ -595,27 +633,203 @@ static void test_reordering(int sheets)
     }
 }
 
-/* Sheets with a few bytes altered: every answer is a listing or a refusal of
-   the table, and nothing lent is overrun. */
-static void test_altered_sheets(int sheets)
+/* Alters a few bytes of a sheet, or cuts it; answers its length. */
+static size_t alter(char *sheet, size_t len)
 {
     const char bytes[] = "AZ019- \n\nx";
+    for (int change = random_below(3); change >= 0; change--)
+        sheet[random_below((int32_t)len)] =
+            bytes[random_below((int32_t)sizeof bytes - 1)];
+    return random_below(4) == 0 ? (size_t)random_below((int32_t)len) : len;
+}
+
+/* Altered sheets: every answer is a listing or a refusal of the table, and
+   nothing lent is overrun. */
+static void test_altered_sheets(int sheets)
+{
     for (int round = 0; round < sheets && failures == 0; round++) {
         int32_t kind = 1 + round % 3, pairs[MAX_PAIRS];
         int n = 1 + random_below(round % 50 == 0 ? 32 : 4);
         char sheet[16384];
         uint8_t text[ROOM];
         random_pairs(kind, n, pairs);
-        size_t len = write_sheet(n, pairs, sheet);
-        for (int change = random_below(3); change >= 0; change--)
-            sheet[random_below((int32_t)len)] =
-                bytes[random_below((int32_t)sizeof bytes - 1)];
-        if (random_below(4) == 0)
-            len = (size_t)random_below((int32_t)len);
+        size_t len = alter(sheet, write_sheet(n, pairs, sheet));
         int64_t answer = call(kind, sheet, len, text, ROOM);
         if (answer < -16 || answer == -15 || answer == -13 || answer == -10 ||
             answer == 0)
             fail("altered sheet");
+    }
+}
+
+/* ---- pools ---- */
+
+static int64_t call_pool(const char *first, size_t first_len, const char *second,
+                         size_t second_len, uint8_t *text, size_t room)
+{
+    uint8_t *lent = lend(first, first_len), *other = lend(second, second_len);
+    uint8_t *out = lend_room(room);
+    int64_t answer = plain_pool(lent, first_len, other, second_len, out, room);
+    take_back(out, room, answer, text);
+    free(lent);
+    free(other);
+    return answer;
+}
+
+/* The pool, in as many bytes of room as it has; one byte less gives 14. */
+static void expect_pool(const char *what, const char *first, const char *second,
+                        const char *pool)
+{
+    uint8_t text[MAX_POOL];
+    size_t first_len = strlen(first), second_len = strlen(second);
+    size_t length = strlen(pool);
+    if (call_pool(first, first_len, second, second_len, text, length) !=
+            (int64_t)length ||
+        memcmp(text, pool, length) != 0)
+        fail(what);
+    if (call_pool(first, first_len, second, second_len, text, length - 1) != -14)
+        fail("a pool one byte longer than the buffer");
+}
+
+static void refuses_pool(const char *first, const char *second, int number)
+{
+    uint8_t text[MAX_POOL];
+    int64_t answer = call_pool(first, strlen(first), second, strlen(second), text,
+                               sizeof text);
+    if (answer != -number) {
+        printf("%s%s: answer %" PRId64 ", expected %d\n", first, second, answer,
+               -number);
+        fail("refusal of a pool");
+    }
+}
+
+static void test_pool_cases(void)
+{
+    const char *four = "A B C D\n9 8 6 2\n8 9 5 3\n6 5 9 1\n2 3 1 9\n";
+    expect_pool("worked example",
+                "A B C D\n9 7 2 1\n7 8 3 1\n2 3 9 4\n1 1 4 6\n",
+                "C A D B\n8 2 - 1\n2 9 3 6\n- 3 7 2\n1 6 2 9\n",
+                "A B C D\n18 13 4 4\n13 17 4 3\n4 4 17 -\n4 3 - 13\n");
+    expect_pool("one order", four, four,
+                "A B C D\n18 16 12 4\n16 18 10 6\n12 10 18 2\n4 6 2 18\n");
+    expect_pool("a name that starts another", "A AA\n1 2\n2 3\n",
+                "AA A\n40 30\n30 20\n", "A AA\n21 32\n32 43\n");
+    expect_pool("names of 8 bytes", "ABCDEFG9 ABCDEFGH\n1 2\n2 3\n",
+                "ABCDEFGH ABCDEFG9\n40 30\n30 20\n",
+                "ABCDEFG9 ABCDEFGH\n21 32\n32 43\n");
+    expect_pool("unscored in either, and in both", "A B\n- 5\n5 -\n",
+                "B A\n- -\n- 7\n", "A B\n- -\n- -\n");
+    expect_pool("to 0 and below", "A B\n5 -5\n-5 0\n", "A B\n-5 4\n4 -10\n",
+                "A B\n0 -1\n-1 -10\n");
+    expect_pool("1000000", "A\n999999\n", "A\n1\n", "A\n1000000\n");
+    expect_pool("-1000000", "A\n-1000000\n", "A\n0\n", "A\n-1000000\n");
+    expect_pool("1000000 and the mark", "A\n1000000\n", "A\n-\n", "A\n-\n");
+}
+
+static void test_pool_refusals(void)
+{
+    /* A sheet that is refused with each number, without names that match. */
+    const struct {
+        const char *sheet;
+        int number;
+    } bad[] = {{"", 2},
+               {"A\n+1\n", 3},
+               {"A", 4},
+               {"A A\n0 0\n0 0\n", 5},
+               {"A0 A1 A2 A3 A4 A5 A6 A7 A8 A9 B0 B1 B2 B3 B4 B5 B6 B7 B8 B9 "
+                "C0 C1 C2 C3 C4 C5 C6 C7 C8 C9 D0 D1 D2\n",
+                6},
+               {"A\n0", 7},
+               {"A\n-0\n", 8},
+               {"A B\n0 1\n- 0\n", 9},
+               {"A\n1000001\n", 11}};
+    const size_t count = sizeof bad / sizeof bad[0];
+    for (size_t i = 0; i < count; i++) {
+        refuses_pool(bad[i].sheet, "Z\n1000000\n", bad[i].number);
+        refuses_pool("Z\n1000000\n", bad[i].sheet, bad[i].number);
+        for (size_t j = 0; j < count; j++)
+            refuses_pool(bad[i].sheet, bad[j].sheet, bad[i].number);
+    }
+
+    refuses_pool("A\n1000000\n", "B\n1000000\n", 17);
+    refuses_pool("A\n0\n", "A B\n0 0\n0 0\n", 17);
+    refuses_pool("A B\n0 0\n0 0\n", "A\n0\n", 17);
+    refuses_pool("A B\n0 0\n0 0\n", "B C\n0 0\n0 0\n", 17);
+    refuses_pool("A1\n0\n", "A11\n0\n", 17);
+    refuses_pool("A\n1000000\n", "A\n1\n", 18);
+    refuses_pool("A\n-1\n", "A\n-1000000\n", 18);
+    refuses_pool("A B\n0 -\n- 600000\n", "B A\n600000 1\n1 0\n", 18);
+
+    /* 17 before 18, and both before 14. */
+    uint8_t text[1];
+    if (call_pool("A\n9\n", 4, "B\n9\n", 4, text, 0) != -17)
+        fail("17 in no buffer");
+    if (call_pool("A\n1000000\n", 10, "A\n1000000\n", 10, text, 0) != -18)
+        fail("18 in no buffer");
+}
+
+static long pools_seen, sums_refused;
+
+/* Adds two pair lists; answers whether every sum is in range. */
+static bool add_pairs(int n, const int32_t *s, const int32_t *t, int32_t *sums)
+{
+    bool in_range = true;
+    for (int i = 0; i < n * (n + 1) / 2; i++) {
+        bool scored = s[i] != UNSCORED && t[i] != UNSCORED;
+        sums[i] = scored ? s[i] + t[i] : UNSCORED;
+        if (scored && (sums[i] > MAX_SCORE || sums[i] < -MAX_SCORE))
+            in_range = false;
+    }
+    return in_range;
+}
+
+/* Two lists, written in any two orders: the pool is their sum in the first's. */
+static void test_random_pools(int sheets)
+{
+    for (int round = 0; round < sheets && failures == 0; round++) {
+        char first[MAX_SHEET], second[MAX_SHEET], pool[MAX_SHEET];
+        int32_t s[MAX_PAIRS], t[MAX_PAIRS], sums[MAX_PAIRS];
+        int n = 1 + random_below(round % 10 == 0 ? 32 : 6), p[MAX_N], q[MAX_N];
+        uint8_t text[MAX_POOL];
+        random_pairs(1, n, s);
+        random_pairs(1, n, t);
+        random_order(n, p);
+        random_order(n, q);
+        size_t first_len = write_ordered(n, p, s, first);
+        size_t second_len = write_ordered(n, q, t, second);
+        bool in_range = add_pairs(n, s, t, sums);
+        int64_t wanted =
+            in_range ? (int64_t)write_ordered(n, p, sums, pool) : -18;
+        int64_t answer = call_pool(first, first_len, second, second_len, text,
+                                   sizeof text);
+        if (answer != wanted ||
+            (answer > 0 && memcmp(text, pool, (size_t)answer) != 0)) {
+            printf("%.*s%.*s", (int)first_len, first, (int)second_len, second);
+            fail("pool of two lists");
+        }
+        *(in_range ? &pools_seen : &sums_refused) += 1;
+    }
+}
+
+/* One sheet of the two altered: a pool, or a refusal of the table. */
+static void test_altered_pools(int sheets)
+{
+    for (int round = 0; round < sheets && failures == 0; round++) {
+        char sheet[2][MAX_SHEET];
+        size_t len[2];
+        int n = 1 + random_below(4), order[MAX_N];
+        int32_t pairs[MAX_PAIRS];
+        uint8_t text[MAX_POOL];
+        for (int t = 0; t < 2; t++) {
+            random_pairs(1, n, pairs);
+            random_order(n, order);
+            len[t] = write_ordered(n, order, pairs, sheet[t]);
+        }
+        len[round % 2] = alter(sheet[round % 2], len[round % 2]);
+        int64_t answer = call_pool(sheet[0], len[0], sheet[1], len[1], text,
+                                   sizeof text);
+        bool of_a_sheet = (answer <= -2 && answer >= -9) || answer == -11;
+        if (answer < 4 && !of_a_sheet && answer != -17 && answer != -18)
+            fail("altered sheets to pool");
     }
 }
 
@@ -627,12 +841,17 @@ int main(int argc, char **argv)
     test_against_definitions(sheets);
     test_reordering(sheets / 10);
     test_altered_sheets(sheets * 10);
+    test_pool_cases();
+    test_pool_refusals();
+    test_random_pools(sheets);
+    test_altered_pools(sheets);
     if (failures > 0) {
         printf("%d differences\n", failures);
         return 1;
     }
     printf("no difference; lines checked: strong %ld, %ld of them with unscored "
-           "pairs, clean %ld, splits %ld\n",
-           lines_seen[1], unscored_seen, lines_seen[2], lines_seen[3]);
+           "pairs, clean %ld, splits %ld; pools %ld, refused for a sum %ld\n",
+           lines_seen[1], unscored_seen, lines_seen[2], lines_seen[3], pools_seen,
+           sums_refused);
     return 0;
 }
