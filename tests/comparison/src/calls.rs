@@ -63,6 +63,14 @@ extern "C" {
     fn farzhudyl_pair_list(sheet: *const u8, sheet_len: usize, pairs: *mut i32) -> i64;
     fn farzhudyl_name(sheet: *const u8, sheet_len: usize, entry: usize, start: *mut usize)
         -> usize;
+    pub fn farzhudyl_pool(
+        first: *const u8,
+        first_len: usize,
+        second: *const u8,
+        second_len: usize,
+        out: *mut u8,
+        out_len: usize,
+    ) -> i64;
     fn farzhudyl_score(
         n: usize,
         pairs: *const i32,

@@ -2,6 +2,7 @@
 //! the second engine. The last line is `N passed, M failed`.
 //!
 //! * `sheet_call`: the call that reads a sheet and writes its listing.
+//! * `pool_call`: the call that pools two sheets.
 //! * `number_calls`: the calls on a pair list, all but the next.
 //! * `shared_call`: the smallest group two entries share.
 //! * `reader_calls`: the calls on a sheet that write no listing.
@@ -9,10 +10,12 @@
 
 mod bench;
 mod calls;
+mod engines;
 mod lent;
 mod lists;
 mod number_calls;
 mod parts;
+mod pool_call;
 mod reader_calls;
 mod shared_call;
 mod sheet_call;
@@ -32,6 +35,7 @@ fn main() -> ExitCode {
     println!("{cases} generated calls, seed {seed}");
     let mut parts = Parts::default();
     sheet_call::run(cases, seed, &mut parts);
+    pool_call::run(cases, seed, &mut parts);
     number_calls::run(cases, seed, &mut parts);
     shared_call::run(cases / 75, seed, &mut parts);
     reader_calls::run(cases / 5, seed, &mut parts);

@@ -5,10 +5,9 @@ use crate::calls::{self, MOST_PAIRS};
 use crate::lent::{Lent, FLIPS};
 use crate::parts::{met, Call, Parts};
 use crate::sheet_call::small_texts;
-use second_engine::compare::Tally;
+use second_engine::compare::{on_copy, Tally};
 use second_engine::engine::{self, UNSCORED};
 use second_engine::generate::{self, Random, Table};
-use std::hint::black_box;
 
 /// Checks 2 to 9.
 const REFUSALS: &[usize] = &[2, 3, 4, 5, 6, 7, 8, 9];
@@ -37,16 +36,6 @@ pub fn run(cases: usize, seed: u64, parts: &mut Parts) {
     parts.add("names within names", names.within_names(&mut random, cases));
 }
 
-/// Calls on a copy of the sheet, which stays as it is.
-fn call_on<T>(sheet: &[u8], call: impl FnOnce(&[u8]) -> T) -> Result<T, String> {
-    let lent = sheet.to_vec();
-    let given = call(&lent);
-    match black_box(lent) == sheet {
-        true => Ok(given),
-        false => Err("the sheet itself was changed".into()),
-    }
-}
-
 // ------------------------------------------------------------ The pair list
 
 fn check_reader(sheet: &[u8]) -> Result<i64, String> {
@@ -56,7 +45,7 @@ fn check_reader(sheet: &[u8]) -> Result<i64, String> {
     let wanted = read.map_or_else(|number| -number, |n| n as i64);
     let check = |flip| {
         let mut lent = Lent::new(MOST_PAIRS, flip);
-        let given = call_on(sheet, |sheet| calls::pair_list(sheet, lent.slice()))?;
+        let given = on_copy(sheet, |sheet| calls::pair_list(sheet, lent.slice()))?;
         if given != wanted {
             return Err(format!("answers {given}, wanted {wanted}"));
         }
@@ -154,7 +143,7 @@ impl Names {
         };
         for flip in FLIPS {
             let mut lent = Lent::new(1, flip);
-            let given = call_on(sheet, |sheet| calls::name(sheet, entry, lent.slice()));
+            let given = on_copy(sheet, |sheet| calls::name(sheet, entry, lent.slice()));
             let given = given.map_err(describe)?;
             if given != name.len() {
                 return Err(describe(format!("answers {given}")));

@@ -2,82 +2,12 @@
 //! all small sheets, the bench, reorderings.
 
 use crate::bench;
-use crate::calls::farzhudyl_listing;
+use crate::engines::Outcomes;
 use crate::lists::marked;
 use crate::parts::Parts;
 use second_engine::compare::{check, Case, Expected, Tally, SHEET_REFUSALS};
 use second_engine::generate::{self, Random, Table, MARK, SHARES};
 use second_engine::{engine, reordering};
-
-type SheetCall = unsafe extern "C" fn(i32, *const u8, usize, *mut u8, usize) -> i64;
-
-extern "C" {
-    fn plain_listing(
-        kind: i32,
-        sheet: *const u8,
-        sheet_len: usize,
-        out: *mut u8,
-        out_len: usize,
-    ) -> i64;
-}
-
-struct Engine {
-    name: &'static str,
-    listing: SheetCall,
-}
-
-const ENGINES: [Engine; 2] = [
-    Engine {
-        name: "farzhudyl",
-        listing: farzhudyl_listing,
-    },
-    Engine {
-        name: "plain C",
-        listing: plain_listing,
-    },
-];
-
-impl Engine {
-    fn call(&self, kind: i32, sheet: &[u8], out: &mut [u8]) -> i64 {
-        // Lent for the call only, and with their lengths.
-        unsafe {
-            (self.listing)(
-                kind,
-                sheet.as_ptr(),
-                sheet.len(),
-                out.as_mut_ptr(),
-                out.len(),
-            )
-        }
-    }
-
-    fn check(&self, expected: &Expected) -> Result<(), String> {
-        check(self.name, |k, s, o| self.call(k, s, o), expected)
-    }
-}
-
-/// What became of each engine; its first failure ends its part.
-struct Outcomes([Result<(), String>; ENGINES.len()]);
-
-impl Outcomes {
-    fn new() -> Self {
-        Outcomes(ENGINES.map(|_| Ok(())))
-    }
-
-    fn each(&mut self, test: impl Fn(&Engine) -> Result<(), String>) {
-        for (engine, outcome) in ENGINES.iter().zip(&mut self.0) {
-            if outcome.is_ok() {
-                *outcome = test(engine);
-            }
-        }
-    }
-
-    fn add_to(self, parts: &mut Parts, what: &str) {
-        for (engine, outcome) in ENGINES.iter().zip(self.0) {
-            parts.add(&format!("{}, {what}", engine.name), outcome);
-        }
-    }
-}
 
 pub fn run(cases: usize, seed: u64, parts: &mut Parts) {
     let tally = generated_calls(cases, seed, parts);
@@ -91,11 +21,11 @@ pub fn run(cases: usize, seed: u64, parts: &mut Parts) {
 
 fn generated_calls(cases: usize, seed: u64, parts: &mut Parts) -> Tally {
     let mut tally = Tally::default();
-    let mut outcomes = Outcomes::new();
+    let mut outcomes = Outcomes::default();
     for case in generate::cases(seed).take(cases) {
         let expected = Expected::of(case);
         tally.count(expected.answer);
-        outcomes.each(|engine| engine.check(&expected));
+        outcomes.each(|engine| engine.check_listing(&expected));
     }
     outcomes.add_to(parts, "generated calls");
     tally
@@ -104,7 +34,7 @@ fn generated_calls(cases: usize, seed: u64, parts: &mut Parts) -> Tally {
 /// Each share of unscored pairs, on sheets with groups and on sheets without.
 fn unscored_sheets(sheets: usize, seed: u64, parts: &mut Parts) {
     let mut random = Random::new(!seed);
-    let mut outcomes = Outcomes::new();
+    let mut outcomes = Outcomes::default();
     let mut met = Ok(());
     for share in SHARES {
         let (mut with, mut without, mut lines) = (0, 0, 0);
@@ -118,7 +48,7 @@ fn unscored_sheets(sheets: usize, seed: u64, parts: &mut Parts) {
                     sheet: table.sheet(),
                     room: 4096,
                 });
-                outcomes.each(|engine| engine.check(&expected));
+                outcomes.each(|engine| engine.check_listing(&expected));
                 match (kind, line_count(&expected.listing)) {
                     (1, 0) => without += 1,
                     (1, count) => (with, lines) = (with + 1, lines + count),
@@ -143,7 +73,7 @@ fn line_count(listing: &[u8]) -> usize {
 
 /// Every sheet of so few entries and values, ties and all orders with them.
 fn small_sheets(parts: &mut Parts) {
-    let mut outcomes = Outcomes::new();
+    let mut outcomes = Outcomes::default();
     let mut sheets = 0;
     for (kind, n, own, values) in [
         (1, 3, true, marked(-1..=3).collect()),
@@ -168,7 +98,7 @@ fn small_sheets(parts: &mut Parts) {
                 sheet: small_table(n, own, &values, number).sheet(),
                 room: 128,
             });
-            outcomes.each(|engine| engine.check(&expected));
+            outcomes.each(|engine| engine.check_listing(&expected));
             sheets += 1;
         }
     }
@@ -178,7 +108,7 @@ fn small_sheets(parts: &mut Parts) {
 
 /// Every sheet of small_texts.
 fn sheets_of_texts(parts: &mut Parts) {
-    let mut outcomes = Outcomes::new();
+    let mut outcomes = Outcomes::default();
     for sheet in small_texts() {
         for kind in 1..=3 {
             let expected = Expected::of(Case {
@@ -186,7 +116,7 @@ fn sheets_of_texts(parts: &mut Parts) {
                 sheet: sheet.clone(),
                 room: 128,
             });
-            outcomes.each(|engine| engine.check(&expected));
+            outcomes.each(|engine| engine.check_listing(&expected));
         }
     }
     outcomes.add_to(parts, "sheets of all few texts");
@@ -234,11 +164,11 @@ pub fn small_table(n: usize, own: bool, values: &[i64], mut number: usize) -> Ta
 }
 
 fn bench_cases(parts: &mut Parts) {
-    let mut outcomes = Outcomes::new();
+    let mut outcomes = Outcomes::default();
     for expected in bench::calls() {
         outcomes.each(|other| {
             check("second engine", engine::listing, &expected)?;
-            other.check(&expected)
+            other.check_listing(&expected)
         });
     }
     outcomes.add_to(parts, "bench cases");
@@ -247,7 +177,7 @@ fn bench_cases(parts: &mut Parts) {
 /// Each sheet turned round, with its first entry elsewhere, and in any order.
 fn reorderings(sheets: usize, seed: u64, parts: &mut Parts) {
     let mut random = Random::new(!seed);
-    let mut outcomes = Outcomes::new();
+    let mut outcomes = Outcomes::default();
     let mut lines = 0;
     for _ in 0..sheets {
         let n = generate::entries(&mut random).max(2);
@@ -267,9 +197,9 @@ fn reorderings(sheets: usize, seed: u64, parts: &mut Parts) {
             generate::order(&mut random, n),
         ];
         outcomes.each(|engine| {
-            engine.check(&expected)?;
+            engine.check_listing(&expected)?;
             for p in &orders {
-                reordering::check(|k, s, o| engine.call(k, s, o), kind, &table, p)?;
+                reordering::check(|k, s, o| engine.listing(k, s, o), kind, &table, p)?;
             }
             Ok(())
         });

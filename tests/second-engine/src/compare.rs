@@ -2,7 +2,6 @@
 //! every byte lent, with guard bytes on both sides of the buffer.
 
 use crate::engine;
-use std::fmt::Write;
 use std::hint::black_box;
 
 /// One call: a kind, a sheet, and the length of the buffer lent.
@@ -17,16 +16,19 @@ pub struct Case {
 #[derive(Clone, Debug, Default, PartialEq, Eq)]
 pub struct Tally {
     pub listings: u64,
-    pub refusals: [u64; 17],
+    pub refusals: [u64; NUMBERS],
 }
+
+/// The refusals have numbers below this.
+const NUMBERS: usize = 19;
 
 /// The refusals that the sheet call can give, in the order of its checks.
 pub const SHEET_REFUSALS: [usize; 13] = [1, 2, 3, 4, 5, 6, 7, 8, 9, 11, 16, 12, 14];
 
 impl Tally {
     pub fn count(&mut self, answer: i64) {
-        match answer {
-            -16..=-1 => self.refusals[-answer as usize] += 1,
+        match usize::try_from(-answer) {
+            Ok(number @ 1..NUMBERS) => self.refusals[number] += 1,
             _ => self.listings += 1,
         }
     }
@@ -82,29 +84,51 @@ pub fn compare(
     Ok(tally)
 }
 
-/// Calls `other` once on a pattern and once on its complement, so that no byte
-/// written can hide behind what was there.
+/// Calls `other`: the answer, the buffer's bytes and the sheet are as they must
+/// be.
 pub fn check(
     name: &str,
     other: impl Fn(i32, &[u8], &mut [u8]) -> i64,
     expected: &Expected,
 ) -> Result<(), String> {
-    let Expected {
-        case,
-        answer,
-        listing,
-    } = expected;
+    let Case { kind, sheet, room } = &expected.case;
+    let call = |out: &mut [u8]| on_copy(sheet, |sheet| other(*kind, sheet, out));
+    check_written(*room, expected.answer, &expected.listing, call).map_err(|message| {
+        let sheet = sheet.escape_ascii();
+        format!("{name} {message}: kind {kind}, buffer of {room} bytes; sheet: {sheet}")
+    })
+}
+
+/// Calls on a copy of the sheet, which stays as it is.
+pub fn on_copy<T>(sheet: &[u8], call: impl FnOnce(&[u8]) -> T) -> Result<T, String> {
+    let lent = sheet.to_vec();
+    let given = call(&lent);
+    match black_box(lent) == sheet {
+        true => Ok(given),
+        false => Err("changed a sheet itself".into()),
+    }
+}
+
+/// Calls with a buffer of so many bytes, once on a pattern and once on its
+/// complement, so that no byte written can hide behind what was there: the answer
+/// is the one wanted, the first bytes are those to be written, all others what
+/// they were.
+pub fn check_written(
+    room: usize,
+    answer: i64,
+    written: &[u8],
+    call: impl Fn(&mut [u8]) -> Result<i64, String>,
+) -> Result<(), String> {
     for flip in [0x00, 0xff] {
-        let mut found = pattern(case.room + 2 * GUARD, flip);
+        let mut found = pattern(room + 2 * GUARD, flip);
         let mut wanted = found.clone();
-        wanted[GUARD..GUARD + listing.len()].copy_from_slice(listing);
+        wanted[GUARD..GUARD + written.len()].copy_from_slice(written);
 
-        let sheet = case.sheet.clone();
-        let given = other(case.kind, &sheet, &mut found[GUARD..GUARD + case.room]);
-        let (found, sheet) = (black_box(found), black_box(sheet));
+        let given = call(&mut found[GUARD..GUARD + room])?;
+        let found = black_box(found);
 
-        if given != *answer || found != wanted || sheet != case.sheet {
-            return Err(describe(name, case, *answer, given, &wanted, &found));
+        if given != answer || found != wanted {
+            return Err(describe(answer, given, &wanted, &found));
         }
     }
     Ok(())
@@ -114,32 +138,14 @@ fn pattern(length: usize, flip: u8) -> Vec<u8> {
     (0..length).map(|i| (i * 167 + 89) as u8 ^ flip).collect()
 }
 
-fn describe(
-    name: &str,
-    case: &Case,
-    answer: i64,
-    given: i64,
-    wanted: &[u8],
-    found: &[u8],
-) -> String {
-    let mut text = format!(
-        "{name} answers {given}, wanted {answer}: kind {}, buffer of {} bytes",
-        case.kind, case.room
-    );
+fn describe(answer: i64, given: i64, wanted: &[u8], found: &[u8]) -> String {
+    let text = format!("answers {given}, wanted {answer}");
     match wanted.iter().zip(found).position(|(w, f)| w != f) {
         Some(at) => {
             let place = at as i64 - GUARD as i64;
             let (w, f) = (wanted[at], found[at]);
-            write!(
-                text,
-                "; byte {place} of the buffer is {f:#04x}, wanted {w:#04x}"
-            )
+            format!("{text}; byte {place} of the buffer is {f:#04x}, wanted {w:#04x}")
         }
-        None if given == answer => write!(text, "; the sheet itself was changed"),
-        None => Ok(()),
+        None => text,
     }
-    .expect("a string takes all that is written");
-    write!(text, "; sheet: {}", case.sheet.escape_ascii())
-        .expect("a string takes all that is written");
-    text
 }

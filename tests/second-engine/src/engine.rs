@@ -22,13 +22,13 @@ pub const SPLITS: i32 = 3;
 
 // ---------------------------------------------------------------- The sheet
 
-struct Sheet<'a> {
-    names: Vec<&'a [u8]>,
-    pairs: Vec<i32>,
+pub(crate) struct Sheet<'a> {
+    pub(crate) names: Vec<&'a [u8]>,
+    pub(crate) pairs: Vec<i32>,
 }
 
 /// Reads a sheet, or refuses it by checks 2 to 9.
-fn read_sheet(sheet: &[u8]) -> Result<Sheet<'_>, Refusal> {
+pub(crate) fn read_sheet(sheet: &[u8]) -> Result<Sheet<'_>, Refusal> {
     if sheet.is_empty() || sheet.len() > MOST_BYTES {
         return Err(2);
     }
@@ -548,12 +548,28 @@ fn listing_text(lines: &[(u32, i64)]) -> Vec<u8> {
 
 // ------------------------------------------- Where a call is turned away
 
-fn refuse_if(condition: bool, number: Refusal) -> Result<(), Refusal> {
+pub(crate) fn refuse_if(condition: bool, number: Refusal) -> Result<(), Refusal> {
     if condition {
         Err(number)
     } else {
         Ok(())
     }
+}
+
+/// The number in C: a length, or minus the refusal number.
+pub(crate) fn in_c(answer: Result<usize, Refusal>) -> i64 {
+    match answer {
+        Ok(length) => length as i64,
+        Err(number) => -number,
+    }
+}
+
+/// The text in the first bytes, or 14 if it has more bytes than there are;
+/// answers its length.
+pub(crate) fn hand_over(text: &[u8], out: &mut [u8]) -> Result<usize, Refusal> {
+    refuse_if(text.len() > out.len(), 14)?;
+    out[..text.len()].copy_from_slice(text);
+    Ok(text.len())
 }
 
 /// 1: the kind is not 1, 2 or 3.
@@ -572,7 +588,7 @@ fn check_length(n: usize, pairs: &[i32]) -> Result<(), Refusal> {
 }
 
 /// 11: a value below -1,000,000 or above 1,000,000; the mark is exempt.
-fn check_range(pairs: &[i32]) -> Result<(), Refusal> {
+pub(crate) fn check_range(pairs: &[i32]) -> Result<(), Refusal> {
     let within = |&value: &i32| (-GREATEST..=GREATEST).contains(&value) || value == UNSCORED;
     refuse_if(!pairs.iter().all(within), 11)
 }
@@ -602,10 +618,7 @@ fn check_values(kind: i32, n: usize, pairs: &[i32]) -> Result<(), Refusal> {
 /// The sheet call and the C call: the listing's length in bytes, or minus the
 /// refusal number. A refusal writes no byte, a listing only its own.
 pub fn listing(kind: i32, sheet: &[u8], out: &mut [u8]) -> i64 {
-    match sheet_call(kind, sheet, out) {
-        Ok(length) => length as i64,
-        Err(number) => -number,
-    }
+    in_c(sheet_call(kind, sheet, out))
 }
 
 fn sheet_call(kind: i32, sheet: &[u8], out: &mut [u8]) -> Result<usize, Refusal> {
@@ -613,10 +626,7 @@ fn sheet_call(kind: i32, sheet: &[u8], out: &mut [u8]) -> Result<usize, Refusal>
     let Sheet { names, pairs } = read_sheet(sheet)?;
     let n = names.len();
     check_values(kind, n, &pairs)?;
-    let text = listing_text(&lines(kind, n, &pairs));
-    refuse_if(text.len() > out.len(), 14)?;
-    out[..text.len()].copy_from_slice(&text);
-    Ok(text.len())
+    hand_over(&listing_text(&lines(kind, n, &pairs)), out)
 }
 
 /// The numbers call: sets and indices in the order of the listing, 0 in all

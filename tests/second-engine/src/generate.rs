@@ -80,6 +80,17 @@ impl Table {
             .collect()
     }
 
+    /// Without one of its entries.
+    pub fn without(&self, entry: usize) -> Table {
+        let mut new = self.clone();
+        new.names.remove(entry);
+        new.values.remove(entry);
+        for row in &mut new.values {
+            row.remove(entry);
+        }
+        new
+    }
+
     /// Entry i becomes p(i).
     pub fn reordered(&self, p: &[usize]) -> Table {
         let mut new = self.clone();
@@ -266,6 +277,34 @@ pub fn distances(random: &mut Random, n: usize) -> Table {
     table
 }
 
+/// A second sheet of the same entries, in the same order: scored on its own, or
+/// much as the first is. Mostly no sum of two scores is out of range, and some are
+/// at its ends.
+pub fn partner(random: &mut Random, first: &Table) -> Table {
+    let n = first.entries();
+    let mut second = match random.below(4) {
+        0 => distances(random, n),
+        1 => scores(random, n),
+        _ => {
+            let mut alike = first.clone();
+            add_noise(random, &mut alike, -1_000_000, true);
+            alike
+        }
+    };
+    second.names = first.names.clone();
+    if random.one_in(6) {
+        return second;
+    }
+    for a in 0..n {
+        for b in 0..=a {
+            let score = first.values[a][b];
+            let sum = score + second.values[a][b];
+            second.set(a, b, sum.clamp(-1_000_000, 1_000_000) - score);
+        }
+    }
+    second
+}
+
 /// How large a share of the pairs is unscored.
 #[derive(Clone, Copy, Debug, PartialEq, Eq)]
 pub enum Share {
@@ -360,8 +399,8 @@ pub fn good(random: &mut Random, n: usize) -> (i32, Table) {
     (kind, table)
 }
 
-/// Buffer lengths around the length of the listing.
-fn room(random: &mut Random, length: usize) -> usize {
+/// Buffer lengths around the length of what is written.
+pub(crate) fn room(random: &mut Random, length: usize) -> usize {
     let near = [
         0,
         1,

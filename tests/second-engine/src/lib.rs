@@ -2,10 +2,12 @@
 //! (document 01), and what is needed to hold another engine against it.
 //!
 //! * `engine`: the calls, each by the definitions.
+//! * `pool`: the pool of two sheets, by the names.
 //! * `generate`: sheets, good and damaged, from a seed.
 //! * `compare`: another engine's answers and bytes against these.
 //! * `reordering`: an engine's listings of one sheet in two orders.
 //! * `unscored`: an engine's groups of a list before and after pairs are scored.
+//! * `pooling`: an engine's pools against these, and the groups of a pool.
 //! * `selfcheck`: this engine against itself, by other routes.
 
 #![forbid(unsafe_code)]
@@ -13,6 +15,8 @@
 pub mod compare;
 pub mod engine;
 pub mod generate;
+pub mod pool;
+pub mod pooling;
 pub mod reordering;
 pub mod selfcheck;
 pub mod unscored;

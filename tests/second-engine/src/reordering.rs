@@ -43,8 +43,11 @@ pub(crate) fn whole(n: usize) -> u32 {
 }
 
 pub(crate) fn show(kind: i32, table: &Table) -> String {
-    let sheet = table.sheet();
-    format!("kind {kind}, sheet:\n{}", String::from_utf8_lossy(&sheet))
+    show_sheet(kind, &table.sheet())
+}
+
+fn show_sheet(kind: i32, sheet: &[u8]) -> String {
+    format!("kind {kind}, sheet:\n{}", String::from_utf8_lossy(sheet))
 }
 
 /// The sets and indices of a listing, read back from its bytes.
@@ -53,14 +56,23 @@ pub(crate) fn read_listing(
     kind: i32,
     table: &Table,
 ) -> Result<Vec<(u32, i64)>, String> {
+    read_lines(call, kind, &table.sheet())
+}
+
+/// The same, of a sheet's bytes.
+pub(crate) fn read_lines(
+    call: impl Fn(i32, &[u8], &mut [u8]) -> i64,
+    kind: i32,
+    sheet: &[u8],
+) -> Result<Vec<(u32, i64)>, String> {
     let mut bytes = vec![0; 4096];
-    let answer = call(kind, &table.sheet(), &mut bytes);
+    let answer = call(kind, sheet, &mut bytes);
     let listing = usize::try_from(answer)
         .ok()
         .and_then(|length| bytes.get(..length))
-        .ok_or_else(|| format!("answer {answer}; {}", show(kind, table)))?;
+        .ok_or_else(|| format!("answer {answer}; {}", show_sheet(kind, sheet)))?;
     let text = String::from_utf8_lossy(listing);
-    parse_listing(&text).ok_or_else(|| format!("listing {text:?}; {}", show(kind, table)))
+    parse_listing(&text).ok_or_else(|| format!("listing {text:?}; {}", show_sheet(kind, sheet)))
 }
 
 /// The sets and indices of a listing's text; none if it is no listing.

@@ -1,11 +1,13 @@
 //! This engine against itself: the two ways of finding sets, reorderings, the
 //! theorems of 003 that lead to the same listing by another route, what two
-//! entries share, unscored pairs by every filling, and refusals against sheets
-//! made to meet them.
+//! entries share, unscored pairs by every filling, pools entry by entry, and
+//! refusals against sheets made to meet them.
 
 use crate::compare::{Tally, SHEET_REFUSALS};
 use crate::engine::{self, Bounds, Method, Scores, Way, GREATEST, STRONG, UNSCORED};
-use crate::generate::{self, Random, Table, SHARES};
+use crate::generate::{self, Random, Table, MARK, SHARES};
+use crate::pool::pool;
+use crate::pooling::{self, check_groups, MOST_BYTES};
 use crate::reordering::{self, read_listing, show, whole};
 use crate::unscored::{check_scoring, check_tree};
 use std::fmt;
@@ -34,6 +36,10 @@ pub struct Report {
     /// Groups kept where a pair more was scored, and blocks of fillings' trees.
     pub kept: u64,
     pub blocks: u64,
+    /// Pools of two sheets, those refused for a sum, and the groups strong in both.
+    pub pools: u64,
+    pub sums_refused: u64,
+    pub strong_in_both: u64,
     pub reorderings: u64,
     pub tally: Tally,
 }
@@ -67,6 +73,11 @@ impl fmt::Display for Report {
             self.unscored_lines,
             self.kept,
             self.blocks,
+        )?;
+        writeln!(
+            f,
+            "pools: {}, refused for a sum: {}; groups strong in both sheets: {}",
+            self.pools, self.sums_refused, self.strong_in_both,
         )?;
         writeln!(f, "reorderings: {}", self.reorderings)?;
         writeln!(
@@ -123,6 +134,7 @@ pub fn round(random: &mut Random, report: &mut Report) -> Result<(), String> {
     for _ in 0..8 {
         some_fillings(random, report)?;
         scored_later(random, report)?;
+        pooled(random, report)?;
     }
     let n = 1 + random.below(32);
     let mut unscored = generate::scores(random, n);
@@ -395,6 +407,50 @@ fn scored_later(random: &mut Random, report: &mut Report) -> Result<(), String> 
     Ok(())
 }
 
+/// A pool against the sums of two tables whose entries stand in one order; and its
+/// groups.
+fn pooled(random: &mut Random, report: &mut Report) -> Result<(), String> {
+    let n = 1 + random.below(12);
+    let [first, second] = pooling::tables(random, n);
+    let order = generate::order(random, n);
+    let sheets = [first.sheet(), second.reordered(&order).sheet()];
+    let [one, other] = [&sheets[0][..], &sheets[1][..]];
+    let mut found = vec![0; MOST_BYTES];
+    let answer = pool(one, other, &mut found);
+    found.truncate(usize::try_from(answer).unwrap_or(0));
+    let wanted = match summed(&first, &second) {
+        Some(sum) => sum.sheet(),
+        None => Vec::new(),
+    };
+    let refused = wanted.is_empty();
+    demand(found == wanted && refused == (answer == -18), || {
+        format!("answer {answer}; {}{}", show(1, &first), show(1, &second))
+    })?;
+    if refused {
+        report.sums_refused += 1;
+        return Ok(());
+    }
+    report.pools += 1;
+    report.strong_in_both += check_groups(engine::listing, pool, [one, other])? as u64;
+    Ok(())
+}
+
+/// The sums, entry by entry; none if one is out of range.
+fn summed(first: &Table, second: &Table) -> Option<Table> {
+    let mut sum = first.clone();
+    let cells = sum.values.iter_mut().flatten();
+    for (cell, &added) in cells.zip(second.values.iter().flatten()) {
+        *cell = match (*cell, added) {
+            (MARK, _) | (_, MARK) => MARK,
+            (score, added) => score + added,
+        };
+        if *cell != MARK && cell.abs() > GREATEST.into() {
+            return None;
+        }
+    }
+    Some(sum)
+}
+
 /// The blocks of a tree, ties broken at random, by size, then by set.
 fn blocks(
     random: &mut Random,
@@ -474,6 +530,9 @@ mod tests {
         let unscored = [report.filled_listed, report.unscored_lines, report.kept];
         assert!(unscored.iter().all(|&count| count > 250), "{report}");
         assert!(report.blocks > 50, "{report}");
+        assert!(report.pools > 250, "{report}");
+        assert!(report.sums_refused > 5, "{report}");
+        assert!(report.strong_in_both > 250, "{report}");
         for number in SHEET_REFUSALS {
             assert!(report.tally.refusals[number] > 100, "{report}");
         }
