@@ -54,12 +54,21 @@ void unstructured(bool distances, int n, int32_t *pairs)
 
 size_t write_sheet(int n, const int32_t *pairs, uint8_t *text)
 {
+    int order[MAX_ENTRIES];
+    for (int i = 0; i < n; i++)
+        order[i] = i;
+    return write_ordered(n, order, pairs, text);
+}
+
+size_t write_ordered(int n, const int *order, const int32_t *pairs, uint8_t *text)
+{
     char *to = (char *)text;
     for (int i = 0; i < n; i++)
-        to += sprintf(to, "E%d%c", i, i < n - 1 ? ' ' : '\n');
+        to += sprintf(to, "E%d%c", order[i], i < n - 1 ? ' ' : '\n');
     for (int i = 0; i < n; i++)
         for (int j = 0; j < n; j++) {
-            int high = i > j ? i : j, low = i + j - high;
+            int a = order[i], b = order[j];
+            int high = a > b ? a : b, low = a + b - high;
             int32_t value = pairs[high * (high + 1) / 2 + low];
             to += value == INT32_MIN ? sprintf(to, "-")
                                      : sprintf(to, "%" PRId32, value);

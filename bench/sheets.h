@@ -22,7 +22,9 @@ void near_tree(bool distances, int n, int32_t *pairs);
 void unstructured(bool distances, int n, int32_t *pairs);
 
 /* Writes the sheet of a pair list, INT32_MIN as a lone minus; answers its
-   length. */
+   length.  The entries stand in the order of the list, or in any other. */
 size_t write_sheet(int n, const int32_t *pairs, uint8_t *text);
+size_t write_ordered(int n, const int *order, const int32_t *pairs,
+                     uint8_t *text);
 
 #endif

@@ -8,6 +8,7 @@ int main(void)
     listings();
     pair_lists();
     names();
+    pools();
     numbers();
     shared();
     linkages();

@@ -72,12 +72,14 @@ static size_t lowest(Call *call)
 
 static int32_t kind;
 static uint8_t sheet[FARZHUDYL_SHEET_MAX + 1];
-static size_t sheet_len, n, entry;
+static uint8_t other[FARZHUDYL_SHEET_MAX]; /* of the same entries, in another order */
+static size_t sheet_len, other_len, n, entry;
 static int32_t pairs[FARZHUDYL_PAIRS_MAX], anchored[FARZHUDYL_PAIRS_MAX];
 static size_t pairs_len;
 
 static uint8_t listing[FARZHUDYL_LISTING_MAX];
-static size_t listing_len;
+static uint8_t pool[FARZHUDYL_POOL_MAX];
+static size_t listing_len, pool_len;
 static uint32_t sets[FARZHUDYL_GROUPS_MAX];
 static int64_t indices[FARZHUDYL_GROUPS_MAX];
 static uint32_t blocks[FARZHUDYL_BLOCKS_MAX];
@@ -99,6 +101,12 @@ static void call_anchored(void) { answer = farzhudyl_anchored_scores(n, entry, p
 static void call_back(void) { answer = farzhudyl_distances_back(n, entry, anchored, pairs_len, result, FARZHUDYL_PAIRS_MAX); }
 static void call_pair_list(void) { answer = farzhudyl_pair_list(sheet, sheet_len, result); }
 static void call_name(void) { answer = (int64_t)farzhudyl_name(sheet, sheet_len, entry, &start); }
+/* The sheet as the second, then as the first. */
+static void call_pool(void)
+{
+    farzhudyl_pool(other, other_len, sheet, sheet_len, pool, pool_len);
+    answer = farzhudyl_pool(sheet, sheet_len, other, other_len, pool, pool_len);
+}
 static void call_score(void) { answer = farzhudyl_score(n, pairs, pairs_len, entry, 0, indices); }
 
 /* A call that is known to take so many bytes, and little more. */
@@ -126,6 +134,7 @@ static struct {
     {"farzhudyl_distances_back", call_back, 0, {0, 0}},
     {"farzhudyl_pair_list", call_pair_list, 0, {0, 0}},
     {"farzhudyl_name", call_name, 0, {0, 0}},
+    {"farzhudyl_pool", call_pool, 0, {0, 0}},
     {"farzhudyl_score", call_score, 0, {0, 0}},
 };
 enum { CALLS = sizeof calls / sizeof calls[0] };
@@ -181,6 +190,18 @@ static void all_unscored(bool distances, int entries, int32_t *to)
         to[i] = INT32_MIN;
 }
 
+/* Minus half of each score, so that no sum is out of range, in the reverse order; the unscored pairs are 0. */
+static void make_other(int entries)
+{
+    int32_t added[FARZHUDYL_PAIRS_MAX];
+    int order[MAX_ENTRIES];
+    for (int i = 0; i < FARZHUDYL_PAIRS(entries); i++)
+        added[i] = pairs[i] == INT32_MIN ? 0 : -pairs[i] / 2;
+    for (int i = 0; i < entries; i++)
+        order[i] = entries - 1 - i;
+    other_len = write_ordered(entries, order, added, other);
+}
+
 static void good(MakePairs *make, int entries)
 {
     n = (size_t)entries;
@@ -188,13 +209,16 @@ static void good(MakePairs *make, int entries)
     for (kind = 1; kind <= 3; kind++) {
         make(kind == FARZHUDYL_SPLITS, entries, pairs);
         sheet_len = write_sheet(entries, pairs, sheet);
+        make_other(entries);
         /* What the way back starts from; all 0 if these are no distances. */
         entry = n - 1;
         memset(anchored, 0, sizeof anchored);
         farzhudyl_anchored_scores(n, entry, pairs, pairs_len, anchored, FARZHUDYL_PAIRS_MAX);
         listing_len = sizeof listing;
+        pool_len = sizeof pool;
         measure();
         listing_len = 15;
+        pool_len = 3;
         entry = n;
         measure();
     }
@@ -211,6 +235,7 @@ static void text(const char *begin, char rest, size_t length)
 static void each_kind(void)
 {
     listing_len = sizeof listing;
+    pool_len = sizeof pool;
     entry = 0;
     for (kind = 0; kind <= 3; kind++)
         measure();

@@ -1,4 +1,4 @@
-/* The calls on a sheet: the listing, the pair list, the name of an entry. */
+/* The calls on a sheet: the listing, the pair list, the name of an entry; and the pool of two sheets. */
 #ifndef BUFFERS_SHEET_CALLS_H
 #define BUFFERS_SHEET_CALLS_H
 
@@ -197,6 +197,88 @@ static void names(void)
     put_sheet(&widest, "EEEEEE", least_score);
     all_names("widest sheet", widest.bytes, widest.length, ENTRIES, 8);
     refused_sheets(no_name);
+}
+
+/* ---- the pool of two sheets ---- */
+
+/* One call. The first `answer` bytes of a pool are expected; a refusal writes none. */
+static void expect_pool(const char *what, Bytes first, Bytes second, size_t out_len, int64_t answer, const char *pool)
+{
+    for (int pass = 0; pass < PASSES; pass++) {
+        uint8_t *lent = (uint8_t *)lend(first.at, first.length, pass), *other = (uint8_t *)lend(second.at, second.length, pass);
+        uint8_t *out = (uint8_t *)lend_room(out_len, pass);
+        int64_t given = farzhudyl_pool(lent, first.length, other, second.length, out, out_len);
+        bool same = unchanged(lent, first.at, first.length), other_same = unchanged(other, second.at, second.length);
+        bool written = written_only(out, out_len, pool, answer > 0 ? (size_t)answer : 0, pass);
+        report("pool", what, given, answer, same && other_same && written);
+    }
+}
+
+static void pooled(const char *what, Bytes first, Bytes second, Bytes pool)
+{
+    const size_t short_rooms[] = {0, 1, pool.length - 1}, rooms[] = {pool.length, pool.length + 1, MOST};
+    for (size_t i = 0; i < sizeof short_rooms / sizeof short_rooms[0]; i++)
+        expect_pool(what, first, second, short_rooms[i], -14, NULL);
+    for (size_t i = 0; i < sizeof rooms / sizeof rooms[0]; i++)
+        expect_pool(what, first, second, rooms[i], (int64_t)pool.length, pool.at);
+}
+
+static void refused_pool(const char *what, Bytes first, Bytes second, int number)
+{
+    const size_t rooms[] = {0, 1, FARZHUDYL_POOL_MAX};
+    for (size_t i = 0; i < sizeof rooms / sizeof rooms[0]; i++)
+        expect_pool(what, first, second, rooms[i], -number, NULL);
+}
+
+/* As the first sheet, and as the second; beside another one that is refused, and that is judged if it is the first. */
+static void refused_pools(const char *what, const char *sheet, size_t sheet_len, int number)
+{
+    const Bytes bad = {sheet, sheet_len}, good = bytes(four), far = bytes("A\n1000001\n");
+    refused_pool(what, bad, good, number);
+    refused_pool(what, good, bad, number);
+    refused_pool(what, bad, far, number);
+    refused_pool(what, far, bad, 11);
+}
+
+/* 32 entries, on the second sheet in the reverse order. */
+static void pooled_large(const char *what, Value *first, Value *second, Value *sum)
+{
+    Text one = {{0}, 0}, other = {{0}, 0}, pool = {{0}, 0};
+    put_sheet(&one, "EEEEEE", first);
+    put_ordered(&other, "EEEEEE", second, reversed);
+    put_sheet(&pool, "EEEEEE", sum);
+    pooled(what, whole(&one), whole(&other), whole(&pool));
+}
+
+/* One sum out of range, that of the last two of 32 entries. */
+static void refused_large(void)
+{
+    Text one = {{0}, 0}, other = {{0}, 0};
+    put_sheet(&one, "E", last_far);
+    put_ordered(&other, "E", last_far, reversed);
+    refused_pool("the last sum out of range", whole(&one), whole(&other), 18);
+}
+
+static void pools(void)
+{
+    pooled("worked example", bytes("A B C D\n9 7 2 1\n7 8 3 1\n2 3 9 4\n1 1 4 6\n"),
+           bytes("C A D B\n8 2 - 1\n2 9 3 6\n- 3 7 2\n1 6 2 9\n"),
+           bytes("A B C D\n18 13 4 4\n13 17 4 3\n4 4 17 -\n4 3 - 13\n"));
+    pooled("one entry", bytes("A\n0\n"), bytes("A\n0\n"), bytes("A\n0\n"));
+    pooled("a name within a name", bytes("AA A\n1 2\n2 3\n"), bytes("A AA\n30 20\n20 10\n"), bytes("AA A\n11 22\n22 33\n"));
+    pooled_large("the longest pool", half_least, half_least, least_score);
+    pooled_large("all sums 0", ladder_score, against_ladder, zero);
+    pooled_large("unscored on the first", ladder_apart, zero, ladder_apart);
+    pooled_large("unscored on the second", zero, ladder_apart, ladder_apart);
+    pooled_large("all unscored", unscored, ladder_score, unscored);
+
+    refused_large();
+    refused_pool("one sum too great", bytes("A B\n0 1\n1 1\n"), bytes("B A\n1000000 1\n1 0\n"), 18);
+    refused_pool("a name more on the second", bytes("A\n0\n"), bytes("B A\n0 0\n0 0\n"), 17);
+    refused_pool("a name more on the first", bytes("A B\n0 0\n0 0\n"), bytes("A\n0\n"), 17);
+    refused_pool("another name", bytes("A B\n0 0\n0 0\n"), bytes("A B1\n0 0\n0 0\n"), 17);
+    refused_pools("1000001", "A\n1000001\n", 10, 11);
+    refused_sheets(refused_pools);
 }
 
 #endif

@@ -34,6 +34,24 @@ static void put(Text *text, const char *format, ...)
     text->length += (size_t)length;
 }
 
+/* Bytes that a call reads. */
+typedef struct {
+    const char *at;
+    size_t length;
+} Bytes;
+
+static Bytes bytes(const char *string)
+{
+    const Bytes all = {string, strlen(string)};
+    return all;
+}
+
+static Bytes whole(const Text *text)
+{
+    const Bytes all = {text->bytes, text->length};
+    return all;
+}
+
 /* The groups of a list, in the order of the listing, and 0 behind them. */
 typedef struct {
     size_t count;
@@ -95,14 +113,22 @@ static void put_value(Text *sheet, int value, char after)
         put(sheet, "%d%c", value, after);
 }
 
-static void put_sheet(Text *sheet, const char *name, Value *value)
+/* The entry at a place. */
+typedef int Order(int place);
+
+static int in_order(int place) { return place; }
+static int reversed(int place) { return ENTRIES - 1 - place; }
+
+static void put_ordered(Text *sheet, const char *name, Value *value, Order *order)
 {
-    for (int a = 0; a < ENTRIES; a++)
-        put(sheet, "%s%02d%c", name, a, a < ENTRIES - 1 ? ' ' : '\n');
-    for (int a = 0; a < ENTRIES; a++)
-        for (int b = 0; b < ENTRIES; b++)
-            put_value(sheet, value(a, b), b < ENTRIES - 1 ? ' ' : '\n');
+    for (int i = 0; i < ENTRIES; i++)
+        put(sheet, "%s%02d%c", name, order(i), i < ENTRIES - 1 ? ' ' : '\n');
+    for (int i = 0; i < ENTRIES; i++)
+        for (int j = 0; j < ENTRIES; j++)
+            put_value(sheet, value(order(i), order(j)), j < ENTRIES - 1 ? ' ' : '\n');
 }
+
+static void put_sheet(Text *sheet, const char *name, Value *value) { put_ordered(sheet, name, value, in_order); }
 
 static void put_pairs(int32_t pairs[PAIRS], Value *value)
 {
@@ -124,6 +150,20 @@ static int least_score(int a, int b)
 {
     (void)a, (void)b;
     return -1000000;
+}
+
+static int half_least(int a, int b) { return least_score(a, b) / 2; }
+
+/* Scores of which the last two entries have the greatest. */
+static int last_far(int a, int b) { return a + b == 2 * ENTRIES - 3 ? 1000000 : 0; }
+
+/* What added to the ladder of scores gives 0. */
+static int against_ladder(int a, int b) { return -ladder_score(a, b); }
+
+static int zero(int a, int b)
+{
+    (void)a, (void)b;
+    return 0;
 }
 
 /* The ladder of scores, its last two entries never compared. */
