@@ -1,10 +1,11 @@
-/* Microseconds of two C calls, by the engine and by the plain engine, in turns
+/* Microseconds of three C calls, by the engine and by the plain engine, in turns
    on the same sheets.  Writes a line for each call, sort of sheets, kind and
-   number of entries, with tabs between: `listing` or `shared`, the other three,
-   what is told of the sheets, and the best and the median of each engine.
+   number of entries, with tabs between: `listing`, `shared` or `pool`, the other
+   three, what is told of the sheets, and the best and the median of each engine.
    Of a listing the bytes of a sheet are told, and the lines after the first; of
    the smallest group that the first and the last entry share, the share of the
-   sheets that have one. */
+   sheets that have one; of a pool, which has no kind, the bytes of its two sheets
+   and its own. */
 
 #define _POSIX_C_SOURCE 199309L
 
@@ -24,17 +25,24 @@ static const double most_us = 6e6;    /* after this, the fewest repeats do */
 
 typedef int64_t SheetCall(int32_t kind, const uint8_t *sheet, size_t sheet_len,
                           uint8_t *out, size_t out_len);
+typedef int64_t PoolCall(const uint8_t *first, size_t first_len,
+                         const uint8_t *second, size_t second_len, uint8_t *out,
+                         size_t out_len);
 typedef void MakePairs(bool distances, int n, int32_t *pairs);
 
 static SheetCall *const engines[] = {farzhudyl_listing, plain_listing};
 enum { ENGINES = sizeof engines / sizeof engines[0] };
+static PoolCall *const pools[ENGINES] = {farzhudyl_pool, plain_pool};
+
+typedef struct {
+    uint8_t text[MAX_SHEET + 1];
+    size_t length;
+} Sheet;
 
 static size_t entries;
 static int32_t pairs[SHEETS][MAX_PAIRS];
-static struct {
-    uint8_t text[MAX_SHEET + 1];
-    size_t length;
-} sheets[SHEETS];
+static Sheet sheets[SHEETS];
+static Sheet seconds[SHEETS]; /* of the same entries, to pool */
 
 static void make_sheets(MakePairs *make, int32_t kind, int n)
 {
@@ -45,10 +53,34 @@ static void make_sheets(MakePairs *make, int32_t kind, int n)
     }
 }
 
+static void make_seconds(int n)
+{
+    for (int t = 0; t < SHEETS; t++) {
+        int32_t scores[MAX_PAIRS];
+        int order[MAX_ENTRIES];
+        near_tree(false, n, scores);
+        any_order(n, order);
+        seconds[t].length = write_ordered(n, order, scores, seconds[t].text);
+    }
+}
+
+static double mean_bytes(const Sheet *of)
+{
+    double bytes = 0;
+    for (int t = 0; t < SHEETS; t++)
+        bytes += (double)of[t].length / SHEETS;
+    return bytes;
+}
+
+static void show(const Sheet *sheet)
+{
+    fprintf(stderr, "%.*s", (int)sheet->length, (const char *)sheet->text);
+}
+
 static void differ(const char *call, int32_t kind, int t)
 {
-    fprintf(stderr, "the engines differ: %s, kind %d\n%.*s", call, (int)kind,
-            (int)sheets[t].length, (const char *)sheets[t].text);
+    fprintf(stderr, "the engines differ: %s, kind %d\n", call, (int)kind);
+    show(&sheets[t]);
     exit(1);
 }
 
@@ -108,6 +140,31 @@ static int count_shared(int32_t kind)
     return found;
 }
 
+static int64_t pool(int e, int t, uint8_t *out)
+{
+    return pools[e](sheets[t].text, sheets[t].length, seconds[t].text,
+                    seconds[t].length, out, FARZHUDYL_POOL_MAX);
+}
+
+/* Both pools of each two sheets are the same; answers their mean bytes. */
+static double pool_bytes(void)
+{
+    double bytes = 0;
+    for (int t = 0; t < SHEETS; t++) {
+        uint8_t out[ENGINES][FARZHUDYL_POOL_MAX];
+        int64_t length = pool(0, t, out[0]);
+        if (length < 0 || length != pool(1, t, out[1]) ||
+            memcmp(out[0], out[1], (size_t)length) != 0) {
+            fprintf(stderr, "the engines differ: pool\n");
+            show(&sheets[t]);
+            show(&seconds[t]);
+            exit(1);
+        }
+        bytes += (double)length / SHEETS;
+    }
+    return bytes;
+}
+
 /* A round through the sheets, by an engine. */
 typedef void Round(int e, int32_t kind);
 
@@ -123,6 +180,14 @@ static void share_all(int e, int32_t kind)
     uint32_t set;
     for (int t = 0; t < SHEETS; t++)
         find_shared(e, kind, t, &set);
+}
+
+static void pool_all(int e, int32_t kind)
+{
+    uint8_t out[FARZHUDYL_POOL_MAX];
+    (void)kind;
+    for (int t = 0; t < SHEETS; t++)
+        pool(e, t, out);
 }
 
 /* The time that this process has had. */
@@ -188,10 +253,7 @@ int main(void)
     for (size_t s = 0; s < sizeof sorts / sizeof sorts[0]; s++)
         for (int32_t kind = 1; kind <= 3; kind++)
             for (int n = 4; n <= MAX_ENTRIES; n *= 2) {
-                double bytes = 0;
                 make_sheets(sorts[s].make, kind, n);
-                for (int t = 0; t < SHEETS; t++)
-                    bytes += (double)sheets[t].length / SHEETS;
                 int lines = count_lines(kind);
                 if (sorts[s].make == near_tree &&
                     lines != SHEETS * most_lines(kind, n)) {
@@ -199,7 +261,8 @@ int main(void)
                     return 1;
                 }
                 printf("listing\t%s\t%s\t%d\t%.0f\t%.1f", sorts[s].name,
-                       kinds[kind], n, bytes, (double)lines / SHEETS);
+                       kinds[kind], n, mean_bytes(sheets),
+                       (double)lines / SHEETS);
                 measure(list_all, kind);
                 if (kind == FARZHUDYL_SPLITS)
                     continue;
@@ -207,5 +270,13 @@ int main(void)
                        (double)count_shared(kind) / SHEETS);
                 measure(share_all, kind);
             }
+    /* Sums of the scores of near-trees are in range. */
+    for (int n = 8; n <= MAX_ENTRIES; n *= 2) {
+        make_sheets(near_tree, FARZHUDYL_STRONG, n);
+        make_seconds(n);
+        printf("pool\tnear-tree\t\t%d\t%.0f\t%.0f", n,
+               mean_bytes(sheets) + mean_bytes(seconds), pool_bytes());
+        measure(pool_all, 0);
+    }
     return 0;
 }

@@ -31,12 +31,17 @@ Microseconds of `farzhudyl_smallest_shared` on the same sheets' pair lists, for 
 groups as numbers, and a search through their sets. The engine makes its checks, plain C makes none here. In a group: the share of the
 lists in which a group holds both."""
 
+POOL = """\
+Microseconds of `farzhudyl_pool` on two near-tree sheets of scores of the same entries, the second in another order; beside it, the plain
+engine's. Both read and check the two sheets, find the names, add, and write the pool. Bytes are means: of the two sheets together, and of
+their pool."""
+
 # What is told of the sheets beside the times of a call.
-FACTS = {"listing": ["bytes", "lines"], "shared": ["in a group"]}
+FACTS = {"listing": ["bytes", "lines"], "shared": ["in a group"], "pool": ["bytes read", "bytes written"]}
 
 
 class Cell(NamedTuple):
-    """The sheets of one sort, kind and number of entries."""
+    """The sheets of one sort, kind and number of entries; a pool's kind is empty."""
 
     facts: list[str]
     best: list[float]
@@ -71,14 +76,15 @@ def table(head, rows):
 
 
 def times_table(cells, call, sort):
-    head = ["kind", "entries", *FACTS[call]]
+    kinds = any(kind for _, kind, _ in cells)
+    head = [*["kind"] * kinds, "entries", *FACTS[call]]
     head += [f"{engine}, {what}" for engine in ENGINES for what in ("best", "median")]
     rows = []
     for kind, n in [(kind, n) for of, kind, n in cells if of == sort]:
         cell = cells[sort, kind, n]
         times = [shown(t) for pair in zip(cell.best, cell.median) for t in pair]
         ratio = f"{cell.best[0] / cell.best[1]:.2f}"
-        rows.append([kind, str(n), *cell.facts, *times, ratio])
+        rows.append([*[kind] * kinds, str(n), *cell.facts, *times, ratio])
     return table([*head, "ratio"], rows)
 
 
@@ -92,13 +98,15 @@ def growth_table(cells, sort):
     return table(["growth of the best time", *(f"{a} to {b} entries" for a, b in steps)], rows)
 
 
-def results(cells, shared, machine):
+def results(cells, machine):
+    listing, shared, pool = (cells[call] for call in ("listing", "shared", "pool"))
     parts = ["# The engine beside plain C", METHOD, "![Times by number of entries](chart.svg)"]
     for sort, title in SORTS.items():
-        parts += [f"## {title}", times_table(cells, "listing", sort), growth_table(cells, sort)]
+        parts += [f"## {title}", times_table(listing, "listing", sort), growth_table(listing, sort)]
     parts += ["## The smallest group that two entries share", SHARED]
     for sort in SORTS:
         parts += [f"{sort.capitalize()} lists:", times_table(shared, "shared", sort)]
+    parts += ["## The pool of two sheets", POOL, times_table(pool, "pool", "near-tree")]
     parts += ["## Measured on", "\n".join(f"- {fact}" for fact in machine)]
     return "\n\n".join(parts) + "\n"
 
@@ -182,7 +190,7 @@ def text(x, y, words, anchor, more=""):
 def main():
     times, folder = sys.argv[1:]
     cells = read_times(times)
-    page = results(cells["listing"], cells["shared"], sys.stdin.read().splitlines())
+    page = results(cells, sys.stdin.read().splitlines())
     Path(folder, "RESULTS.md").write_text(page)
     Path(folder, "chart.svg").write_text(chart(cells["listing"]))
     print(page, end="")

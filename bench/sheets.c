@@ -52,6 +52,15 @@ void unstructured(bool distances, int n, int32_t *pairs)
             *pairs++ = distances && a == b ? 0 : random_below(1000001);
 }
 
+void any_order(int n, int *order)
+{
+    for (int i = 0; i < n; i++) {
+        int j = random_below(i + 1);
+        order[i] = order[j];
+        order[j] = i;
+    }
+}
+
 size_t write_sheet(int n, const int32_t *pairs, uint8_t *text)
 {
     int order[MAX_ENTRIES];

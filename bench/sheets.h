@@ -27,4 +27,7 @@ size_t write_sheet(int n, const int32_t *pairs, uint8_t *text);
 size_t write_ordered(int n, const int *order, const int32_t *pairs,
                      uint8_t *text);
 
+/* The numbers 0 to n - 1 in any order. */
+void any_order(int n, int *order);
+
 #endif
