@@ -1,17 +1,17 @@
 -- Request 2.4, from the outcomes of the calls, what is read back of a sheet as it is written, and the theorems about pooled scores.
 use mathlib.Core.Path.{_≡_, refl, sym, ap, ap₂, _∙_, subst, subst₂}
 use mathlib.Core.Bool.{Bool, true, false, not}
-use mathlib.Core.Logic.{_⊎_, inl, inr, _↔_, Iff·trans}
+use mathlib.Core.Logic.{_⊎_, inl, inr, _≢_, _↔_, Iff·trans}
 use mathlib.Core.List.{List, [], _∷_, _++_}
-use Prim.Native.Nat.{ℕ, _^_, _<_}
+use Prim.Native.Nat.{ℕ, _^_, _≤_, _<_}
 use native.Mathlib.Omega.{arith}
-use borrow.Author.Tests.{not-false}
-use lib.Dec.{T, T-not, not-T, eqb, lit<}
-use lib.IntN.{ℤ, pos, _+ℤ_}
+use borrow.Author.Tests.{not-false, le-ltb}
+use lib.Dec.{T, T-not, not-T, eqb, eqb→eq, lit<}
+use lib.IntN.{ℤ, pos, negℤ, _+ℤ_}
 use lib.ListN.{length, getD}
 use lib.Signed.{_≤ℤ_}
 use Rattle.lists.specs.Lists.{_lists_, below, all, Distinct}
-use Rattle.lists.proofs.Tests.{T-false, false-T, true-T, and-T, T-and, T-or-not, T-same, or-none}
+use Rattle.lists.proofs.Tests.{T-true, T-false, false-T, true-T, and-T, T-and, T-or-not, T-same, or-none}
 use Rattle.lists.proofs.Lists.{lt-below, all-in, some-fails}
 use Rattle.integers.specs.Integers.{eqZ}
 use Rattle.integers.proofs.Linear.{eqZ-yes}
@@ -31,25 +31,33 @@ use Rattle.clusters.proofs.Scored.{AllAllowed, allowed-within, within-range, li
 use Rattle.clusters.proofs.Fillings.{filled-cong}
 use Rattle.clusters.proofs.Pooled.{added-carried, pooled-symmetric, pooled-turned, pooled-index, pooled-strong}
 use Rattle.interface.specs.Sheet.{isName, lines, names, entries, value, pairs, mirrored}
+use Rattle.interface.specs.Listing.{sheetListing}
 use Rattle.interface.specs.Pool.{placeOn, poolScores, poolPairs, poolText}
 use Rattle.interface.specs.Refusals.{
   Check,
+  firstOf,
   none,
+  wrongKind,
   wrongNames,
   equalNames,
   wrongCount,
+  wrongUnscored,
+  wrongDistances,
   namesDiffer,
   check17,
   check18,
   check14,
+  sheetCallChecks,
+  sheetRefusal,
   readerChecks,
   sheetChecks,
   poolChecks,
   poolRefusal,
 }
+use Rattle.interface.specs.Calls.{InC, CCall, PoolCall}
 use Rattle.interface.specs.Demands.{Wrote}
 use Rattle.interface.specs.Requests.{Pooled, by-pool-call, by-pool-in-C, SameName, SameSet, SameNames, SumOutOfRange, Request-2-4}
-use Rattle.interface.proofs.Refusals.{first-none, none-append, passes, some-count}
+use Rattle.interface.proofs.Refusals.{gives, first-no, no-more, first-none, none-append, first-ahead, first-front, first-back, passes, some-count}
 use Rattle.interface.proofs.Accepted.{not-not}
 use Rattle.interface.proofs.Names.{distinct-names}
 use Rattle.interface.proofs.Places.{Matching, same-count, moved-lt, moved-name, moved-only, renumbering, same-names, names-same}
@@ -59,11 +67,12 @@ use Rattle.interface.proofs.SheetTexts.{
   sheetText-names,
   sheetText-value,
   sheetText-pairs,
+  sheetText-most,
   sheetText-accepted,
 }
 use Rattle.interface.proofs.Demands.{taken, not-refused, counted, wrote-allowed, demand-3}
-use Rattle.interface.proofs.Demands.{text-number, text-refusal, text-refused, text-count, text-written, text-either}
-use Rattle.interface.proofs.Unscored.{first-at, strong-wrote}
+use Rattle.interface.proofs.Demands.{text-number, text-refusal, text-refused, text-listed, text-count, text-written, text-either}
+use Rattle.interface.proofs.Unscored.{never, first-at, strong-wrote}
 
 -- what checks 2 to 9 and 11 leave of a sheet
 pub record Sound (s : List ℕ) : Type 0 where
@@ -218,6 +227,9 @@ module _ (first second : List ℕ) where
     abbrev room : Check
     room = check14 buffer (poolText first second)
 
+    abbrev last : List Check
+    last = check17 first second ∷ check18 (poolPairs first second) ∷ room ∷ []
+
     at-seventeen : (poolRefusal first second buffer ≡ 17) ↔ (T (none before) × T differing)
     unfolding poolRefusal poolChecks sheetChecks readerChecks all
     at-seventeen = first-at 17 (lit< tt) before differing (check18 (poolPairs first second) ∷ room ∷ []) tt tt
@@ -247,10 +259,28 @@ module _ (first second : List ℕ) where
     unfolding poolRefusal poolChecks sheetChecks readerChecks all
     pool-passed e =
         let checks = poolChecks first second buffer in (
-          none-append before (check17 first second ∷ check18 (poolPairs first second) ∷ room ∷ []) .0 (first-none checks tt .0 e) .0,
+          none-append before last .0 (first-none checks tt .0 e) .0,
           passes checks tt e 18 (lit< tt),
           not-not ranging (passes checks tt e 19 (lit< tt)),
         )
+
+    -- the number of the first sheet, then of the second
+    pool-first : (k : ℕ) → 0 < k → firstOf (sheetChecks first) ≡ k → poolRefusal first second buffer ≡ k
+    unfolding poolRefusal poolChecks sheetChecks readerChecks all
+    pool-first k h e = sym (gives (first-front (sheetChecks first) (sheetChecks second ++ last) tt (sym e) (λ z. omega arith)))
+
+    pool-second : (k : ℕ) → 0 < k → T (none (sheetChecks first)) → firstOf (sheetChecks second) ≡ k → poolRefusal first second buffer ≡ k
+    unfolding poolRefusal poolChecks sheetChecks readerChecks all
+    pool-second k h t e = sym (gives (first-back (sheetChecks first) (sheetChecks second ++ last) tt (sym (first-none (sheetChecks first) tt .1 t)) refl
+        (first-front (sheetChecks second) last tt (sym e) (λ z. omega arith))))
+
+    pool-none : T (none before) → T (not differing) → T ranging → length (poolText first second) ≤ buffer → T (none (poolChecks first second buffer))
+    unfolding poolChecks sheetChecks readerChecks all
+    pool-none t d g h = none-append before last .1 (
+      t,
+      first-none last tt .0 (sym (gives (first-no (T-false {b = differing} d)
+          (first-no (ap not (T-true {b = ranging} g)) (first-no (le-ltb buffer (length (poolText first second)) h) no-more))))),
+    )
 
 -- bytes that a call wrote are the pool of two sheets that pass
 record Written (first second bytes : List ℕ) : Type 0 where
@@ -280,6 +310,13 @@ written {first} {second} (by-pool-in-C {lent} c count e) =
     let w = c .outcome .written in
     accepted first second (length lent) (text-count c checks text lent a w count e .0) (text-written c checks text lent a w count e .0)
 
+-- "A pair unscored in either is unscored in the pool."
+either-unscored : (c d : Carried) → (c ≡ Unscored) ⊎ (d ≡ Unscored) → added c d ≡ Unscored
+unfolding added
+either-unscored c d (inl e) = ap (λ b. added b d) e
+either-unscored (Scored y) d (inr e) = ap (added (Scored y)) e
+either-unscored Unscored d (inr e) = refl
+
 -- what is read back of the pool
 module _ {first second bytes : List ℕ} (x : Written first second bytes) where
   formed : WellFormed (names first) (poolScores first second)
@@ -291,6 +328,10 @@ module _ {first second bytes : List ℕ} (x : Written first second bytes) where
     symmetric = λ i j _ _. pool-symmetric first second i j;
     allowed = x .range;
   }
+
+  pool-most : length (poolText first second) ≤ 9504
+  unfolding poolText
+  pool-most = sheetText-most formed (x .one .count)
 
   pool-sheet : T (none (sheetChecks bytes))
   unfolding poolText
@@ -313,6 +354,10 @@ module _ {first second bytes : List ℕ} (x : Written first second bytes) where
   pool-score i j h k =
       ap (λ (t : List ℕ). score (pairs t) i j) (x .are) ∙ ap (λ (l : List ℤ). score l i j) (sheetText-pairs formed)
       ∙ score-pairList (length (names first)) (poolScores first second) (pool-symmetric first second) i j h k
+
+  pool-pair : {i i′ j j′ : ℕ} → SameName first second i i′ → SameName first second j j′
+      → carried (value bytes i j) ≡ added (carried (value first i j)) (carried (value second i′ j′))
+  pool-pair {i} {i′} {j} {j′} p q = ap carried (pool-value i j (p .here) (q .here)) ∙ pool-carried (x .one) (x .two) (x .same) p q
 
   -- from an entry of the first sheet to that of the second with the same name
   order : Permutation (entries first)
@@ -358,6 +403,26 @@ module _ {first second bytes : List ℕ} (x : Written first second bytes) where
             (h, is-listed strong n r A (of-listed strong n s A a .0) (subst (λ i. pos 1 ≤ℤ i) is (listed-index strong n (poolScores first second) A p)), refl)),
         subst₂ (λ i k. i ≤ℤ k) (sym (ap₂ _+ℤ_ e f)) is least,
       )
+
+-- a pool that is not refused has at most 9,504 bytes
+pub pool-room : (first second : List ℕ) (buffer : ℕ) → poolRefusal first second buffer ≡ 0 → length (poolText first second) ≤ 9504
+pool-room first second buffer e = pool-most (accepted first second buffer e refl)
+
+-- and a buffer of so many bytes is not short
+pool-counted : {first second lent after : List ℕ} {r : ℤ} → InC (λ a. PoolCall first second lent a after) r → T (none (sheetChecks first ++ sheetChecks second))
+    → SameNames first second → (SumOutOfRange first second → ⊥) → 9504 ≤ length lent → r ≡ pos (length (poolText first second))
+unfolding poolRefusal poolChecks sheetChecks readerChecks all
+pool-counted {first} {second} {lent} {r = r} c t m f h = go (T-or-not (scoresInRange (poolPairs first second)))
+  where
+    both : Sound first × Sound second
+    both = both-sound first second t
+
+    go : T (scoresInRange (poolPairs first second)) ⊎ T (not (scoresInRange (poolPairs first second))) → r ≡ pos (length (poolText first second))
+    go (inl g) =
+        let x : Written first second (poolText first second) = record { one = both .0; two = both .1; same = m; range = g; are = refl } in
+        text-listed c (poolChecks first second (length lent)) (poolText first second) lent (c .outcome .answered) (c .outcome .written) tt .1
+        (pool-none first second (length lent) t (same-iff first second .1 m) g (omega (arith, pool-most x)))
+    go (inr u) = absurd (f (sum-out (both .0) (both .1) m u))
 
 -- a set of names, of sheets with the same lines of names
 set-named : {s t s′ t′ : List ℕ} {A B : ℕ} → names s ≡ names s′ → names t ≡ names t′ → SameSet s t A B → SameSet s′ t′ A B
@@ -419,8 +484,26 @@ other-order {first} {second} {second′} x x′ f = x′ .are ∙ sheetText-cong
         (f (placeOn first second i) (placeOn first second′ i) (placeOn first second j) (placeOn first second′ j) (across i h) (across j k))
         ∙ sym (pool-number (x .one) (x .two) (x .same) (here i h) (here j k))
 
+-- the C call makes for kind 1 the checks of a sheet, and 14
+module _ {s lent after : List ℕ} {r : ℤ} (c : CCall (pos 1) s lent r after) where
+  sheet-refused : (k : ℕ) → 0 < k → k ≢ 14 → r ≡ negℤ (pos k) → firstOf (sheetChecks s) ≡ k
+  unfolding sheetRefusal sheetCallChecks sheetChecks readerChecks all firstOf wrongKind wrongUnscored wrongDistances eqZ
+  sheet-refused k h d e =
+      let text = sheetListing (pos 1) s in
+      let short = check14 (length lent) text ∷ [] in
+      first-ahead (sheetChecks s) short tt (never k short h (T-and (not (eqb 14 k)) true (not-T (eqb 14 k) (λ t. d (sym (eqb→eq 14 k t)))) tt))
+      (text-number c (sheetCallChecks (pos 1) s (length lent)) text lent (c .outcome .answered) (c .outcome .written) k h .0 e)
+
+  sheet-counted : (count : ℕ) → r ≡ pos count → T (none (sheetChecks s))
+  unfolding sheetRefusal sheetCallChecks sheetChecks readerChecks all firstOf wrongKind wrongUnscored wrongDistances eqZ
+  sheet-counted count e =
+      let text = sheetListing (pos 1) s in
+      let short = check14 (length lent) text ∷ [] in
+      none-append (sheetChecks s) short .0 (first-none (sheetChecks s ++ short) tt .0
+      (text-count c (sheetCallChecks (pos 1) s (length lent)) text lent (c .outcome .answered) (c .outcome .written) count e .0)) .0
+
 pub request-2-4 : Request-2-4
-unfolding poolRefusal
+unfolding added poolRefusal
 request-2-4 = record {
   refusal = λ {first} {second} {lent} c. text-refusal c (table first second lent) (poolText first second) lent (c .outcome .answered) (c .outcome .written);
   refused = λ {first} {second} {lent} c. text-refused c (table first second lent) (poolText first second) lent (c .outcome .answered) (c .outcome .written);
@@ -433,6 +516,17 @@ request-2-4 = record {
       (ap length bytes ∙ text-count c checks text lent a w count e .1, rest);
   either = λ {first} {second} {lent} c.
       or-count (text-either c (table first second lent) (poolText first second) lent (c .outcome .answered) (c .outcome .written));
+  judged = λ {first} {second} {lent} c one other.
+      let number = text-number c (table first second lent) (poolText first second) lent (c .outcome .answered) (c .outcome .written) in
+      record {
+        first-sheet = λ k h d e. number k h .1 (pool-first first second (length lent) k h (sheet-refused one k h d e));
+        second-sheet = λ count q k h d e.
+            number k h .1 (pool-second first second (length lent) k h (sheet-counted one count q) (sheet-refused other k h d e));
+        passed = λ count count′ e e′ m f h. (
+          length (poolText first second),
+          pool-counted c (none-append (sheetChecks first) (sheetChecks second) .1 (sheet-counted one count e, sheet-counted other count′ e′)) m f h,
+        );
+      };
   seventeen = λ {first} {second} {lent} c. Iff·trans
       (text-number c (table first second lent) (poolText first second) lent (c .outcome .answered) (c .outcome .written) 17 (lit< tt))
       (pool-seventeen first second (length lent));
@@ -441,7 +535,8 @@ request-2-4 = record {
       (pool-eighteen first second (length lent));
   a-sheet = λ c. pool-sheet (written c);
   its-names = λ c. let x = written c in (pool-names x, x .same);
-  its-pairs = λ c i i′ j j′ p q. let x = written c in ap carried (pool-value x i j (p .here) (q .here)) ∙ pool-carried (x .one) (x .two) (x .same) p q;
+  sums = λ c i i′ j j′ p q y z e f. pool-pair (written c) p q ∙ ap₂ added e f;
+  unscored = λ c i i′ j j′ p q u. pool-pair (written c) p q ∙ either-unscored _ _ u;
   any-order = λ c c′. other-order (written c) (written c′);
   strong-in-both = λ c w w′ u. pool-strong (written c) w w′ u;
   turned = λ c c′ w w′. pool-turned (written c) (written c′) w w′;

@@ -183,6 +183,14 @@ module _ {ns : List (List ℕ)} {s : Similarity} (a : WellFormed ns s) where
       subst (λ (m : ℕ). length l < m * 9) c (subst (λ (t : List ℕ). length t < length ws * 9) (sym e) (words-length ws f (omega (arith, a .some)))) in
       subst (λ (m : ℕ). length text ≤ m * (n * 9)) lines-count short
 
+  -- at the limit of 32 entries there are at most 9,504 bytes
+  pub sheetText-most : wrongCount (length ns) ≡ false → length (sheetText ns s) ≤ 9504
+  sheetText-most count =
+      let few : n ≤ 32 = right-count n count in
+      let more : n + 1 ≤ 33 = omega arith in
+      let nines : n * 9 ≤ 288 = omega arith in
+      omega (arith, sheetText-length, mul-le-mul more nines)
+
   -- checks 2 to 5, 7 to 9 and 11, each in turn
   text-some : 0 < length text
   unfolding sheetText sheetLines each
@@ -192,15 +200,10 @@ module _ {ns : List (List ℕ)} {s : Similarity} (a : WellFormed ns s) where
     length-append (joined space ns) (lineFeed ∷ []),
   )
 
-  -- at the limit of 32 entries there are at most 9,504 bytes
   length-right : wrongCount n ≡ false → wrongLength text ≡ false
   unfolding wrongLength mostBytes
   length-right count =
-      let few : n ≤ 32 = right-count n count in
-      let more : n + 1 ≤ 33 = omega arith in
-      let nines : n * 9 ≤ 288 = omega arith in
-      or-second (ne-eqb (length text) 0 (λ e. omega (arith, text-some)))
-      (le-ltb 12288 (length text) (omega (arith, sheetText-length, mul-le-mul more nines)))
+      or-second (ne-eqb (length text) 0 (λ e. omega (arith, text-some))) (le-ltb 12288 (length text) (omega (arith, sheetText-most count)))
 
   bytes-right : wrongByte text ≡ false
   unfolding wrongByte sheetText isAllowed isUpper isDigit

@@ -62,11 +62,11 @@ use Rattle.interface.specs.Requests.{Sixteen, OutOfRange, Request-2-2}
 use Rattle.interface.proofs.Demands.{c-refused, answered, wrote, wrote-allowed, wrote-scored}
 use Rattle.interface.proofs.Requests.{shared-given}
 
--- a number that stands once in a table is given exactly if its condition holds and none before it does
+-- a number that does not stand in a table is not given
 abbrev pub apart : ℕ → List Check → Bool
 apart k checks = all (λ c. not (eqb (c .0) k)) checks
 
-never : (k : ℕ) (checks : List Check) → 0 < k → T (apart k checks) → firstOf checks ≡ k → ⊥
+pub never : (k : ℕ) (checks : List Check) → 0 < k → T (apart k checks) → firstOf checks ≢ k
 unfolding firstOf all
 never k [] h t e = absurd (omega arith)
 never k (c ∷ checks) h t e = go (c .0) (c .1) t e (never k checks h)
@@ -75,6 +75,7 @@ never k (c ∷ checks) h t e = go (c .0) (c .1) t e (never k checks h)
     go m true t e ih = eqb-no m k (and-T (not (eqb m k)) (apart k checks) t .0) e
     go m false t e ih = ih (and-T (not (eqb m k)) (apart k checks) t .1) e
 
+-- one that stands once is given exactly if its condition holds and none before it does
 pub first-at : (k : ℕ) → 0 < k → (before : List Check) (holds : Bool) (after : List Check) → T (apart k before) → T (apart k after)
     → (firstOf (before ++ ((k, holds) ∷ after)) ≡ k) ↔ (T (none before) × T holds)
 unfolding firstOf all

@@ -10,13 +10,12 @@ use lib.ListN.{length, getD, set, take, drop}
 use Rattle.lists.specs.Lists.{_∈_, _lists_}
 use Rattle.sets.specs.Sets.{_∋_, size, allEntries, Subset}
 use Rattle.integers.specs.Range.{Within}
-use Rattle.pairs.specs.declared.Carried.the-variants.{Scored}
+use Rattle.pairs.specs.declared.Carried.the-variants.{Scored, Unscored}
 use Rattle.pairs.specs.Pairs.{mark, carried, isScored}
 use Rattle.clusters.specs.PairList.{Similarity, place, score, scoreLimit, hasLength}
 use Rattle.clusters.specs.Fillings.{Fills, AllScored, ScoredMore}
 use Rattle.clusters.specs.Farris.{farris, unfarris}
 use Rattle.clusters.specs.Linkage.{Linkage}
-use Rattle.clusters.specs.Pooling.{added}
 use Rattle.clusters.specs.Groups.{kindOf, plainSets, plainGroups, writtenSet}
 use Rattle.clusters.specs.Reordering.{Permutation, Reordered, image}
 use Rattle.clusters.specs.Nesting.{smallestOfAll, OnLine}
@@ -247,10 +246,16 @@ pub record Request-2-4 : Type 0 where
   -- "the names stand in the first sheet's order", and each is on the second
   pub its-names : {first second bytes : List ℕ} → Pooled first second bytes
       → (names bytes ≡ names first) × SameNames first second
-  -- "each score is the sum. A pair unscored in either is unscored in the pool."
-  pub its-pairs : {first second bytes : List ℕ} → Pooled first second bytes
+  -- "each score is the sum"
+  pub sums : {first second bytes : List ℕ} → Pooled first second bytes
+      → (i i′ j j′ : ℕ) → SameName first second i i′ → SameName first second j j′ → (y z : ℤ)
+      → carried (value first i j) ≡ Scored y → carried (value second i′ j′) ≡ Scored z
+      → carried (value bytes i j) ≡ Scored (y +ℤ z)
+  -- "A pair unscored in either is unscored in the pool."
+  pub unscored : {first second bytes : List ℕ} → Pooled first second bytes
       → (i i′ j j′ : ℕ) → SameName first second i i′ → SameName first second j j′
-      → carried (value bytes i j) ≡ added (carried (value first i j)) (carried (value second i′ j′))
+      → (carried (value first i j) ≡ Unscored) ⊎ (carried (value second i′ j′) ≡ Unscored)
+      → carried (value bytes i j) ≡ Unscored
   -- "whatever the second's": another order of the second's names gives the same bytes
   pub any-order : {first second second′ bytes bytes′ : List ℕ}
       → Pooled first second bytes → Pooled first second′ bytes′
