@@ -4,10 +4,10 @@ use mathlib.Core.Bool.{Bool, true, false}
 use mathlib.Core.List.{List, [], _∷_, _++_}
 use mathlib.Core.Logic.{_⊎_, inl, inr}
 use Prim.Native.Nat.{ℕ, zero, suc, _+_, _/_, _%_, _^_, _<_, _≤_}
-use native.Mathlib.Nat.{mod-eq-of-lt, pow-suc}
+use native.Mathlib.Nat.{mod-eq-of-lt, pow-zero, pow-suc, pow-le-pow-right}
 use native.Mathlib.Numerals.{add-one}
 use native.Mathlib.Omega.{arith}
-use lib.Dec.{T, ltb}
+use lib.Dec.{T, ltb, lit<}
 use lib.IntN.{ℤ, pos, negsuc, natAbs}
 use lib.ListN.{length, length-append}
 use lib.Signed.{_≤ℤ_, nonNeg}
@@ -86,6 +86,23 @@ length-decimal (suc k) n h = go (ten n) (length-decimal k (n / 10) (omega (arith
     go : (n < 10) ⊎ (10 ≤ n) → length (decimal (n / 10)) ≤ suc k → length (decimal n) ≤ suc (suc k)
     go (inl s) ih = omega (arith, length-one n s)
     go (inr s) ih = omega (arith, length-more n s)
+
+pub ten-bound : (k n : ℕ) → k ≤ n → 10 ^ k ≤ 10 ^ n
+ten-bound k n p = pow-le-pow-right (lit< tt) p
+
+-- and how many at least
+pub decimal-some : (n : ℕ) → 0 < length (decimal n)
+decimal-some n = go (ten n)
+  where
+    go : (n < 10) ⊎ (10 ≤ n) → 0 < length (decimal n)
+    go (inl s) = omega (arith, length-one n s)
+    go (inr s) = omega (arith, length-more n s)
+
+pub decimal-least : (k n : ℕ) → 10 ^ k ≤ n → k < length (decimal n)
+decimal-least zero n h = decimal-some n
+decimal-least (suc k) n h =
+    let one = ten-bound 0 k (omega arith) in
+    omega (arith, length-more n (omega (arith, pow-suc 10 k, pow-zero 10)), decimal-least k (n / 10) (omega (arith, pow-suc 10 k)))
 
 -- a number that is not negative is its absolute value
 pub natural : (z : ℤ) → pos 0 ≤ℤ z → T (nonNeg z) × (pos (natAbs z) ≡ z)

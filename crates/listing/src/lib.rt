@@ -35,17 +35,20 @@ fn put_digits(out: &mut [u8], at: usize, base: usize, k: usize, n: usize) -> usi
     at + k
 }
 
-// The number of decimal digits.
+// The number of decimal digits: the number is compared with 10, 100 and so on, which takes less time than dividing it.
 fn decimal_length(n: usize) -> usize
     ensures { λ r. ⌜ r ≡ length (decimal n) ⌝ }
 {
     let mut k: usize = 1;
-    let mut rest = n;
-    while rest >= 10 {
-        rest /= 10;
+    let mut top: usize = 10;
+    while k < 19 {
+        if n < top {
+            return k;
+        }
+        top *= 10;
         k += 1;
     }
-    k
+    if n < top { 19 } else { 20 }
 }
 
 // Puts a set and a space.
