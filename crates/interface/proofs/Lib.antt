@@ -19,3 +19,4 @@ pub mod RowStarts
 pub mod Places
 pub mod Pool
 pub mod SharedExample
+pub mod PoolExample

@@ -1,12 +1,12 @@
 -- Request 2.4, from the outcomes of the calls, what is read back of a sheet as it is written, and the theorems about pooled scores.
 use mathlib.Core.Path.{_≡_, refl, sym, ap, ap₂, _∙_, subst, subst₂}
-use mathlib.Core.Bool.{Bool, true, false, not}
+use mathlib.Core.Bool.{Bool, true, false, not, cond}
 use mathlib.Core.Logic.{_⊎_, inl, inr, _≢_, _↔_, Iff·trans}
 use mathlib.Core.List.{List, [], _∷_, _++_}
 use Prim.Native.Nat.{ℕ, _^_, _≤_, _<_}
 use native.Mathlib.Omega.{arith}
 use borrow.Author.Tests.{not-false, le-ltb}
-use lib.Dec.{T, T-not, not-T, eqb, eqb→eq, lit<}
+use lib.Dec.{T, T-not, not-T, eqb, eqb→eq, ltb, lit<}
 use lib.IntN.{ℤ, pos, negℤ, _+ℤ_}
 use lib.ListN.{length, getD}
 use lib.Signed.{_≤ℤ_}
@@ -57,7 +57,7 @@ use Rattle.interface.specs.Refusals.{
 use Rattle.interface.specs.Calls.{InC, CCall, PoolCall}
 use Rattle.interface.specs.Demands.{Wrote}
 use Rattle.interface.specs.Requests.{Pooled, by-pool-call, by-pool-in-C, SameName, SameSet, SameNames, SumOutOfRange, Request-2-4}
-use Rattle.interface.proofs.Refusals.{gives, first-no, no-more, first-none, none-append, first-ahead, first-front, first-back, passes, some-count}
+use Rattle.interface.proofs.Refusals.{gives, first-none, none-append, first-append, first-ahead, first-front, first-back, passes, some-count}
 use Rattle.interface.proofs.Accepted.{not-not}
 use Rattle.interface.proofs.Names.{distinct-names}
 use Rattle.interface.proofs.Places.{Matching, same-count, moved-lt, moved-name, moved-only, renumbering, same-names, names-same}
@@ -274,13 +274,11 @@ module _ (first second : List ℕ) where
     pool-second k h t e = sym (gives (first-back (sheetChecks first) (sheetChecks second ++ last) tt (sym (first-none (sheetChecks first) tt .1 t)) refl
         (first-front (sheetChecks second) last tt (sym e) (λ z. omega arith))))
 
-    pool-none : T (none before) → T (not differing) → T ranging → length (poolText first second) ≤ buffer → T (none (poolChecks first second buffer))
-    unfolding poolChecks sheetChecks readerChecks all
-    pool-none t d g h = none-append before last .1 (
-      t,
-      first-none last tt .0 (sym (gives (first-no (T-false {b = differing} d)
-          (first-no (ap not (T-true {b = ranging} g)) (first-no (le-ltb buffer (length (poolText first second)) h) no-more))))),
-    )
+    -- and only 14 is left to two that pass, with the same names and sums in range
+    pool-last : T (none before) → T (not differing) → T ranging → poolRefusal first second buffer ≡ cond (ltb buffer (length (poolText first second))) 14 0
+    unfolding poolRefusal poolChecks sheetChecks readerChecks all firstOf
+    pool-last t d g =
+        first-append before last tt ∙ rw (first-none before tt .1 t, T-false {b = differing} d, T-true {b = ranging} g)
 
 -- bytes that a call wrote are the pool of two sheets that pass
 record Written (first second bytes : List ℕ) : Type 0 where
@@ -404,6 +402,11 @@ module _ {first second bytes : List ℕ} (x : Written first second bytes) where
         subst₂ (λ i k. i ≤ℤ k) (sym (ap₂ _+ℤ_ e f)) is least,
       )
 
+-- a pool that is not refused gets 14 exactly from a buffer that is too short
+pub pool-buffer : (first second : List ℕ) (buffer other : ℕ) → poolRefusal first second buffer ≡ 0
+    → poolRefusal first second other ≡ cond (ltb other (length (poolText first second))) 14 0
+pool-buffer first second buffer other e = let (t, d, g) = pool-passed first second buffer e in pool-last first second other t d g
+
 -- a pool that is not refused has at most 9,504 bytes
 pub pool-room : (first second : List ℕ) (buffer : ℕ) → poolRefusal first second buffer ≡ 0 → length (poolText first second) ≤ 9504
 pool-room first second buffer e = pool-most (accepted first second buffer e refl)
@@ -421,7 +424,8 @@ pool-counted {first} {second} {lent} {r = r} c t m f h = go (T-or-not (scoresInR
     go (inl g) =
         let x : Written first second (poolText first second) = record { one = both .0; two = both .1; same = m; range = g; are = refl } in
         text-listed c (poolChecks first second (length lent)) (poolText first second) lent (c .outcome .answered) (c .outcome .written) tt .1
-        (pool-none first second (length lent) t (same-iff first second .1 m) g (omega (arith, pool-most x)))
+        (first-none (poolChecks first second (length lent)) tt .0
+        (pool-last first second (length lent) t (same-iff first second .1 m) g ∙ rw (le-ltb (length lent) (length (poolText first second)) (omega (arith, pool-most x)))))
     go (inr u) = absurd (f (sum-out (both .0) (both .1) m u))
 
 -- a set of names, of sheets with the same lines of names
@@ -486,21 +490,22 @@ other-order {first} {second} {second′} x x′ f = x′ .are ∙ sheetText-cong
 
 -- the C call makes for kind 1 the checks of a sheet, and 14
 module _ {s lent after : List ℕ} {r : ℤ} (c : CCall (pos 1) s lent r after) where
+  abbrev listing : List ℕ
+  listing = sheetListing (pos 1) s
+
+  abbrev short : List Check
+  short = check14 (length lent) listing ∷ []
+
   sheet-refused : (k : ℕ) → 0 < k → k ≢ 14 → r ≡ negℤ (pos k) → firstOf (sheetChecks s) ≡ k
   unfolding sheetRefusal sheetCallChecks sheetChecks readerChecks all firstOf wrongKind wrongUnscored wrongDistances eqZ
-  sheet-refused k h d e =
-      let text = sheetListing (pos 1) s in
-      let short = check14 (length lent) text ∷ [] in
-      first-ahead (sheetChecks s) short tt (never k short h (T-and (not (eqb 14 k)) true (not-T (eqb 14 k) (λ t. d (sym (eqb→eq 14 k t)))) tt))
-      (text-number c (sheetCallChecks (pos 1) s (length lent)) text lent (c .outcome .answered) (c .outcome .written) k h .0 e)
+  sheet-refused k h d e = first-ahead (sheetChecks s) short tt
+      (never k short h (T-and (not (eqb 14 k)) true (not-T (eqb 14 k) (λ t. d (sym (eqb→eq 14 k t)))) tt))
+      (text-number c (sheetCallChecks (pos 1) s (length lent)) listing lent (c .outcome .answered) (c .outcome .written) k h .0 e)
 
   sheet-counted : (count : ℕ) → r ≡ pos count → T (none (sheetChecks s))
   unfolding sheetRefusal sheetCallChecks sheetChecks readerChecks all firstOf wrongKind wrongUnscored wrongDistances eqZ
-  sheet-counted count e =
-      let text = sheetListing (pos 1) s in
-      let short = check14 (length lent) text ∷ [] in
-      none-append (sheetChecks s) short .0 (first-none (sheetChecks s ++ short) tt .0
-      (text-count c (sheetCallChecks (pos 1) s (length lent)) text lent (c .outcome .answered) (c .outcome .written) count e .0)) .0
+  sheet-counted count e = none-append (sheetChecks s) short .0 (first-none (sheetChecks s ++ short) tt .0
+      (text-count c (sheetCallChecks (pos 1) s (length lent)) listing lent (c .outcome .answered) (c .outcome .written) count e .0)) .0
 
 pub request-2-4 : Request-2-4
 unfolding added poolRefusal

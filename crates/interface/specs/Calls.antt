@@ -169,7 +169,7 @@ pub record SharedInC (kind : ℤ) (n : ℕ) (l : List ℤ) (i j : ℕ) (r : ℤ)
   pub answered : r ≡ cNumber (answer (sharedNumber given) (sharedLine given))
   pub written : set ≡ sharedSet given
 
--- The pool of two sheets (document 02, 2.4), which "is written as a sheet": the pool's length, and the pool in the first
+-- The pool of two sheets (document 02, 2.4), which "is written as a sheet": its length, and the pool in the first
 -- bytes.
 pub record PoolCall (first second lent : List ℕ) (r : Answer) (after : List ℕ) : Type 0 where
   pub answered : r ≡ answer (poolRefusal first second (length lent)) (length (poolText first second))

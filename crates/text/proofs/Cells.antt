@@ -10,6 +10,7 @@ use lib.IntN.{ℤ}
 use lib.ListN.{length, getD, drop}
 use Rattle.pairs.specs.declared.Carried.the-variants.{Scored, Unscored}
 use Rattle.interface.specs.Sheet.{isNumeral, isValue, isLoneMinus, isCell, valueOf, pairSaid}
+use Rattle.interface.proofs.Values.{plain-lone}
 use Rattle.text.specs.Reading.{pieceAt, isEnd, numberAt}
 use Rattle.text.specs.declared.Cursor.{Cursor}
 use Rattle.text.specs.declared.NumberRead.{NumberRead}
@@ -31,11 +32,6 @@ ends-empty (b ∷ t) = go (eqb b 32) refl
     go true e = rw (first-end (b ∷ t) e)
     go false e = rw (first-step b t e) (sym (ne-eqb (suc (length (pieceAt 32 t 0))) 0 (λ z. absurd (omega arith))))
 
-no-minus : (w : List ℕ) → eqb (getD w 0 0) 45 ≡ false → isLoneMinus w ≡ false
-unfolding isLoneMinus
-no-minus [] e = refl
-no-minus (b ∷ w) e = rw e
-
 -- a lone minus at a place, byte by byte
 module _ (s : List ℕ) (at : ℕ) where
   pub lone-none : length s ≤ at → false ≡ isLoneMinus (pieceAt 32 s at)
@@ -43,7 +39,7 @@ module _ (s : List ℕ) (at : ℕ) where
   lone-none h = rw (piece-none 32 s at h)
 
   pub lone-other : at < length s → (getD s at 0 ≡ 45 → ⊥) → false ≡ isLoneMinus (pieceAt 32 s at)
-  lone-other h f = sym (no-minus (pieceAt 32 s at) (first-byte s at h (ne-eqb (getD s at 0) 45 f)))
+  lone-other h f = sym (plain-lone (pieceAt 32 s at) (first-byte s at h (ne-eqb (getD s at 0) 45 f)))
 
   pub lone-is : at < length s → getD s at 0 ≡ 45 → isEnd (drop (at + 1) s) ≡ isLoneMinus (pieceAt 32 s at)
   unfolding isLoneMinus pieceAt

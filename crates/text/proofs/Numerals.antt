@@ -4,7 +4,7 @@ use mathlib.Core.Bool.{Bool, true, false, cond, not, _&&_, _||_, and-true, and-f
 use mathlib.Core.List.{List, [], _∷_}
 use Prim.Native.Nat.{ℕ, zero, suc, _+_, _-_, _*_, _^_, _≤_, _<_}
 use native.Mathlib.Numerals.{add-one}
-use native.Mathlib.Nat.{pow-suc, pow-le-pow-right}
+use native.Mathlib.Nat.{pow-suc}
 use native.Mathlib.Omega.{arith}
 use borrow.Author.Tests.{leb-true, le-leb, lt-leb, eqb-true, eqb-false, eq-eqb, ne-eqb}
 use lib.Dec.{leb, eqb, lit<, leb·suc-suc, eqb·suc-suc}
@@ -16,6 +16,8 @@ use mir.Syntax.{w32}
 use mir.Facts.{toZ-pos}
 use Rattle.lists.specs.Lists.{all}
 use Rattle.interface.specs.Sheet.{isDigit, isNumeral, isValue, digitValue, numberFrom, valueOf}
+use Rattle.interface.proofs.Digits.{ten-bound}
+use Rattle.interface.proofs.Values.{plain-test, plain-value}
 use Rattle.text.specs.Reading.{pieceAt, digits, readOn, isEnd, numberAt}
 use Rattle.text.specs.declared.Digits.{Digits}
 use Rattle.text.specs.declared.NumberRead.{NumberRead}
@@ -46,9 +48,6 @@ digit-zero b e = rw (digit-value b e) (go (eqb b 48) refl)
 -- a number grows by a digit
 pub ten-step : (k v d : ℕ) → v < 10 ^ k → d ≤ 9 → v * 10 + d < 10 ^ (k + 1)
 ten-step k v d p q = rw (add-one, pow-suc) (omega arith)
-
-pub ten-bound : (k n : ℕ) → k ≤ n → 10 ^ k ≤ 10 ^ n
-ten-bound k n p = pow-le-pow-right (lit< tt) p
 
 -- digits read on from a place: nothing is left to read, the line ends, another byte stands there, a digit does
 pub read-nothing : (v i k : ℕ) (s : List ℕ) → digits k (drop i s) ≡ []
@@ -241,16 +240,6 @@ minus-test w = go (isNumeral w) refl
     go : (x : Bool) → isNumeral w ≡ x → (x && not (eqb (getD w 0 0) 48)) ≡ (x && not (eqb (numberFrom 10 0 w) 0))
     go true e = ap not (number-zero w e)
     go false e = refl
-
-plain-test : (w : List ℕ) → eqb (getD w 0 0) 45 ≡ false → isValue w ≡ isNumeral w
-unfolding isValue isNumeral
-plain-test [] e = refl
-plain-test (b ∷ w) e = rw e
-
-plain-value : (w : List ℕ) → eqb (getD w 0 0) 45 ≡ false → valueOf w ≡ pos (numberFrom 10 0 w)
-unfolding valueOf numberFrom
-plain-value [] e = refl
-plain-value (b ∷ w) e = rw e
 
 abbrev pub signed : Bool → ℕ → ℤ
 signed true n = negℤ (pos n)
