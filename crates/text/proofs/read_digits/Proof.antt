@@ -8,11 +8,11 @@ use lib.Dec.{lit<}
 use lib.ListN.{length, getD, drop}
 use Rattle.interface.specs.Sheet.{isDigit}
 use Rattle.text.specs.Reading.{digits, readOn}
+use Rattle.interface.proofs.Digits.{ten-bound}
 use Rattle.text.proofs.Numerals.{
   digit-low,
   digit-high,
   ten-step,
-  ten-bound,
   read-nothing,
   read-digit,
   no-more,
