@@ -211,11 +211,12 @@ pub record SumOutOfRange (first second : List ℕ) : Type 0 where
   pub there : carried (value second i′ j′) ≡ Scored z
   pub out : Within scoreLimit (y +ℤ z) → ⊥
 
--- what is answered for two sheets, beside what the C call answers for kind 1 and each of them: it makes 2 to 9 and 11 of
--- the checks of a sheet, and 14
+-- what is answered for two sheets, beside what the C call answers for kind 1 and each of them, which makes 2 to 9, 11
+-- and 14
 pub record PoolJudged (first second lent : List ℕ) (r one other : ℤ) : Type 0 where
   pub first-sheet : (k : ℕ) → 0 < k → k ≢ 14 → one ≡ negℤ (pos k) → r ≡ negℤ (pos k)
-  pub second-sheet : (count : ℕ) → one ≡ pos count → (k : ℕ) → 0 < k → k ≢ 14 → other ≡ negℤ (pos k) → r ≡ negℤ (pos k)
+  pub second-sheet : (count : ℕ) → one ≡ pos count
+      → (k : ℕ) → 0 < k → k ≢ 14 → other ≡ negℤ (pos k) → r ≡ negℤ (pos k)
   pub passed : (count count′ : ℕ) → one ≡ pos count → other ≡ pos count′ → SameNames first second
       → (SumOutOfRange first second → ⊥) → 9504 ≤ length lent → (length : ℕ) × (r ≡ pos length)
 
