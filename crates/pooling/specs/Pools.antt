@@ -1,14 +1,14 @@
 -- The code's own vocabulary for the pool of two sheets, which a reader of the statements need not believe.
 use mathlib.Core.Path.{_≡_}
 use mathlib.Core.Bool.{Bool, true}
-use mathlib.Core.List.{List, [], _∷_}
+use mathlib.Core.List.{List, [], _∷_, _++_}
 use Prim.Native.Nat.{ℕ, _<_}
 use lib.IntN.{ℤ}
-use lib.ListN.{length, getD, take}
+use lib.ListN.{length, getD}
 use Rattle.lists.specs.Lists.{all}
 use Rattle.answers.specs.declared.Answer.{Answer}
 use Rattle.answers.specs.Answers.{answer, slots}
-use Rattle.clusters.specs.PairList.{rowStart, score}
+use Rattle.clusters.specs.PairList.{score}
 use Rattle.interface.specs.Sheet.{space, cut, entries, pairs, isAmong}
 use Rattle.interface.specs.SheetText.{sheetText}
 use Rattle.interface.specs.Pool.{placeOf, poolText}
@@ -45,7 +45,10 @@ pub record PairsPooled (first second lent : List ℕ) (r : Answer) (after : List
   pub answered : r ≡ answer (pairsRefusal first second (length lent)) (length (poolText first second))
   pub written : after ≡ slots (pairsRefusal first second (length lent)) (poolText first second) lent
 
--- what is read of a sheet: the number of the refusal and, if it is 0, the entries, and the pair list in the first slots
-pub record Read (sheet : List ℕ) (number n : ℕ) (slots : List ℤ) : Type 0 where
-  pub refusal : number ≡ firstOf (sheetChecks sheet)
-  pub accepted : number ≡ 0 → Accepted sheet n (take (rowStart n) slots)
+-- the same behind 2 to 9 and 11 of the second sheet
+unfoldable pub secondRefusal : (first second : List ℕ) → (buffer : ℕ) → ℕ
+secondRefusal first second buffer = firstOf (sheetChecks second ++ bothChecks first second buffer)
+
+pub record SecondPooled (first second lent : List ℕ) (r : Answer) (after : List ℕ) : Type 0 where
+  pub answered : r ≡ answer (secondRefusal first second (length lent)) (length (poolText first second))
+  pub written : after ≡ slots (secondRefusal first second (length lent)) (poolText first second) lent

@@ -12,7 +12,7 @@ ghost use Rattle.clusters.specs.Pooling.{added, pooled};
 ghost use Rattle.interface.specs.Sheet.{space, cut, isName};
 ghost use Rattle.interface.specs.Pool.{placeOf};
 ghost use Rattle.interface.specs.Calls.{PoolCall};
-ghost use Rattle.pooling.specs.Pools.{PlacesOn, SumsWritten, Accepted, PairsPooled, Read};
+ghost use Rattle.pooling.specs.Pools.{PlacesOn, SumsWritten, Accepted, PairsPooled, SecondPooled};
 use answers::Answer;
 
 // Where the word stands among the pieces of the line, counted from 0; how many they are, if it is not there.
@@ -150,41 +150,22 @@ fn pool_pairs(
     write_sums(&first[..end], &sums[..count], n, out)
 }
 
-// A sheet that was read: the number of the refusal, 0 for none, the number of entries, and the pair list in the first
-// slots.
-struct Reading {
-    number: usize,
-    n: usize,
-    pairs: [i32; 528],
-}
-
-// Checks 2 to 9 and 11 and, if none refuses, the entries and the pair list.
-fn read(sheet: &[u8]) -> Reading
-    ensures { λ r. ⌜ Read (now (sheet .entry)) (r .number) (r .n) (r .pairs) ⌝ }
+// The pool of a sheet that was accepted, of n entries and with its pair list, and a second sheet, which checks 2 to 9
+// and 11 judge first.
+fn pool_second(first: &[u8], n: usize, scores: &[i32], second: &[u8], out: &mut [u8]) -> Answer
+    requires { ⌜ Accepted (now first) n (now scores) ⌝ }
+    ensures { λ r. ⌜ SecondPooled (now (first .entry)) (now (second .entry)) (now (out .entry)) r (now (out .exit)) ⌝ }
 {
-    let mut pairs = [0i32; 528];
-    let none: usize = 0;
-    let reading = reader::read(sheet, &mut pairs);
+    let mut others = [0i32; 528];
+    let reading = reader::read(second, &mut others);
     match reading {
-        Answer::Refused(number) => Reading {
-            number,
-            n: none,
-            pairs,
-        },
-        Answer::Count(n) => {
-            let count = matrix::pair_count(n);
-            if !matrix::scores_in_range(&pairs[..count]) {
-                return Reading {
-                    number: 11,
-                    n: none,
-                    pairs,
-                };
+        Answer::Refused(refused) => Answer::Refused(refused),
+        Answer::Count(m) => {
+            let count = matrix::pair_count(m);
+            if !matrix::scores_in_range(&others[..count]) {
+                return Answer::Refused(11);
             }
-            Reading {
-                number: none,
-                n,
-                pairs,
-            }
+            pool_pairs(first, second, n, m, scores, &others[..count], out)
         }
     }
 }
@@ -193,29 +174,16 @@ fn read(sheet: &[u8]) -> Reading
 pub fn pool(first: &[u8], second: &[u8], out: &mut [u8]) -> Answer
     ensures { λ r. ⌜ PoolCall (now (first .entry)) (now (second .entry)) (now (out .entry)) r (now (out .exit)) ⌝ }
 {
-    let one = read(first);
-    let number = one.number;
-    if number != 0 {
-        return Answer::Refused(number);
+    let mut scores = [0i32; 528];
+    let reading = reader::read(first, &mut scores);
+    match reading {
+        Answer::Refused(number) => Answer::Refused(number),
+        Answer::Count(n) => {
+            let count = matrix::pair_count(n);
+            if !matrix::scores_in_range(&scores[..count]) {
+                return Answer::Refused(11);
+            }
+            pool_second(first, n, &scores[..count], second, out)
+        }
     }
-    let other = read(second);
-    let number2 = other.number;
-    if number2 != 0 {
-        return Answer::Refused(number2);
-    }
-    let n = one.n;
-    let m = other.n;
-    let scores = one.pairs;
-    let others = other.pairs;
-    let count = matrix::pair_count(n);
-    let count2 = matrix::pair_count(m);
-    pool_pairs(
-        first,
-        second,
-        n,
-        m,
-        &scores[..count],
-        &others[..count2],
-        out,
-    )
 }
