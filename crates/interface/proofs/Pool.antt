@@ -5,7 +5,7 @@ use mathlib.Core.Logic.{_⊎_, inl, inr, _≢_, _↔_, Iff·trans}
 use mathlib.Core.List.{List, [], _∷_, _++_}
 use Prim.Native.Nat.{ℕ, _^_, _≤_, _<_}
 use native.Mathlib.Omega.{arith}
-use borrow.Author.Tests.{not-false, le-ltb}
+use borrow.Author.Tests.{not-false, lt-ltb, le-ltb}
 use lib.Dec.{T, T-not, not-T, eqb, eqb→eq, ltb, lit<}
 use lib.IntN.{ℤ, pos, negℤ, _+ℤ_}
 use lib.ListN.{length, getD}
@@ -30,6 +30,7 @@ use Rattle.clusters.proofs.Images.{image-only}
 use Rattle.clusters.proofs.Scored.{AllAllowed, allowed-within, within-range, list-allowed}
 use Rattle.clusters.proofs.Fillings.{filled-cong}
 use Rattle.clusters.proofs.Pooled.{added-carried, pooled-symmetric, pooled-turned, pooled-index, pooled-strong}
+use Rattle.answers.specs.Answers.{answer}
 use Rattle.interface.specs.Sheet.{isName, lines, names, entries, value, pairs, mirrored}
 use Rattle.interface.specs.Listing.{sheetListing}
 use Rattle.interface.specs.Pool.{placeOn, poolScores, poolPairs, poolText}
@@ -54,7 +55,7 @@ use Rattle.interface.specs.Refusals.{
   poolChecks,
   poolRefusal,
 }
-use Rattle.interface.specs.Calls.{InC, CCall, PoolCall}
+use Rattle.interface.specs.Calls.{cNumber, InC, CCall, PoolCall}
 use Rattle.interface.specs.Demands.{Wrote}
 use Rattle.interface.specs.Requests.{Pooled, by-pool-call, by-pool-in-C, SameName, SameSet, SameNames, SumOutOfRange, Request-2-4}
 use Rattle.interface.proofs.Refusals.{gives, first-none, none-append, first-append, first-ahead, first-front, first-back, passes, some-count}
@@ -70,7 +71,7 @@ use Rattle.interface.proofs.SheetTexts.{
   sheetText-most,
   sheetText-accepted,
 }
-use Rattle.interface.proofs.Demands.{taken, not-refused, counted, wrote-allowed, demand-3}
+use Rattle.interface.proofs.Demands.{answered, taken, not-refused, counted, wrote-allowed, demand-3}
 use Rattle.interface.proofs.Demands.{text-number, text-refusal, text-refused, text-listed, text-count, text-written, text-either}
 use Rattle.interface.proofs.Unscored.{never, first-at, strong-wrote}
 
@@ -286,13 +287,14 @@ record Written (first second bytes : List ℕ) : Type 0 where
   two : Sound second
   same : SameNames first second
   range : T (scoresInRange (poolPairs first second))
+  left : (buffer : ℕ) → poolRefusal first second buffer ≡ cond (ltb buffer (length (poolText first second))) 14 0
   are : bytes ≡ poolText first second
 
 accepted : (first second : List ℕ) (buffer : ℕ) {bytes : List ℕ} → poolRefusal first second buffer ≡ 0 → bytes ≡ poolText first second → Written first second bytes
 accepted first second buffer e q =
     let (t, m, r) = pool-passed first second buffer e in
     let (a, b) = both-sound first second t in
-    record { one = a; two = b; same = same-iff first second .0 m; range = r; are = q }
+    record { one = a; two = b; same = same-iff first second .0 m; range = r; left = λ other. pool-last first second other t m r; are = q }
 
 written : {first second bytes : List ℕ} → Pooled first second bytes → Written first second bytes
 unfolding poolRefusal
@@ -405,16 +407,28 @@ module _ {first second bytes : List ℕ} (x : Written first second bytes) where
 -- a pool that is not refused gets 14 exactly from a buffer that is too short
 pub pool-buffer : (first second : List ℕ) (buffer other : ℕ) → poolRefusal first second buffer ≡ 0
     → poolRefusal first second other ≡ cond (ltb other (length (poolText first second))) 14 0
-pool-buffer first second buffer other e = let (t, d, g) = pool-passed first second buffer e in pool-last first second other t d g
+pool-buffer first second buffer other e = accepted first second buffer e refl .left other
 
 -- a pool that is not refused has at most 9,504 bytes
 pub pool-room : (first second : List ℕ) (buffer : ℕ) → poolRefusal first second buffer ≡ 0 → length (poolText first second) ≤ 9504
 pool-room first second buffer e = pool-most (accepted first second buffer e refl)
 
+-- the answer for a buffer, beside a pool that was written
+pool-fits : {first second lent after bytes : List ℕ} {r : ℤ} → InC (λ a. PoolCall first second lent a after) r → Written first second bytes
+    → (length lent < length bytes → r ≡ negℤ (pos 14)) × (length bytes ≤ length lent → r ≡ pos (length bytes))
+unfolding cNumber answer
+pool-fits {first} {second} {lent} {bytes = bytes} {r = r} c x = (
+  λ h. is {k = 14} (x .left (length lent) ∙ rw (← ap length (x .are), lt-ltb (length lent) (length bytes) h)),
+  λ h. is {k = 0} (x .left (length lent) ∙ rw (← ap length (x .are), le-ltb (length lent) (length bytes) h)),
+)
+  where
+    is : {k : ℕ} → poolRefusal first second (length lent) ≡ k → r ≡ cNumber (answer k (length bytes))
+    is e = answered c (poolRefusal first second (length lent)) (length (poolText first second)) (c .outcome .answered)
+        ∙ ap₂ (λ (k : ℕ) (t : List ℕ). cNumber (answer k (length t))) e (sym (x .are))
+
 -- and a buffer of so many bytes is not short
 pool-counted : {first second lent after : List ℕ} {r : ℤ} → InC (λ a. PoolCall first second lent a after) r → T (none (sheetChecks first ++ sheetChecks second))
     → SameNames first second → (SumOutOfRange first second → ⊥) → 9504 ≤ length lent → r ≡ pos (length (poolText first second))
-unfolding poolRefusal poolChecks sheetChecks readerChecks all
 pool-counted {first} {second} {lent} {r = r} c t m f h = go (T-or-not (scoresInRange (poolPairs first second)))
   where
     both : Sound first × Sound second
@@ -422,10 +436,15 @@ pool-counted {first} {second} {lent} {r = r} c t m f h = go (T-or-not (scoresInR
 
     go : T (scoresInRange (poolPairs first second)) ⊎ T (not (scoresInRange (poolPairs first second))) → r ≡ pos (length (poolText first second))
     go (inl g) =
-        let x : Written first second (poolText first second) = record { one = both .0; two = both .1; same = m; range = g; are = refl } in
-        text-listed c (poolChecks first second (length lent)) (poolText first second) lent (c .outcome .answered) (c .outcome .written) tt .1
-        (first-none (poolChecks first second (length lent)) tt .0
-        (pool-last first second (length lent) t (same-iff first second .1 m) g ∙ rw (le-ltb (length lent) (length (poolText first second)) (omega (arith, pool-most x)))))
+        let x : Written first second (poolText first second) = record {
+          one = both .0;
+          two = both .1;
+          same = m;
+          range = g;
+          left = λ buffer. pool-last first second buffer t (same-iff first second .1 m) g;
+          are = refl;
+        } in
+        pool-fits c x .1 (omega (arith, pool-most x))
     go (inr u) = absurd (f (sum-out (both .0) (both .1) m u))
 
 -- a set of names, of sheets with the same lines of names
@@ -538,6 +557,7 @@ request-2-4 = record {
   eighteen = λ {first} {second} {lent} c. Iff·trans
       (text-number c (table first second lent) (poolText first second) lent (c .outcome .answered) (c .outcome .written) 18 (lit< tt))
       (pool-eighteen first second (length lent));
+  room = λ c d. pool-fits c (written d);
   a-sheet = λ c. pool-sheet (written c);
   its-names = λ c. let x = written c in (pool-names x, x .same);
   sums = λ c i i′ j j′ p q y z e f. pool-pair (written c) p q ∙ ap₂ added e f;

@@ -242,6 +242,10 @@ pub record Request-2-4 : Type 0 where
   pub eighteen : {first second lent after : List ℕ} {r : ℤ} → InC (λ a. PoolCall first second lent a after) r
       → (r ≡ negℤ (pos 18))
       ↔ (T (none (sheetChecks first ++ sheetChecks second)) × SameNames first second × SumOutOfRange first second)
+  -- "and 14 a short buffer": one shorter than the pool that another call wrote; any other has room
+  pub room : {first second lent after bytes : List ℕ} {r : ℤ} → InC (λ a. PoolCall first second lent a after) r
+      → Pooled first second bytes
+      → (length lent < length bytes → r ≡ negℤ (pos 14)) × (length bytes ≤ length lent → r ≡ pos (length bytes))
   -- "The pool is written as a sheet": one that passes 2 to 9 and 11
   pub a-sheet : {first second bytes : List ℕ} → Pooled first second bytes → T (none (sheetChecks bytes))
   -- "the names stand in the first sheet's order", and each is on the second
