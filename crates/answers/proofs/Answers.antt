@@ -7,6 +7,7 @@ use native.Mathlib.Omega.{arith}
 use lib.Dec.{eqb·suc-zero}
 use lib.ListN.{length, take, drop, replicate}
 use lib.Seq.{take-append-seam}
+use Rattle.answers.specs.declared.Answer.the-variants.{Count, Refused}
 use Rattle.answers.specs.Answers.{numberOf, countOf, answer, slots, filled}
 use Rattle.answers.specs.Shared.{sharedNumber, sharedSet, sharedLine, sharedAnswer}
 
@@ -23,6 +24,24 @@ pub count-refused : (k c : ℕ) → 0 < k → countOf (answer k c) ≡ 0
 unfolding countOf answer
 count-refused zero c h = absurd (omega arith)
 count-refused (suc k) c h = refl
+
+-- which case an answer is
+module _ (k c : ℕ) where
+  pub refused-is : {j : ℕ} → answer k c ≡ Refused j → (j ≡ k) × (j ≡ 0 → ⊥)
+  unfolding answer
+  refused-is {j} e = go k e
+    where
+      go : (k : ℕ) → answer k c ≡ Refused j → (j ≡ k) × (j ≡ 0 → ⊥)
+      go zero e = let z : _≡_ {A = ℕ} 0 1 = cc in absurd (omega arith)
+      go (suc k) e = let is : j ≡ suc k = cc in (is, λ z. omega arith)
+
+  pub count-is : {n : ℕ} → answer k c ≡ Count n → (k ≡ 0) × (n ≡ c)
+  unfolding answer
+  count-is {n} e = go k e
+    where
+      go : (k : ℕ) → answer k c ≡ Count n → (k ≡ 0) × (n ≡ c)
+      go zero e = (refl, cc)
+      go (suc k) e = let z : _≡_ {A = ℕ} 0 1 = cc in absurd (omega arith)
 
 -- the slots of a refused call, and of one that was not refused
 pub slots-refused {ℓ} : {A : Type ℓ} (k : ℕ) (result lent : List A) → 0 < k → slots k result lent ≡ lent

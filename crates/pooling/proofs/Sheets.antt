@@ -1,13 +1,13 @@
 -- Two sheets that were accepted: their names, checks 17, 18 and 14, and what is then written.
 use mathlib.Core.Path.{_≡_, refl, sym, ap, ap₂, _∙_, subst}
 use mathlib.Core.Bool.{Bool, true, false, not, _&&_}
-use mathlib.Core.List.{List, [], _∷_, _++_}
+use mathlib.Core.List.{List, [], _∷_}
 use Prim.Native.Nat.{ℕ, _+_, _≤_, _<_}
 use native.Mathlib.Omega.{arith}
 use borrow.Author.Tests.{ne-eqb, eq-eqb, not-false}
 use lib.Dec.{T, eqb}
 use lib.IntN.{ℤ}
-use lib.ListN.{length, getD, take}
+use lib.ListN.{length, getD, take, length-take}
 use Rattle.lists.specs.Lists.{all, Distinct}
 use Rattle.lists.proofs.Lists.{getD-in}
 use Rattle.pairs.specs.Pairs.{numberFor, carried}
@@ -17,21 +17,21 @@ use Rattle.clusters.proofs.PairList.{length-pairList, pairList-cong, score-pair
 use Rattle.answers.specs.declared.Answer.{Answer}
 use Rattle.answers.specs.declared.Answer.the-variants.{Refused}
 use Rattle.answers.specs.Answers.{answer, slots}
+use Rattle.answers.proofs.Answers.{refused-is}
 use Rattle.answers.proofs.WaysOut.{refused}
 use Rattle.interface.specs.Sheet.{space, isName, cut, lines, names, entries, pairs, isAmong}
 use Rattle.interface.specs.SheetText.{sheetText}
 use Rattle.interface.specs.Pool.{placeOn, poolScores, poolPairs, poolText}
-use Rattle.interface.specs.Refusals.{firstOf, wrongCount, namesDiffer, check14, check18, readerChecks, sheetChecks, bothChecks, poolChecks, poolRefusal}
+use Rattle.interface.specs.Refusals.{firstOf, wrongCount, namesDiffer, check14, check18, readerChecks, sheetChecks, poolChecks, poolRefusal}
 use Rattle.interface.specs.Calls.{PoolCall}
-use Rattle.interface.proofs.Refusals.{gives, first-yes, first-no, first-none, right-count}
+use Rattle.interface.proofs.Refusals.{gives, first-yes, first-no, first-none, first-front, first-back, right-count}
 use Rattle.interface.proofs.Places.{place-lt, same-names, by-count}
 use Rattle.interface.proofs.SheetTexts.{sheetText-cong}
 use Rattle.interface.proofs.Pool.{Sound, sound, pool-symmetric}
 use Rattle.text.specs.Reading.{pieceAt}
 use Rattle.sheet.proofs.Lines.{first-line}
 use Rattle.reader.proofs.Answers.{pairs-length}
-use Rattle.pooling.specs.Pools.{Accepted, PlacesOn, sheetOf, sumsRefusal, SumsWritten, pairsRefusal, PairsPooled, secondRefusal, SecondPooled}
-use Rattle.pooling.proofs.Readings.{behind-accepted}
+use Rattle.pooling.specs.Pools.{Accepted, PlacesOn, sheetOf, sumsRefusal, SumsWritten, pairsRefusal, PairsPooled}
 
 -- one of them
 module _ {sheet : List ℕ} {n : ℕ} {l : List ℤ} (a : Accepted sheet n l) where
@@ -63,6 +63,17 @@ module _ {sheet : List ℕ} {n : ℕ} {l : List ℤ} (a : Accepted sheet n l) wh
 
     pub line-named : T (all isName (cut space (take end sheet)))
     line-named = subst (λ (ws : List (List ℕ)). T (all isName ws)) (sym line-names) (left .named)
+
+-- its pair list as the first slots of those that hold it
+module _ {sheet : List ℕ} {n : ℕ} (held : List ℤ) (a : Accepted sheet n (take (rowStart n) held)) {count : ℕ} (e : count ≡ rowStart n) where
+  pub lent-pairs : Accepted sheet n (take count held)
+  lent-pairs = subst (λ (k : ℕ). Accepted sheet n (take k held)) (sym e) a
+
+  pub lent-long : count ≡ length (take count held)
+  lent-long = e ∙ sym (long lent-pairs)
+
+  pub lent-fit : count ≤ length held
+  lent-fit = omega (arith, lent-long, length-take count held)
 
 -- both
 module _ {first second : List ℕ} {n m : ℕ} {scores others : List ℤ} (a : Accepted first n scores) (b : Accepted second m others) where
@@ -139,26 +150,29 @@ module _ {first second : List ℕ} {n m : ℕ} {scores others : List ℤ} (a : A
           written = w .written ∙ ap₂ (λ (k : ℕ) (t : List ℕ). slots k t lent) (refusal-is (length lent)) text-is;
         }
 
--- the ways out: a sheet refused, or the checks behind it made
+-- the ways out of the call: the first refused, the second refused, and checks 17, 18 and 14 made
 module _ (first second lent : List ℕ) where
-  abbrev text : List ℕ
-  text = poolText first second
+  refusal-out : {k : ℕ} → k ≡ poolRefusal first second (length lent) → (k ≡ 0 → ⊥) → PoolCall first second lent (Refused k) lent
+  refusal-out e f = let (r, w) = refused (length (poolText first second)) (poolText first second) lent e f in record { answered = r; written = w }
 
-  pub second-refused : {k : ℕ} → (k ≡ secondRefusal first second (length lent)) × (k ≡ 0 → ⊥) → SecondPooled first second lent (Refused k) lent
-  second-refused (e, f) = let (r, w) = refused (length text) text lent e f in record { answered = r; written = w }
+  pub refused-first : {k : ℕ} → Refused k ≡ answer (firstOf (sheetChecks first)) (entries first) → PoolCall first second lent (Refused k) lent
+  unfolding poolRefusal poolChecks sheetChecks readerChecks all
+  refused-first q = let (e, f) = refused-is (firstOf (sheetChecks first)) (entries first) (sym q) in refusal-out (gives (first-front (sheetChecks first) _ tt e f)) f
 
-  pub first-refused : {k : ℕ} → (k ≡ poolRefusal first second (length lent)) × (k ≡ 0 → ⊥) → PoolCall first second lent (Refused k) lent
-  first-refused (e, f) = let (r, w) = refused (length text) text lent e f in record { answered = r; written = w }
+  module _ {n : ℕ} {scores : List ℤ} (a : Accepted first n scores) where
+    pub refused-second : {k : ℕ} → Refused k ≡ answer (firstOf (sheetChecks second)) (entries second) → PoolCall first second lent (Refused k) lent
+    unfolding poolRefusal poolChecks sheetChecks readerChecks all
+    refused-second q =
+        let (e, f) = refused-is (firstOf (sheetChecks second)) (entries second) (sym q) in
+        refusal-out (gives (first-back (sheetChecks first) _ tt (sym (a .passed)) refl (first-front (sheetChecks second) _ tt e f))) f
 
-  module _ {r : Answer} {after : List ℕ} where
-    pub second-accepted : {m : ℕ} {others : List ℤ} → Accepted second m others → PairsPooled first second lent r after → SecondPooled first second lent r after
-    unfolding secondRefusal pairsRefusal
-    second-accepted b p =
-        let e = behind-accepted b (bothChecks first second (length lent)) in
-        record { answered = p .answered ∙ ap (λ (k : ℕ). answer k (length text)) e; written = p .written ∙ ap (λ (k : ℕ). slots k text lent) e }
-
-    pub first-accepted : {n : ℕ} {scores : List ℤ} → Accepted first n scores → SecondPooled first second lent r after → PoolCall first second lent r after
-    unfolding poolRefusal poolChecks secondRefusal
-    first-accepted a p =
-        let e = behind-accepted a (sheetChecks second ++ bothChecks first second (length lent)) in
-        record { answered = p .answered ∙ ap (λ (k : ℕ). answer k (length text)) e; written = p .written ∙ ap (λ (k : ℕ). slots k text lent) e }
+    pub both-accepted : {m : ℕ} {others : List ℤ} → Accepted second m others → {r : Answer} {after : List ℕ} → PairsPooled first second lent r after
+        → PoolCall first second lent r after
+    unfolding poolRefusal poolChecks pairsRefusal sheetChecks readerChecks all
+    both-accepted b p =
+        let e : pairsRefusal first second (length lent) ≡ poolRefusal first second (length lent) =
+        gives (first-back (sheetChecks first) _ tt (sym (a .passed)) refl (first-back (sheetChecks second) _ tt (sym (b .passed)) refl (record { is = refl }))) in
+        record {
+          answered = p .answered ∙ ap (λ (k : ℕ). answer k (length (poolText first second))) e;
+          written = p .written ∙ ap (λ (k : ℕ). slots k (poolText first second) lent) e;
+        }

@@ -1,14 +1,15 @@
 -- The code's own vocabulary for the pool of two sheets, which a reader of the statements need not believe.
 use mathlib.Core.Path.{_≡_}
 use mathlib.Core.Bool.{Bool, true}
-use mathlib.Core.List.{List, [], _∷_, _++_}
+use mathlib.Core.List.{List, [], _∷_}
 use Prim.Native.Nat.{ℕ, _<_}
 use lib.IntN.{ℤ}
-use lib.ListN.{length, getD}
+use lib.ListN.{length, getD, take}
 use Rattle.lists.specs.Lists.{all}
 use Rattle.answers.specs.declared.Answer.{Answer}
+use Rattle.answers.specs.declared.Answer.the-variants.{Count}
 use Rattle.answers.specs.Answers.{answer, slots}
-use Rattle.clusters.specs.PairList.{score}
+use Rattle.clusters.specs.PairList.{rowStart, score}
 use Rattle.interface.specs.Sheet.{space, cut, entries, pairs, isAmong}
 use Rattle.interface.specs.SheetText.{sheetText}
 use Rattle.interface.specs.Pool.{placeOf, poolText}
@@ -45,10 +46,7 @@ pub record PairsPooled (first second lent : List ℕ) (r : Answer) (after : List
   pub answered : r ≡ answer (pairsRefusal first second (length lent)) (length (poolText first second))
   pub written : after ≡ slots (pairsRefusal first second (length lent)) (poolText first second) lent
 
--- the same behind 2 to 9 and 11 of the second sheet
-unfoldable pub secondRefusal : (first second : List ℕ) → (buffer : ℕ) → ℕ
-secondRefusal first second buffer = firstOf (sheetChecks second ++ bothChecks first second buffer)
-
-pub record SecondPooled (first second lent : List ℕ) (r : Answer) (after : List ℕ) : Type 0 where
-  pub answered : r ≡ answer (secondRefusal first second (length lent)) (length (poolText first second))
-  pub written : after ≡ slots (secondRefusal first second (length lent)) (poolText first second) lent
+-- a sheet that was read: the answer, and the pair list in the first slots if it was accepted
+pub record Read (sheet : List ℕ) (r : Answer) (slots : List ℤ) : Type 0 where
+  pub answered : r ≡ answer (firstOf (sheetChecks sheet)) (entries sheet)
+  pub accepted : (n : ℕ) → r ≡ Count n → Accepted sheet n (take (rowStart n) slots)

@@ -3,7 +3,7 @@ ghost use mathlib.Core.Path.{_≡_};
 ghost use mathlib.Core.List.{_++_, map};
 ghost use Prim.Native.Nat.{ℕ, suc, _≤_, _<_};
 ghost use lib.Dec.{T};
-ghost use lib.ListN.{length, getD, drop};
+ghost use lib.ListN.{length, getD, take, drop};
 ghost use lib.Seq.{sets};
 ghost use Rattle.lists.specs.Lists.{all, below};
 ghost use Rattle.pairs.specs.Pairs.{numberFor, carried};
@@ -12,7 +12,7 @@ ghost use Rattle.clusters.specs.Pooling.{added, pooled};
 ghost use Rattle.interface.specs.Sheet.{space, cut, isName};
 ghost use Rattle.interface.specs.Pool.{placeOf};
 ghost use Rattle.interface.specs.Calls.{PoolCall};
-ghost use Rattle.pooling.specs.Pools.{PlacesOn, SumsWritten, Accepted, PairsPooled, SecondPooled};
+ghost use Rattle.pooling.specs.Pools.{PlacesOn, SumsWritten, Accepted, PairsPooled, Read};
 use answers::Answer;
 
 // Where the word stands among the pieces of the line, counted from 0; how many they are, if it is not there.
@@ -150,22 +150,27 @@ fn pool_pairs(
     write_sums(&first[..end], &sums[..count], n, out)
 }
 
-// The pool of a sheet that was accepted, of n entries and with its pair list, and a second sheet, which checks 2 to 9
-// and 11 judge first.
-fn pool_second(first: &[u8], n: usize, scores: &[i32], second: &[u8], out: &mut [u8]) -> Answer
-    requires { ⌜ Accepted (now first) n (now scores) ⌝ }
-    ensures { λ r. ⌜ SecondPooled (now (first .entry)) (now (second .entry)) (now (out .entry)) r (now (out .exit)) ⌝ }
+// The pairs of n entries, in the first slots, pass check 11.
+fn are_in_range(pairs: &[i32], n: usize) -> bool
+    requires { ⌜ (n ≤ 32) × (rowStart n ≤ length (now pairs)) ⌝ }
+    ensures { λ r. ⌜ r ≡ scoresInRange (take (rowStart n) (now (pairs .entry))) ⌝ }
 {
-    let mut others = [0i32; 528];
-    let reading = reader::read(second, &mut others);
+    let count = matrix::pair_count(n);
+    matrix::scores_in_range(&pairs[..count])
+}
+
+// Checks 2 to 9 and 11 and, if none refuses, the number of entries, and the pair list in the first slots.
+fn read(sheet: &[u8], pairs: &mut [i32; 528]) -> Answer
+    ensures { λ r. ⌜ Read (now (sheet .entry)) r (now (pairs .exit)) ⌝ }
+{
+    let reading = reader::read(sheet, pairs);
     match reading {
-        Answer::Refused(refused) => Answer::Refused(refused),
-        Answer::Count(m) => {
-            let count = matrix::pair_count(m);
-            if !matrix::scores_in_range(&others[..count]) {
+        Answer::Refused(number) => Answer::Refused(number),
+        Answer::Count(n) => {
+            if !are_in_range(pairs, n) {
                 return Answer::Refused(11);
             }
-            pool_pairs(first, second, n, m, scores, &others[..count], out)
+            Answer::Count(n)
         }
     }
 }
@@ -175,15 +180,28 @@ pub fn pool(first: &[u8], second: &[u8], out: &mut [u8]) -> Answer
     ensures { λ r. ⌜ PoolCall (now (first .entry)) (now (second .entry)) (now (out .entry)) r (now (out .exit)) ⌝ }
 {
     let mut scores = [0i32; 528];
-    let reading = reader::read(first, &mut scores);
+    let reading = read(first, &mut scores);
     match reading {
         Answer::Refused(number) => Answer::Refused(number),
         Answer::Count(n) => {
-            let count = matrix::pair_count(n);
-            if !matrix::scores_in_range(&scores[..count]) {
-                return Answer::Refused(11);
+            let mut others = [0i32; 528];
+            let reading2 = read(second, &mut others);
+            match reading2 {
+                Answer::Refused(number2) => Answer::Refused(number2),
+                Answer::Count(m) => {
+                    let count = matrix::pair_count(n);
+                    let count2 = matrix::pair_count(m);
+                    pool_pairs(
+                        first,
+                        second,
+                        n,
+                        m,
+                        &scores[..count],
+                        &others[..count2],
+                        out,
+                    )
+                }
             }
-            pool_second(first, n, &scores[..count], second, out)
         }
     }
 }

@@ -19,7 +19,7 @@ use Rattle.clusters.specs.PairList.{Similarity, pairList, rowStart}
 use Rattle.clusters.proofs.PairList.{pairList-cong, length-pairList}
 use Rattle.answers.specs.declared.Answer.the-variants.{Count, Refused}
 use Rattle.answers.specs.Answers.{answer, slots}
-use Rattle.answers.proofs.Answers.{slots-written}
+use Rattle.answers.proofs.Answers.{refused-is, count-is, slots-written}
 use Rattle.answers.proofs.WaysOut as ways
 use Rattle.interface.specs.Sheet.{space, names, entries, value, pairs, mirrored}
 use Rattle.interface.specs.Refusals.{
@@ -106,20 +106,10 @@ module _ (s : List ℕ) (l : List ℤ) where
 -- the number of the refusal in an answer, which is not 0, and the entries
 module _ (s : List ℕ) where
   pub number-is : (k : ℕ) → answer (readerRefusal s) (entries s) ≡ Refused k → (k ≡ readerRefusal s) × (k ≡ 0 → ⊥)
-  unfolding answer
-  number-is k e = go (readerRefusal s) e
-    where
-      go : (r : ℕ) → answer r (entries s) ≡ Refused k → (k ≡ r) × (k ≡ 0 → ⊥)
-      go zero e = let z : _≡_ {A = ℕ} 0 1 = cc in absurd (omega arith)
-      go (suc r) e = let is : k ≡ suc r = cc in (is, λ z. omega arith)
+  number-is k e = refused-is (readerRefusal s) (entries s) e
 
   pub entries-is : (n : ℕ) → answer (readerRefusal s) (entries s) ≡ Count n → (readerRefusal s ≡ 0) × (n ≡ entries s)
-  unfolding answer
-  entries-is n e = go (readerRefusal s) e
-    where
-      go : (r : ℕ) → answer r (entries s) ≡ Count n → (r ≡ 0) × (n ≡ entries s)
-      go zero e = (refl, cc)
-      go (suc r) e = let z : _≡_ {A = ℕ} 0 1 = cc in absurd (omega arith)
+  entries-is n e = count-is (readerRefusal s) (entries s) e
 
 -- a sheet that passes: it has few entries, and the first slots are its pair list
 pub passes-few : (s : List ℕ) → readerRefusal s ≡ 0 → entries s ≤ 32

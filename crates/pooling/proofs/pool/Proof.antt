@@ -1,32 +1,21 @@
-use mathlib.Core.Path.{_≡_, sym, ap, _∙_}
-use native.Mathlib.Omega.{arith}
+use mathlib.Core.Path.{_≡_, sym, _∙_}
 use borrow.Author.Needs.{needs}
 use lib.ListN.{take}
-use Rattle.clusters.specs.PairList.{scoresInRange}
-use Rattle.answers.specs.declared.Answer.the-variants.{Count}
-use Rattle.answers.specs.Answers.{answer}
-use Rattle.interface.specs.Sheet.{entries, pairs}
-use Rattle.interface.specs.Refusals.{readerRefusal, poolChecks, poolRefusal}
-use Rattle.reader.proofs.Answers.{few-entries, pairs-read, pairs-long, pairs-fit}
+use Rattle.clusters.specs.PairList.{rowStart}
 use Rattle.pooling.specs.Pools.{Accepted}
-use Rattle.pooling.proofs.Readings.{read-refused, read-out-of-range, read-accepted}
-use Rattle.pooling.proofs.Sheets.{first-refused, first-accepted}
+use Rattle.pooling.proofs.Sheets.{few, lent-pairs, lent-long, lent-fit, refused-first, refused-second, both-accepted}
 use Rattle.pooling.proofs.pool.Statement.{statement}
 use Rattle.pooling.proofs.pool.Tie as tie
 
--- what was read
-was-read : (c : tie.After-known-told2) → let s = c .before .before .before .before .before .before .before .before .args .first .now in
-    answer (readerRefusal s) (entries s) ≡ Count (c .before .reading2 .given .0 .0)
-was-read c = sym (c .before .before .before .read .ensures .answered) ∙ c .before .reading2 .given .1
+-- the first sheet was accepted
+first : (c : tie.After-known-told2) → let r = c .before .before .before in let n = c .before .reading2 .given .0 .0 in
+    Accepted (r .before .before .before .before .before .args .first .now) n (take (rowStart n) (r .read .last .1 .0))
+first c = c .before .before .before .read .ensures .accepted _ (c .before .reading2 .given .1)
 
-pairs-are : (c : tie.After-pair-count) → let r = c .before .before .before .before in
-    take (c .pair-count .result) (r .read .last .1 .0) ≡ pairs (r .before .before .before .before .before .args .first .now)
-pairs-are c = pairs-read _ (was-read (c .before)) _ (c .before .before .before .before .read .ensures .written) (c .pair-count .ensures)
-
-in-range : (c : tie.After-scores-in-range) →
-    let r = c .before .before .before .before .before .before in
-    c .scores-in-range .result ≡ scoresInRange (pairs (r .before .before .before .before .before .args .first .now))
-in-range c = c .scores-in-range .ensures ∙ ap scoresInRange (pairs-are (c .before .before))
+-- and so was the second
+second : (c : tie.After-known-told4) → let r = c .before .before .before in let m = c .before .reading23 .given .0 .0 in
+    Accepted (r .before .before .before .before .before .before .before .before .before .before .args .second .now) m (take (rowStart m) (r .read2 .last .1 .0))
+second c = c .before .before .before .read2 .ensures .accepted _ (c .before .reading23 .given .1)
 
 read-requires : tie.Need-read-requires
 read-requires c κs = search needs
@@ -37,47 +26,55 @@ enum-known-reading c = search needs
 enum-known-reading-2 : tie.Need-enum-known-reading-2
 enum-known-reading-2 c = search needs
 
+read-requires-2 : tie.Need-read-requires-2
+read-requires-2 c κs = search needs
+
+enum-known-reading2 : tie.Need-enum-known-reading2
+enum-known-reading2 c = search needs
+
+enum-known-reading2-2 : tie.Need-enum-known-reading2-2
+enum-known-reading2-2 c = search needs
+
 pair-count-requires : tie.Need-pair-count-requires
-pair-count-requires c κs = few-entries _ (was-read c)
+pair-count-requires c κs = few (first (c .before .before .before .before .before))
+
+pair-count-requires-2 : tie.Need-pair-count-requires-2
+pair-count-requires-2 c κs = few (second (c .before))
 
 array-share-prefix-scores : tie.Need-array-share-prefix-scores
-array-share-prefix-scores c = pairs-fit _ (was-read (c .before)) _ (c .pair-count .ensures) (pairs-are c)
+array-share-prefix-scores c = lent-fit _ (first (c .before .before .before .before .before .before .before)) (c .before .pair-count .ensures)
 
-slice-aggregate-scores-in-range : tie.Need-slice-aggregate-scores-in-range
-slice-aggregate-scores-in-range c = c .before .pair-count .ensures ∙ sym (pairs-long _ (was-read (c .before .before)) (pairs-are (c .before)))
+slice-aggregate-pool-pairs : tie.Need-slice-aggregate-pool-pairs
+slice-aggregate-pool-pairs c = lent-long _ (first (c .before .before .before .before .before .before .before .before)) (c .before .before .pair-count .ensures)
 
-scores-in-range-requires : tie.Need-scores-in-range-requires
-scores-in-range-requires c κs = search needs
+array-share-prefix-others : tie.Need-array-share-prefix-others
+array-share-prefix-others c = lent-fit _ (second (c .before .before .before)) (c .before .pair-count2 .ensures)
+
+slice-aggregate-pool-pairs-2 : tie.Need-slice-aggregate-pool-pairs-2
+slice-aggregate-pool-pairs-2 c = lent-long _ (second (c .before .before .before .before)) (c .before .before .pair-count2 .ensures)
+
+pool-pairs-requires : tie.Need-pool-pairs-requires
+pool-pairs-requires c κs =
+    let k = c .before .before .before in
+    let u = k .before .before in
+    (lent-pairs _ (first (u .before .before .before .before .before)) (k .before .pair-count .ensures), lent-pairs _ (second u) (k .pair-count2 .ensures))
 
 returns : tie.Need-returns
-unfolding poolRefusal poolChecks
-returns c = first-refused _ _ _ (read-out-of-range _ (was-read (c .before .before .before .before)) (in-range (c .before)) _ (c .if1 .taken), λ z. omega arith)
-
-array-share-prefix-scores-2 : tie.Need-array-share-prefix-scores-2
-array-share-prefix-scores-2 c = let k = c .before .before .before in pairs-fit _ (was-read (k .before)) _ (k .pair-count .ensures) (pairs-are k)
-
-slice-aggregate-pool-second : tie.Need-slice-aggregate-pool-second
-slice-aggregate-pool-second c = let k = c .before .before .before .before in k .pair-count .ensures ∙ sym (pairs-long _ (was-read (k .before)) (pairs-are k))
-
--- the sheet was accepted
-accepted : (c : tie.Else1) →
-    let k = c .before .before .before in
-    let r = k .before .before .before .before in
-    Accepted (r .before .before .before .before .before .args .first .now) (k .before .before .reading2 .given .0 .0) (take (k .pair-count .result) (r .read .last .1 .0))
-accepted c = let k = c .before .before .before in read-accepted _ (was-read (k .before)) (in-range (c .before)) (c .if1 .left) (pairs-are k)
-
-pool-second-requires : tie.Need-pool-second-requires
-pool-second-requires c κs = accepted (c .before .before)
+returns c = refused-first _ _ _ (sym (c .before .reading .given .1) ∙ c .before .before .before .read .ensures .answered)
 
 returns-2 : tie.Need-returns-2
-unfolding poolRefusal poolChecks
-returns-2 c = first-refused _ _ _ (read-refused _ _ (sym (c .before .before .before .read .ensures .answered) ∙ c .before .reading .given .1))
+returns-2 c =
+    let r = c .before .before .before in
+    refused-second _ _ _ (first (r .before .before)) (sym (c .before .reading22 .given .1) ∙ r .read2 .ensures .answered)
 
 same-length : tie.Need-same-length
 same-length c = search needs
 
 returns-3 : tie.Need-returns-3
-returns-3 c = let p = c .before .before in first-accepted _ _ _ (accepted (p .before .before .before)) (p .pool-second .ensures)
+returns-3 c =
+    let p = c .before .before in
+    let u = p .before .before .before .before .before .before in
+    both-accepted _ _ _ (first (u .before .before .before .before .before)) (second u) (p .pool-pairs .ensures)
 
 pub pool-spec : {M : Type 1} → statement M
 pool-spec =
@@ -86,14 +83,17 @@ pool-spec =
     read-requires
     enum-known-reading
     enum-known-reading-2
+    read-requires-2
+    enum-known-reading2
+    enum-known-reading2-2
     pair-count-requires
+    pair-count-requires-2
     array-share-prefix-scores
-    slice-aggregate-scores-in-range
-    scores-in-range-requires
+    slice-aggregate-pool-pairs
+    array-share-prefix-others
+    slice-aggregate-pool-pairs-2
+    pool-pairs-requires
     returns
-    array-share-prefix-scores-2
-    slice-aggregate-pool-second
-    pool-second-requires
     returns-2
     same-length
     returns-3)
