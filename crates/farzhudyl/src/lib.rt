@@ -33,11 +33,7 @@ fn list_pairs(kind: i32, n: usize, pairs: &[i32], out: &mut [u8]) -> Answer
     // room for the first line and 64 of the longest lines
     let mut text = [0u8; 2127];
     let written = listing::write(&mut text, &sets, &indices, count);
-    if out.len() < written {
-        return Answer::Refused(14);
-    }
-    bytes::copy(&text[..written], out);
-    Answer::Count(written)
+    listing::hand_over(&text, written, out)
 }
 
 // The sheet call: the listing's length, and the listing in the first bytes; or the refusal, and nothing is written.

@@ -1,3 +1,4 @@
 pub mod Puts
 pub mod Numbers
 pub mod Lines
+pub mod Over

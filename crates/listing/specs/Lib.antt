@@ -1,3 +1,4 @@
 pub mod Lines
 pub mod Put
 pub mod Slots
+pub mod Over

@@ -1,9 +1,9 @@
-// The listing writer.
+// The listing writer, and a text handed over.
 ghost use mathlib.Core.Path.{_≡_};
 ghost use mathlib.Core.List.{_++_, _∷_, [], map};
 ghost use Prim.Native.Nat.{_+_, _*_, _≤_, _<_};
 ghost use lib.IntN.{pos};
-ghost use lib.ListN.{length, drop, getD};
+ghost use lib.ListN.{length, take, drop, getD};
 ghost use lib.Seq.{sets};
 ghost use lib.Signed.{_≤ℤ_};
 ghost use Rattle.lists.specs.Lists.{each};
@@ -12,6 +12,8 @@ ghost use Rattle.listing.specs.Lines.{line};
 ghost use Rattle.listing.specs.Put.{Put};
 ghost use Rattle.interface.specs.Calls.{groupsOf};
 ghost use Rattle.listing.specs.Slots.{Slots};
+ghost use Rattle.listing.specs.Over.{HandedOver};
+use answers::Answer;
 
 fn digit(k: usize) -> u8
     requires { ⌜ k < 16 ⌝ }
@@ -117,4 +119,16 @@ pub fn write(out: &mut [u8], sets: &[u32], indices: &[i64], count: usize) -> usi
 {
     let at = bytes::copy(b"set size index\n", out);
     put_lines(out, at, sets, indices, count)
+}
+
+// Hands over a text that was written, the first bytes of a buffer: its length; or 14, and nothing is written.
+pub fn hand_over(text: &[u8], written: usize, out: &mut [u8]) -> Answer
+    requires { ⌜ written ≤ length (now text) ⌝ }
+    ensures { λ r. ⌜ HandedOver (take written (now (text .entry))) (now (out .entry)) r (now (out .exit)) ⌝ }
+{
+    if out.len() < written {
+        return Answer::Refused(14);
+    }
+    bytes::copy(&text[..written], out);
+    Answer::Count(written)
 }

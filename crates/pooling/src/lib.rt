@@ -114,11 +114,7 @@ fn write_sums(line: &[u8], sums: &[i32], n: usize, out: &mut [u8]) -> Answer
     // room for line 1 and 32 lines of 32 values, 9 bytes each, and for what the writer asks beyond
     let mut text = [0u8; 9517];
     let written = writer::write(&mut text, line, sums, n);
-    if out.len() < written {
-        return Answer::Refused(14);
-    }
-    bytes::copy(&text[..written], out);
-    Answer::Count(written)
+    listing::hand_over(&text, written, out)
 }
 
 // The pool of two sheets of n and m entries, with their pair lists, or the first of checks 17, 18 and 14 that refuses.

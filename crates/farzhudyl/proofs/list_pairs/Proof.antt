@@ -1,22 +1,24 @@
 use mathlib.Core.Path.{_≡_, refl, sym, ap, _∙_, subst}
 use mathlib.Core.Bool.{Bool, false, not}
 use mathlib.Core.List.{List}
-use Prim.Native.Nat.{ℕ, _<_, _≤_}
-use borrow.Author.Tests.{lt-ltb, le-ltb, not-false}
+use Prim.Native.Nat.{ℕ}
+use borrow.Author.Tests.{not-false}
 use lib.ListN.{length, take, length-take}
 use mir.Facts.{toZ-ofZ}
 use Rattle.lists.proofs.Tests.{true-T}
 use Rattle.clusters.specs.PairList.{scoresInRange}
 use Rattle.clusters.specs.Groups.{kindOf}
 use Rattle.interface.specs.Refusals.{wrongUnscored, wrongDistances}
-use Rattle.interface.proofs.Refusals.{gives, first-yes, first-no, no-more}
+use Rattle.interface.proofs.Refusals.{gives, first-yes, first-no}
 use Rattle.answers.specs.declared.Answer.the-variants.{Refused}
-use Rattle.answers.proofs.WaysOut.{refused, counted}
+use Rattle.answers.proofs.WaysOut.{refused}
 use Rattle.matrix.specs.Checks.{Checked}
 use Rattle.kinds.proofs.Listed.{told, accepted}
 use Rattle.groups.specs.Found.{Groups}
 use Rattle.interface.specs.Listing.{groupsFound, pairsListing}
-use Rattle.listing.proofs.Puts.{written, copied}
+use Rattle.listing.specs.Over.{overRefusal}
+use Rattle.listing.proofs.Puts.{written}
+use Rattle.listing.proofs.Over.{handed-over}
 use Rattle.farzhudyl.specs.Pairs.{pairsRefusal, PairsListed}
 use Rattle.farzhudyl.proofs.Found.{found-slots, found-listing}
 use native.Mathlib.Omega.{arith}
@@ -119,43 +121,25 @@ slice-aggregate-write-3 c = search needs
 write-requires : tie.Need-write-requires
 write-requires c κs = let g = these (c .before .before .before .before .before) in (found-slots _ _ _ _ g, omega (arith, g .few))
 
-returns-4 : tie.Need-returns-4
-unfolding pairsRefusal
-returns-4 c =
-    let w = c .before .before in
-    let f = w .before .before .before .before .before .before in
-    let s = f .before .before .before .before .before .before .before .before in
-    let h : length (s .args .out .now) < length (text s) = omega (arith, wrote w .0, c .if4 .taken) in
-    let d = f .before in
-    let u = d .before .before in
-    let p = first-no (asked-16 (u .before) (u .if2 .left)) (first-no (asked-12 (d .before) (d .if3 .left)) (first-yes (lt-ltb _ _ h))) in
-    refusal s (gives (first-no (passed-11 (u .before .before)) p)) (λ z. omega arith)
+slice-aggregate-hand-over : tie.Need-slice-aggregate-hand-over
+slice-aggregate-hand-over c = search needs
 
-array-share-prefix-text : tie.Need-array-share-prefix-text
-array-share-prefix-text c = let w = c .before .before in omega (arith, long w, length-take (w .write .result) (w .write .last .0))
-
-slice-aggregate-copy : tie.Need-slice-aggregate-copy
-slice-aggregate-copy c = omega (arith, long (c .before .before .before))
-
-copy-requires : tie.Need-copy-requires
-copy-requires c κs = omega (arith, long (c .before .before .before .before))
+hand-over-requires : tie.Need-hand-over-requires
+hand-over-requires c κs = let w = c .before .before .before in omega (arith, long w, length-take (w .write .result) (w .write .last .0))
 
 same-length : tie.Need-same-length
 same-length c = search needs
 
-returns-5 : tie.Need-returns-5
-unfolding pairsRefusal
-returns-5 c =
+returns-4 : tie.Need-returns-4
+unfolding pairsRefusal overRefusal
+returns-4 c =
     let o = c .before .before in
-    let w = o .before .before .before .before .before in
+    let w = o .before .before .before .before in
     let f = w .before .before .before .before .before .before in
-    let s = f .before .before .before .before .before .before .before .before in
-    let h : length (text s) ≤ length (s .args .out .now) = omega (arith, wrote w .0, o .before .before .before .if4 .left) in
     let d = f .before in
     let u = d .before .before in
-    let p = first-no (asked-16 (u .before) (u .if2 .left)) (first-no (asked-12 (d .before) (d .if3 .left)) (first-no (le-ltb _ _ h) no-more)) in
-    let (a, t) = counted (length (text s)) (text s) (s .args .out .now) (gives (first-no (passed-11 (u .before .before)) p)) refl (wrote w .0) refl
-    (copied (s .args .out .now) (wrote w .1) (o .copy .ensures .1)) in
+    let p = first-no (asked-16 (u .before) (u .if2 .left)) (first-no (asked-12 (d .before) (d .if3 .left)) (record { is = refl })) in
+    let (a, t) = handed-over (wrote w .1) (gives (first-no (passed-11 (u .before .before)) p)) (o .hand-over .ensures) in
     record { answered = a; written = t }
 
 pub list-pairs-spec : {M : Type 1} → statement M
@@ -173,9 +157,7 @@ list-pairs-spec =
     slice-aggregate-write-2
     slice-aggregate-write-3
     write-requires
-    returns-4
-    array-share-prefix-text
-    slice-aggregate-copy
-    copy-requires
+    slice-aggregate-hand-over
+    hand-over-requires
     same-length
-    returns-5)
+    returns-4)

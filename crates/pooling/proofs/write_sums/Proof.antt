@@ -1,17 +1,19 @@
 use mathlib.Core.Path.{_≡_, refl, sym, ap, _∙_}
 use mathlib.Core.Bool.{false, not}
 use mathlib.Core.List.{List}
-use Prim.Native.Nat.{ℕ, _<_, _≤_}
+use Prim.Native.Nat.{ℕ}
 use native.Mathlib.Omega.{arith}
 use borrow.Author.Needs.{needs}
-use borrow.Author.Tests.{lt-ltb, le-ltb, not-false}
+use borrow.Author.Tests.{not-false}
 use lib.ListN.{length, take, length-take}
 use Rattle.lists.proofs.Tests.{true-T}
 use Rattle.clusters.specs.PairList.{scoresInRange}
 use Rattle.answers.specs.declared.Answer.the-variants.{Refused}
-use Rattle.answers.proofs.WaysOut.{refused, counted}
-use Rattle.interface.proofs.Refusals.{gives, first-yes, first-no, no-more}
-use Rattle.listing.proofs.Puts.{written, copied}
+use Rattle.answers.proofs.WaysOut.{refused}
+use Rattle.interface.proofs.Refusals.{gives, first-yes, first-no}
+use Rattle.listing.specs.Over.{overRefusal}
+use Rattle.listing.proofs.Puts.{written}
+use Rattle.listing.proofs.Over.{handed-over}
 use Rattle.pooling.specs.Pools.{sheetOf, sumsRefusal, SumsWritten}
 use Rattle.pooling.proofs.Texts.{line-room}
 use Rattle.pooling.proofs.write_sums.Statement.{statement}
@@ -57,36 +59,21 @@ write-requires c κs =
     let p = s .pre in
     ((p .0, p .1, p .3, true-T (not-false (scoresInRange _) (passed-18 (c .before)))), line-room (s .args .line .now) (s .args .n) (p .0) (p .1) (p .2))
 
-returns-2 : tie.Need-returns-2
-unfolding sumsRefusal
-returns-2 c =
-    let w = c .before .before in
-    let s = w .before .before .before .before .before .before in
-    let h : length (s .args .out .now) < length (text s) = omega (arith, wrote w .0, c .if2 .taken) in
-    refusal s (gives (first-no (passed-18 (w .before .before)) (first-yes (lt-ltb _ _ h)))) (λ z. omega arith)
+slice-aggregate-hand-over : tie.Need-slice-aggregate-hand-over
+slice-aggregate-hand-over c = search needs
 
-array-share-prefix-text : tie.Need-array-share-prefix-text
-array-share-prefix-text c = let w = c .before .before in omega (arith, long w, length-take (w .write .result) (w .write .last .0))
-
-slice-aggregate-copy : tie.Need-slice-aggregate-copy
-slice-aggregate-copy c = omega (arith, long (c .before .before .before))
-
-copy-requires : tie.Need-copy-requires
-copy-requires c κs = omega (arith, long (c .before .before .before .before))
+hand-over-requires : tie.Need-hand-over-requires
+hand-over-requires c κs = let w = c .before .before .before in omega (arith, long w, length-take (w .write .result) (w .write .last .0))
 
 same-length : tie.Need-same-length
 same-length c = search needs
 
-returns-3 : tie.Need-returns-3
-unfolding sumsRefusal
-returns-3 c =
+returns-2 : tie.Need-returns-2
+unfolding sumsRefusal overRefusal
+returns-2 c =
     let o = c .before .before in
-    let w = o .before .before .before .before .before in
-    let s = w .before .before .before .before .before .before in
-    let h : length (text s) ≤ length (s .args .out .now) = omega (arith, wrote w .0, o .before .before .before .if2 .left) in
-    let p = first-no (passed-18 (w .before .before)) (first-no (le-ltb _ _ h) no-more) in
-    let (a, t) = counted (length (text s)) (text s) (s .args .out .now) (gives p) refl (wrote w .0) refl
-    (copied (s .args .out .now) (wrote w .1) (o .copy .ensures .1)) in
+    let w = o .before .before .before .before in
+    let (a, t) = handed-over (wrote w .1) (gives (first-no (passed-18 (w .before .before)) (record { is = refl }))) (o .hand-over .ensures) in
     record { answered = a; written = t }
 
 pub write-sums-spec : {M : Type 1} → statement M
@@ -97,9 +84,7 @@ write-sums-spec =
     returns
     slice-aggregate-write
     write-requires
-    returns-2
-    array-share-prefix-text
-    slice-aggregate-copy
-    copy-requires
+    slice-aggregate-hand-over
+    hand-over-requires
     same-length
-    returns-3)
+    returns-2)
