@@ -1,6 +1,5 @@
 -- The demands, from the outcomes of the calls and the theorems about groups.
 use mathlib.Core.Path.{_≡_, refl, sym, ap, ap₂, _∙_, subst, subst₂}
-use mathlib.Core.Bool.{Bool, false, not}
 use mathlib.Core.Logic.{_⊎_, inl, inr, _≢_, _↔_, Iff·trans}
 use mathlib.Core.List.{List, _++_, map, map-map, map-id}
 use mathlib.Core.Option.{some, Option·some-injective}
@@ -9,7 +8,7 @@ use native.Mathlib.Nat.{pow-le-pow-right}
 use native.Mathlib.Omega.{arith}
 use lib.IntN.{ℤ, pos, negℤ}
 use lib.Signed.{_≤ℤ_}
-use lib.Dec.{T, lit<, lit≤}
+use lib.Dec.{T, lit<}
 use lib.ListN.{length, take, drop, replicate, length-map}
 use lib.Seq.{take-append-seam, drop-append-seam}
 use Rattle.lists.specs.Lists.{_∈_, _lists_, all}
@@ -36,22 +35,9 @@ use Rattle.answers.specs.declared.Answer.the-variants.{Count, Refused}
 use Rattle.answers.specs.Answers.{numberOf, countOf, answer, slots, filled}
 use Rattle.answers.proofs.Answers.{number-answer, count-answer, slots-refused, slots-written}
 use Rattle.interface.specs.Sheet.{entries, pairs}
-use Rattle.interface.specs.Listing.{Line, lineOf, listing, groupsFound, pairsListing, sheetListing, listingRead}
-use Rattle.interface.specs.Refusals.{
-  Check,
-  firstOf,
-  none,
-  Given,
-  mostEntries,
-  wrongCount,
-  sheetCallChecks,
-  sheetRefusal,
-  numbersRefusal,
-  linkageRefusal,
-  anchoredRefusal,
-  backRefusal,
-}
-use Rattle.interface.specs.Calls.{SheetCall, cNumber, InC, CCall, NumbersCall, setsFound, indicesFound, groupsOf, LinkageCall, AnchoredCall, BackCall}
+use Rattle.interface.specs.Listing.{Line, lineOf, groupsFound, pairsListing, sheetListing, listingRead}
+use Rattle.interface.specs.Refusals.{Check, firstOf, none, Given, mostEntries, sheetCallChecks, sheetRefusal, numbersRefusal, linkageRefusal, anchoredRefusal, backRefusal}
+use Rattle.interface.specs.Calls.{cNumber, InC, CCall, NumbersCall, setsFound, indicesFound, groupsOf, LinkageCall, AnchoredCall, BackCall}
 use Rattle.interface.specs.Demands.{
   Demand1,
   Listed,

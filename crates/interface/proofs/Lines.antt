@@ -13,7 +13,7 @@ use lib.Seq.{take-at, getD-at}
 use Rattle.lists.specs.Lists.{_∈_, each, all}
 use Rattle.lists.proofs.Tests.{and-T, T-and, T-true, true-T, or-first, eqb-yes}
 use Rattle.lists.proofs.Lists.{in-all, all-in, of-map, map-cong, each-map}
-use Rattle.interface.specs.Sheet.{isDigit, numberFrom, longer, cut, lines, sameBytes}
+use Rattle.interface.specs.Sheet.{isDigit, longer, cut, lines, sameBytes}
 use Rattle.interface.specs.Listing.{
   Line,
   hexadecimal,

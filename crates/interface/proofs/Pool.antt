@@ -72,7 +72,7 @@ use Rattle.interface.proofs.SheetTexts.{
   sheetText-accepted,
 }
 use Rattle.interface.proofs.Demands.{answered, taken, not-refused, counted, wrote-allowed, demand-3}
-use Rattle.interface.proofs.Demands.{text-number, text-refusal, text-refused, text-listed, text-count, text-written, text-either}
+use Rattle.interface.proofs.Demands.{text-number, text-refusal, text-refused, text-count, text-written, text-either}
 use Rattle.interface.proofs.Unscored.{never, first-at, strong-wrote}
 
 -- what checks 2 to 9 and 11 leave of a sheet

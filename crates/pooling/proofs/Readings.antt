@@ -15,7 +15,7 @@ use Rattle.interface.specs.Sheet.{entries, pairs}
 use Rattle.interface.specs.Refusals.{firstOf, readerChecks, readerRefusal, sheetChecks}
 use Rattle.interface.proofs.Refusals.{gives, first-yes, first-no, no-more, first-front, first-back}
 use Rattle.reader.proofs.Answers.{number-is, entries-is}
-use Rattle.pooling.specs.Pools.{Accepted, Read}
+use Rattle.pooling.specs.Pools.{AcceptedSheet, Read}
 
 module _ (s : List ℕ) (slots : List ℤ) where
   number-out : {k : ℕ} → k ≡ firstOf (sheetChecks s) → (k ≡ 0 → ⊥) → Read s (Refused k) slots
@@ -43,5 +43,5 @@ module _ (s : List ℕ) (slots : List ℤ) where
           answered = ap₂ answer passed is;
           accepted = λ m q.
               let same : n ≡ m = cc in
-              subst (λ (k : ℕ). Accepted s k (take (rowStart k) slots)) same (record { passed = sym passed; count = is; its-pairs = p });
+              subst (λ (k : ℕ). AcceptedSheet s k (take (rowStart k) slots)) same (record { passed = sym passed; count = is; its-pairs = p });
         }

@@ -8,18 +8,18 @@ use borrow.Author.Tests.{ne-eqb, eq-eqb, not-false}
 use lib.Dec.{T, eqb}
 use lib.IntN.{ℤ}
 use lib.ListN.{length, getD, take, length-take}
-use Rattle.lists.specs.Lists.{all, Distinct}
+use Rattle.lists.specs.Lists.{all}
 use Rattle.lists.proofs.Lists.{getD-in}
 use Rattle.pairs.specs.Pairs.{numberFor, carried}
 use Rattle.clusters.specs.PairList.{rowStart, score, pairList, scoresInRange}
 use Rattle.clusters.specs.Pooling.{added, pooled}
-use Rattle.clusters.proofs.PairList.{length-pairList, pairList-cong, score-pairList}
+use Rattle.clusters.proofs.PairList.{pairList-cong, score-pairList}
 use Rattle.answers.specs.declared.Answer.{Answer}
 use Rattle.answers.specs.declared.Answer.the-variants.{Refused}
 use Rattle.answers.specs.Answers.{answer, slots}
 use Rattle.answers.proofs.Answers.{refused-is}
 use Rattle.answers.proofs.WaysOut.{refused}
-use Rattle.interface.specs.Sheet.{space, isName, cut, lines, names, entries, pairs, isAmong}
+use Rattle.interface.specs.Sheet.{space, isName, cut, names, entries, pairs, isAmong}
 use Rattle.interface.specs.SheetText.{sheetText}
 use Rattle.interface.specs.Pool.{placeOn, poolScores, poolPairs, poolText}
 use Rattle.interface.specs.Refusals.{firstOf, wrongCount, namesDiffer, check14, check18, readerChecks, sheetChecks, poolChecks, poolRefusal}
@@ -31,10 +31,10 @@ use Rattle.interface.proofs.Pool.{Sound, sound, pool-symmetric}
 use Rattle.text.specs.Reading.{pieceAt}
 use Rattle.sheet.proofs.Lines.{first-line}
 use Rattle.reader.proofs.Answers.{pairs-length}
-use Rattle.pooling.specs.Pools.{Accepted, PlacesOn, sheetOf, sumsRefusal, SumsWritten, pairsRefusal, PairsPooled}
+use Rattle.pooling.specs.Pools.{AcceptedSheet, PlacesOn, sheetOf, sumsRefusal, SumsWritten, bothRefusal, PairsPooled}
 
 -- one of them
-module _ {sheet : List ℕ} {n : ℕ} {l : List ℤ} (a : Accepted sheet n l) where
+module _ {sheet : List ℕ} {n : ℕ} {l : List ℤ} (a : AcceptedSheet sheet n l) where
   pub left : Sound sheet
   unfolding sheetChecks readerChecks all
   left = sound sheet (first-none (sheetChecks sheet) tt .0 (a .passed))
@@ -65,9 +65,9 @@ module _ {sheet : List ℕ} {n : ℕ} {l : List ℤ} (a : Accepted sheet n l) wh
     line-named = subst (λ (ws : List (List ℕ)). T (all isName ws)) (sym line-names) (left .named)
 
 -- its pair list as the first slots of those that hold it
-module _ {sheet : List ℕ} {n : ℕ} (held : List ℤ) (a : Accepted sheet n (take (rowStart n) held)) {count : ℕ} (e : count ≡ rowStart n) where
-  pub lent-pairs : Accepted sheet n (take count held)
-  lent-pairs = subst (λ (k : ℕ). Accepted sheet n (take k held)) (sym e) a
+module _ {sheet : List ℕ} {n : ℕ} (held : List ℤ) (a : AcceptedSheet sheet n (take (rowStart n) held)) {count : ℕ} (e : count ≡ rowStart n) where
+  pub lent-pairs : AcceptedSheet sheet n (take count held)
+  lent-pairs = subst (λ (k : ℕ). AcceptedSheet sheet n (take k held)) (sym e) a
 
   pub lent-long : count ≡ length (take count held)
   lent-long = e ∙ sym (long lent-pairs)
@@ -76,7 +76,7 @@ module _ {sheet : List ℕ} {n : ℕ} (held : List ℤ) (a : Accepted sheet n (t
   lent-fit = omega (arith, lent-long, length-take count held)
 
 -- both
-module _ {first second : List ℕ} {n m : ℕ} {scores others : List ℤ} (a : Accepted first n scores) (b : Accepted second m others) where
+module _ {first second : List ℕ} {n m : ℕ} {scores others : List ℤ} (a : AcceptedSheet first n scores) (b : AcceptedSheet second m others) where
   -- the code's test of 17
   tested : namesDiffer (names first) (names second) ≡ not (eqb n m && all (λ w. isAmong w (names second)) (names first))
   tested =
@@ -84,7 +84,7 @@ module _ {first second : List ℕ} {n m : ℕ} {scores others : List ℤ} (a : A
       ∙ ap₂ (λ (i j : ℕ). not (eqb i j && all (λ w. isAmong w (names second)) (names first))) (sym (names-count a)) (sym (names-count b))
 
   refused-17 : (lent : List ℕ) → namesDiffer (names first) (names second) ≡ true → PairsPooled first second lent (Refused 17) lent
-  unfolding pairsRefusal
+  unfolding bothRefusal
   refused-17 lent e =
       let (r, w) = refused {r = 17} (length (poolText first second)) (poolText first second) lent (gives (first-yes e)) (λ z. omega arith) in
       record { answered = r; written = w }
@@ -127,9 +127,6 @@ module _ {first second : List ℕ} {n m : ℕ} {scores others : List ℤ} (a : A
           ap₂ (λ (u v : ℕ). numberFor (added (carried (score (pairs first) i j)) (carried (score (pairs second) u v))))
           (place-is i (omega (arith, a .count))) (place-is j (omega (arith, a .count))))
 
-      pub sums-long : length sums ≡ rowStart n
-      sums-long = ap length are ∙ length-pairList n _
-
       module _ (end : ℕ) (is : end ≡ 0 + length (pieceAt 10 first 0)) where
         text-is : sheetOf (take end first) sums ≡ poolText first second
         unfolding sheetOf poolText poolPairs entries
@@ -138,8 +135,8 @@ module _ {first second : List ℕ} {n m : ℕ} {scores others : List ℤ} (a : A
             ∙ sheetText-cong (names first) (score (poolPairs first second)) (poolScores first second)
             (λ i j h k. score-pairList (entries first) (poolScores first second) (pool-symmetric first second) i j h k)
 
-        refusal-is : (buffer : ℕ) → sumsRefusal (take end first) sums buffer ≡ pairsRefusal first second buffer
-        unfolding sumsRefusal pairsRefusal
+        refusal-is : (buffer : ℕ) → sumsRefusal (take end first) sums buffer ≡ bothRefusal first second buffer
+        unfolding sumsRefusal bothRefusal
         refusal-is buffer =
             ap₂ (λ (l : List ℤ) (t : List ℕ). firstOf (check18 l ∷ check14 buffer t ∷ [])) sums-are text-is ∙ gives (first-no right-names (record { is = refl }))
 
@@ -159,18 +156,18 @@ module _ (first second lent : List ℕ) where
   unfolding poolRefusal poolChecks sheetChecks readerChecks all
   refused-first q = let (e, f) = refused-is (firstOf (sheetChecks first)) (entries first) (sym q) in refusal-out (gives (first-front (sheetChecks first) _ tt e f)) f
 
-  module _ {n : ℕ} {scores : List ℤ} (a : Accepted first n scores) where
+  module _ {n : ℕ} {scores : List ℤ} (a : AcceptedSheet first n scores) where
     pub refused-second : {k : ℕ} → Refused k ≡ answer (firstOf (sheetChecks second)) (entries second) → PoolCall first second lent (Refused k) lent
     unfolding poolRefusal poolChecks sheetChecks readerChecks all
     refused-second q =
         let (e, f) = refused-is (firstOf (sheetChecks second)) (entries second) (sym q) in
         refusal-out (gives (first-back (sheetChecks first) _ tt (sym (a .passed)) refl (first-front (sheetChecks second) _ tt e f))) f
 
-    pub both-accepted : {m : ℕ} {others : List ℤ} → Accepted second m others → {r : Answer} {after : List ℕ} → PairsPooled first second lent r after
+    pub both-accepted : {m : ℕ} {others : List ℤ} → AcceptedSheet second m others → {r : Answer} {after : List ℕ} → PairsPooled first second lent r after
         → PoolCall first second lent r after
-    unfolding poolRefusal poolChecks pairsRefusal sheetChecks readerChecks all
+    unfolding poolRefusal poolChecks bothRefusal sheetChecks readerChecks all
     both-accepted b p =
-        let e : pairsRefusal first second (length lent) ≡ poolRefusal first second (length lent) =
+        let e : bothRefusal first second (length lent) ≡ poolRefusal first second (length lent) =
         gives (first-back (sheetChecks first) _ tt (sym (a .passed)) refl (first-back (sheetChecks second) _ tt (sym (b .passed)) refl (record { is = refl }))) in
         record {
           answered = p .answered ∙ ap (λ (k : ℕ). answer k (length (poolText first second))) e;

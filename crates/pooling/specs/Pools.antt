@@ -16,7 +16,7 @@ use Rattle.interface.specs.Pool.{placeOf, poolText}
 use Rattle.interface.specs.Refusals.{firstOf, check14, check18, sheetChecks, bothChecks}
 
 -- a sheet that checks 2 to 9 and 11 pass, its number of entries and its pair list
-pub record Accepted (sheet : List ℕ) (n : ℕ) (l : List ℤ) : Type 0 where
+pub record AcceptedSheet (sheet : List ℕ) (n : ℕ) (l : List ℤ) : Type 0 where
   pub passed : firstOf (sheetChecks sheet) ≡ 0
   pub count : n ≡ entries sheet
   pub its-pairs : l ≡ pairs sheet
@@ -39,14 +39,14 @@ pub record SumsWritten (line : List ℕ) (sums : List ℤ) (lent : List ℕ) (r 
   pub written : after ≡ slots (sumsRefusal line sums (length lent)) (sheetOf line sums) lent
 
 -- checks 17, 18 and 14; and the outcome
-unfoldable pub pairsRefusal : (first second : List ℕ) → (buffer : ℕ) → ℕ
-pairsRefusal first second buffer = firstOf (bothChecks first second buffer)
+unfoldable pub bothRefusal : (first second : List ℕ) → (buffer : ℕ) → ℕ
+bothRefusal first second buffer = firstOf (bothChecks first second buffer)
 
 pub record PairsPooled (first second lent : List ℕ) (r : Answer) (after : List ℕ) : Type 0 where
-  pub answered : r ≡ answer (pairsRefusal first second (length lent)) (length (poolText first second))
-  pub written : after ≡ slots (pairsRefusal first second (length lent)) (poolText first second) lent
+  pub answered : r ≡ answer (bothRefusal first second (length lent)) (length (poolText first second))
+  pub written : after ≡ slots (bothRefusal first second (length lent)) (poolText first second) lent
 
 -- a sheet that was read: the answer, and the pair list in the first slots if it was accepted
 pub record Read (sheet : List ℕ) (r : Answer) (slots : List ℤ) : Type 0 where
   pub answered : r ≡ answer (firstOf (sheetChecks sheet)) (entries sheet)
-  pub accepted : (n : ℕ) → r ≡ Count n → Accepted sheet n (take (rowStart n) slots)
+  pub accepted : (n : ℕ) → r ≡ Count n → AcceptedSheet sheet n (take (rowStart n) slots)

@@ -12,7 +12,7 @@ ghost use Rattle.clusters.specs.Pooling.{added, pooled};
 ghost use Rattle.interface.specs.Sheet.{space, cut, isName};
 ghost use Rattle.interface.specs.Pool.{placeOf};
 ghost use Rattle.interface.specs.Calls.{PoolCall};
-ghost use Rattle.pooling.specs.Pools.{PlacesOn, SumsWritten, Accepted, PairsPooled, Read};
+ghost use Rattle.pooling.specs.Pools.{PlacesOn, SumsWritten, AcceptedSheet, PairsPooled, Read};
 use answers::Answer;
 
 // Where the word stands among the pieces of the line, counted from 0; how many they are, if it is not there.
@@ -127,7 +127,7 @@ fn pool_pairs(
     others: &[i32],
     out: &mut [u8],
 ) -> Answer
-    requires { ⌜ Accepted (now first) n (now scores) × Accepted (now second) m (now others) ⌝ }
+    requires { ⌜ AcceptedSheet (now first) n (now scores) × AcceptedSheet (now second) m (now others) ⌝ }
     ensures { λ r. ⌜ PairsPooled (now (first .entry)) (now (second .entry)) (now (out .entry)) r (now (out .exit)) ⌝ }
 {
     if n != m {

@@ -1,8 +1,8 @@
 -- The text of a pair by its number, and of a row pair by pair.
 use mathlib.Core.Path.{_≡_, refl, sym, ap, ap₂, _∙_, subst}
-use mathlib.Core.Bool.{Bool, true, false}
+use mathlib.Core.Bool.{true, false}
 use mathlib.Core.List.{List, [], _∷_, _++_, map, append-assoc, append-nil, map-append}
-use Prim.Native.Nat.{ℕ, zero, suc, _+_, _-_, _*_, _≤_, _<_}
+use Prim.Native.Nat.{ℕ, suc, _+_, _-_, _≤_, _<_}
 use native.Mathlib.Numerals.{add-one}
 use native.Mathlib.Omega.{arith}
 use lib.IntN.{ℤ, pos, negsuc, natAbs}
@@ -14,8 +14,6 @@ use Rattle.lists.proofs.Tests.{false-T}
 use Rattle.lists.proofs.Lists.{each-below, each-map}
 use Rattle.integers.specs.Integers.{eqZ}
 use Rattle.integers.proofs.Linear.{up, dn, zarith, leZ-no}
-use Rattle.pairs.specs.declared.Carried.{Carried}
-use Rattle.pairs.specs.declared.Carried.the-variants.{Scored, Unscored}
 use Rattle.pairs.specs.Pairs.{mark, carried}
 use Rattle.clusters.specs.PairList.{Similarity, rowStart, score, scoreLimit, scoresInRange}
 use Rattle.clusters.proofs.Scored.{list-allowed}

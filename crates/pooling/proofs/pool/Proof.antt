@@ -1,20 +1,20 @@
-use mathlib.Core.Path.{_≡_, sym, _∙_}
+use mathlib.Core.Path.{sym, _∙_}
 use borrow.Author.Needs.{needs}
 use lib.ListN.{take}
 use Rattle.clusters.specs.PairList.{rowStart}
-use Rattle.pooling.specs.Pools.{Accepted}
+use Rattle.pooling.specs.Pools.{AcceptedSheet}
 use Rattle.pooling.proofs.Sheets.{few, lent-pairs, lent-long, lent-fit, refused-first, refused-second, both-accepted}
 use Rattle.pooling.proofs.pool.Statement.{statement}
 use Rattle.pooling.proofs.pool.Tie as tie
 
 -- the first sheet was accepted
 first : (c : tie.After-known-told2) → let r = c .before .before .before in let n = c .before .reading2 .given .0 .0 in
-    Accepted (r .before .before .before .before .before .args .first .now) n (take (rowStart n) (r .read .last .1 .0))
+    AcceptedSheet (r .before .before .before .before .before .args .first .now) n (take (rowStart n) (r .read .last .1 .0))
 first c = c .before .before .before .read .ensures .accepted _ (c .before .reading2 .given .1)
 
 -- and so was the second
 second : (c : tie.After-known-told4) → let r = c .before .before .before in let m = c .before .reading23 .given .0 .0 in
-    Accepted (r .before .before .before .before .before .before .before .before .before .before .args .second .now) m (take (rowStart m) (r .read2 .last .1 .0))
+    AcceptedSheet (r .before .before .before .before .before .before .before .before .before .before .args .second .now) m (take (rowStart m) (r .read2 .last .1 .0))
 second c = c .before .before .before .read2 .ensures .accepted _ (c .before .reading23 .given .1)
 
 read-requires : tie.Need-read-requires

@@ -1,6 +1,6 @@
-use mathlib.Core.Path.{_≡_, refl, sym, ap, _∙_, subst₂}
-use mathlib.Core.List.{List, _++_}
-use Prim.Native.Nat.{ℕ, _≤_}
+use mathlib.Core.Path.{_≡_, sym, ap, _∙_, subst₂}
+use mathlib.Core.List.{List}
+use Prim.Native.Nat.{ℕ}
 use native.Mathlib.Omega.{arith}
 use borrow.Author.Needs.{needs}
 use lib.ListN.{length, getD, take, length-take}
@@ -9,9 +9,9 @@ use Rattle.clusters.specs.PairList.{rowStart, score, pairList}
 use Rattle.clusters.specs.Pooling.{pooled}
 use Rattle.clusters.proofs.PairList.{length-pairList, rowStart-le}
 use Rattle.interface.specs.Sheet.{names}
-use Rattle.sheet.proofs.Lines.{line-inside, line-length}
-use Rattle.pooling.specs.Pools.{Accepted, PlacesOn}
-use Rattle.pooling.proofs.Sheets.{few, long, in-range, line-names, line-count, line-named, other-count, other-names, place-few, sums-long, pool-written}
+use Rattle.sheet.proofs.Lines.{line-length}
+use Rattle.pooling.specs.Pools.{PlacesOn}
+use Rattle.pooling.proofs.Sheets.{few, long, in-range, line-names, line-count, line-named, other-count, other-names, place-few, pool-written}
 use Rattle.pooling.proofs.pool_pairs.Statement.{statement}
 use Rattle.pooling.proofs.pool_pairs.Tie as tie
 

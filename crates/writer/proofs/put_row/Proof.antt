@@ -1,4 +1,4 @@
-use mathlib.Core.Path.{_≡_, refl, sym, ap, _∙_, subst}
+use mathlib.Core.Path.{_≡_, refl, ap, _∙_, subst}
 use mathlib.Core.List.{[], _∷_, _++_}
 use Prim.Native.Nat.{ℕ, suc, _+_, _-_, _*_, _≤_, _<_}
 use native.Mathlib.Numerals.{add-one}
@@ -8,7 +8,7 @@ use lib.IntN.{pos}
 use lib.ListN.{length, getD}
 use mir.Facts.{toZ-ofZ}
 use Rattle.pairs.specs.Pairs.{carried}
-use Rattle.clusters.specs.PairList.{rowStart, place, score}
+use Rattle.clusters.specs.PairList.{place, score}
 use Rattle.clusters.proofs.PairList.{place-lt}
 use Rattle.interface.specs.SheetText.{pairText, rowText}
 use Rattle.listing.specs.Put.{Put}

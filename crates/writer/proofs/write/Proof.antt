@@ -1,12 +1,10 @@
-use mathlib.Core.Path.{_≡_, refl, sym, ap, _∙_, subst}
+use mathlib.Core.Path.{_≡_, refl, ap, _∙_, subst}
 use mathlib.Core.List.{List, [], _∷_, _++_}
 use Prim.Native.Nat.{ℕ, _+_, _-_, _*_, _≤_}
 use native.Mathlib.Omega.{arith}
 use borrow.Author.Needs.{needs}
-use lib.ListN.{length, length-set, drop}
+use lib.ListN.{length, length-set}
 use Rattle.clusters.specs.PairList.{score}
-use Rattle.interface.specs.Sheet.{cut}
-use Rattle.interface.specs.SheetText.{sheetText}
 use Rattle.listing.specs.Put.{Put}
 use Rattle.listing.proofs.Puts.{then, then-byte, put-start, start-put, copied}
 use Rattle.writer.proofs.Texts.{rowsBefore, no-rows, rows-next, all-rows}
