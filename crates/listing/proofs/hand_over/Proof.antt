@@ -29,7 +29,7 @@ returns c =
     record { answered = a; written = w }
 
 slice-aggregate-copy : tie.Need-slice-aggregate-copy
-slice-aggregate-copy c = sym (long (c .before .before .before .before))
+slice-aggregate-copy c = let e = sym (long (c .before .before .before .before)) in search (e, needs)
 
 copy-requires : tie.Need-copy-requires
 copy-requires c κs = omega (arith, long (c .before .before .before .before .before))

@@ -63,7 +63,10 @@ slice-aggregate-hand-over : tie.Need-slice-aggregate-hand-over
 slice-aggregate-hand-over c = search needs
 
 hand-over-requires : tie.Need-hand-over-requires
-hand-over-requires c κs = let w = c .before .before .before in omega (arith, long w, length-take (w .write .result) (w .write .last .0))
+hand-over-requires c κs =
+    let w = c .before .before .before in
+    let s = w .before .before .before .before .before .before in
+    omega (arith, w .write .kept .0, long w, length-take (w .write .result) (w .write .last .0), line-room (s .args .line .now) (s .args .n) (s .pre .0) (s .pre .1) (s .pre .2))
 
 same-length : tie.Need-same-length
 same-length c = search needs
