@@ -1,7 +1,7 @@
 -- Pooled scores, for any number of entries (document 02, 2.4): what a pair of the pool carries, a set strong in both, and the pool the
 -- other way round.
 use mathlib.Core.Path.{_≡_, refl, sym, ap, ap₂, _∙_, subst, subst₂}
-use mathlib.Core.Logic.{inl, inr}
+use mathlib.Core.Logic.{_⊎_, inl, inr}
 use Prim.Native.Nat.{ℕ, _≤_, _<_}
 use lib.IntN.{ℤ, _+ℤ_, _-ℤ_, +ℤ-comm}
 use lib.Signed.{_≤ℤ_}
@@ -30,6 +30,17 @@ use Rattle.clusters.proofs.Images.{in-image}
 use Rattle.clusters.proofs.Scored.{AllAllowed, allowed-within}
 use Rattle.clusters.proofs.Untouched.{of-untouched, in-untouched, untouched-index}
 use Rattle.clusters.proofs.Unscored.{listed-untouched}
+
+-- "each score is the sum. A pair unscored in either is unscored in the pool."
+pub both-scored : (y z : ℤ) → added (Scored y) (Scored z) ≡ Scored (y +ℤ z)
+unfolding added
+both-scored y z = refl
+
+pub either-unscored : (c d : Carried) → (c ≡ Unscored) ⊎ (d ≡ Unscored) → added c d ≡ Unscored
+unfolding added
+either-unscored c d (inl e) = ap (λ b. added b d) e
+either-unscored (Scored y) d (inr e) = ap (added (Scored y)) e
+either-unscored Unscored d (inr e) = refl
 
 -- the sum of two scores in range is not the mark: the one law that knows both numbers
 sum-scored : {y z : ℤ} → Within scoreLimit y → Within scoreLimit z → carried (y +ℤ z) ≡ Scored (y +ℤ z)

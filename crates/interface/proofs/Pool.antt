@@ -29,7 +29,7 @@ use Rattle.clusters.proofs.Groups.{of-listed, is-listed, listed-index, in-group
 use Rattle.clusters.proofs.Images.{image-only}
 use Rattle.clusters.proofs.Scored.{AllAllowed, allowed-within, within-range, list-allowed}
 use Rattle.clusters.proofs.Fillings.{filled-cong}
-use Rattle.clusters.proofs.Pooled.{added-carried, pooled-symmetric, pooled-turned, pooled-index, pooled-strong}
+use Rattle.clusters.proofs.Pooled.{both-scored, either-unscored, added-carried, pooled-symmetric, pooled-turned, pooled-index, pooled-strong}
 use Rattle.answers.specs.Answers.{answer}
 use Rattle.interface.specs.Sheet.{isName, lines, names, entries, value, pairs, mirrored}
 use Rattle.interface.specs.Listing.{sheetListing}
@@ -310,13 +310,6 @@ written {first} {second} (by-pool-in-C {lent} c count e) =
     let w = c .outcome .written in
     accepted first second (length lent) (text-count c checks text lent a w count e .0) (text-written c checks text lent a w count e .0)
 
--- "A pair unscored in either is unscored in the pool."
-either-unscored : (c d : Carried) → (c ≡ Unscored) ⊎ (d ≡ Unscored) → added c d ≡ Unscored
-unfolding added
-either-unscored c d (inl e) = ap (λ b. added b d) e
-either-unscored (Scored y) d (inr e) = ap (added (Scored y)) e
-either-unscored Unscored d (inr e) = refl
-
 -- what is read back of the pool
 module _ {first second bytes : List ℕ} (x : Written first second bytes) where
   formed : WellFormed (names first) (poolScores first second)
@@ -329,14 +322,6 @@ module _ {first second bytes : List ℕ} (x : Written first second bytes) where
     allowed = x .range;
   }
 
-  pool-most : length (poolText first second) ≤ 9504
-  unfolding poolText
-  pool-most = sheetText-most formed (x .one .count)
-
-  pool-sheet : T (none (sheetChecks bytes))
-  unfolding poolText
-  pool-sheet = subst (λ (t : List ℕ). T (none (sheetChecks t))) (sym (x .are)) (sheetText-accepted formed (x .one .count))
-
   pool-names : names bytes ≡ names first
   unfolding poolText
   pool-names = ap names (x .are) ∙ sheetText-names formed
@@ -344,6 +329,14 @@ module _ {first second bytes : List ℕ} (x : Written first second bytes) where
   pool-entries : entries bytes ≡ entries first
   unfolding entries
   pool-entries = ap length pool-names
+
+  pool-most : length (poolText first second) ≤ 9504
+  unfolding poolText
+  pool-most = sheetText-most formed (x .one .count)
+
+  pool-sheet : T (none (sheetChecks bytes))
+  unfolding poolText
+  pool-sheet = subst (λ (t : List ℕ). T (none (sheetChecks t))) (sym (x .are)) (sheetText-accepted formed (x .one .count))
 
   pool-value : (i j : ℕ) → i < entries first → j < entries first → value bytes i j ≡ poolScores first second i j
   unfolding poolText entries
@@ -527,7 +520,7 @@ module _ {s lent after : List ℕ} {r : ℤ} (c : CCall (pos 1) s lent r after) 
       (text-count c (sheetCallChecks (pos 1) s (length lent)) listing lent (c .outcome .answered) (c .outcome .written) count e .0)) .0
 
 pub request-2-4 : Request-2-4
-unfolding added poolRefusal
+unfolding poolRefusal
 request-2-4 = record {
   refusal = λ {first} {second} {lent} c. text-refusal c (table first second lent) (poolText first second) lent (c .outcome .answered) (c .outcome .written);
   refused = λ {first} {second} {lent} c. text-refused c (table first second lent) (poolText first second) lent (c .outcome .answered) (c .outcome .written);
@@ -560,7 +553,7 @@ request-2-4 = record {
   room = λ c d. pool-fits c (written d);
   a-sheet = λ c. pool-sheet (written c);
   its-names = λ c. let x = written c in (pool-names x, x .same);
-  sums = λ c i i′ j j′ p q y z e f. pool-pair (written c) p q ∙ ap₂ added e f;
+  sums = λ c i i′ j j′ p q y z e f. pool-pair (written c) p q ∙ ap₂ added e f ∙ both-scored y z;
   unscored = λ c i i′ j j′ p q u. pool-pair (written c) p q ∙ either-unscored _ _ u;
   any-order = λ c c′. other-order (written c) (written c′);
   strong-in-both = λ c w w′ u. pool-strong (written c) w w′ u;

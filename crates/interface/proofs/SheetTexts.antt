@@ -59,16 +59,6 @@ rowWords n s i = map (λ j. pairText (carried (s i j))) (below n)
 row-count : (n : ℕ) (s : Similarity) (i : ℕ) → length (rowWords n s i) ≡ n
 row-count n s i = length-map (below n) (λ j. pairText (carried (s i j))) ∙ count-below n
 
--- the scores of the entries determine the text
-pub sheetText-cong : (ns : List (List ℕ)) (s t : Similarity) → ((i j : ℕ) → i < length ns → j < length ns → s i j ≡ t i j) → sheetText ns s ≡ sheetText ns t
-unfolding sheetText sheetLines rowText
-sheetText-cong ns s t f =
-    let n = length ns in
-    ap (λ (l : List (List ℕ)). each (joined space ns ∷ l) λ line. line ++ (lineFeed ∷ []))
-    (map-cong (rowText n s) (rowText n t) (below n) (λ i h. ap (joined space)
-    (map-cong (λ j. pairText (carried (s i j))) (λ j. pairText (carried (t i j))) (below n)
-    (λ j k. ap (λ (z : ℤ). pairText (carried z)) (f i j (below-lt n h) (below-lt n k))))))
-
 -- words with single spaces between
 module _ (ws : List (List ℕ)) (f : (w : List ℕ) → w ∈ ws → Word w) where
   words-no-feed : free lineFeed (joined space ws)
@@ -259,3 +249,13 @@ module _ {ns : List (List ℕ)} {s : Similarity} (a : WellFormed ns s) where
   sheetText-accepted count = first-none (sheetChecks text) tt .0 (sym (gives (
       first-no (length-right count) (first-no bytes-right (first-no names-right (first-no names-differ (first-no (ap wrongCount sheetText-entries ∙ count)
       (first-no lines-right (first-no values-right (first-no mirrored-right (first-no range-right no-more)))))))))))
+
+-- the scores of the entries determine the text
+pub sheetText-cong : (ns : List (List ℕ)) (s t : Similarity) → ((i j : ℕ) → i < length ns → j < length ns → s i j ≡ t i j) → sheetText ns s ≡ sheetText ns t
+unfolding sheetText sheetLines rowText
+sheetText-cong ns s t f =
+    let n = length ns in
+    ap (λ (l : List (List ℕ)). each (joined space ns ∷ l) λ line. line ++ (lineFeed ∷ []))
+    (map-cong (rowText n s) (rowText n t) (below n) (λ i h. ap (joined space)
+    (map-cong (λ j. pairText (carried (s i j))) (λ j. pairText (carried (t i j))) (below n)
+    (λ j k. ap (λ (z : ℤ). pairText (carried z)) (f i j (below-lt n h) (below-lt n k))))))

@@ -10,7 +10,9 @@ pool-requires : tie.Need-pool-requires
 pool-requires c κs = search needs
 
 as-number-requires : tie.Need-as-number-requires
-as-number-requires c κs = let a = c .before .before .before .before .before .before .before .args in pool-small (a .first .now) (a .second .now) (length (a .out .now)) (c .before .before .pool .ensures .answered)
+as-number-requires c κs =
+    let a = c .before .before .before .before .before .before .before .args in
+    pool-small (a .first .now) _ (length (a .out .now)) (c .before .before .pool .ensures .answered)
 
 same-length : tie.Need-same-length
 same-length c = search needs
