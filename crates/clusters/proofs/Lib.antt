@@ -10,6 +10,7 @@ pub mod Links
 pub mod Single
 pub mod Exists
 pub mod Arrangement
+pub mod Pairs
 pub mod Weights
 pub mod Stable
 pub mod Average

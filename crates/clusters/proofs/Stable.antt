@@ -130,7 +130,7 @@ opposed s a b c =
     let y = maxZ (s a b) (s c b) in
     omega (zarith, max-left (s a c) (s b c), max-left (s a b) (s c b), -at (s a b) x, -at (s a c) y, +at (s a b -ℤ x) (s a c -ℤ y))
 
-sums-opposed : (l : List ℕ) (f g : ℕ → ℤ) → ((x : ℕ) → (f x +ℤ g x) ≤ℤ pos 0) → (sumOf l f +ℤ sumOf l g) ≤ℤ pos 0
+pub sums-opposed : (l : List ℕ) (f g : ℕ → ℤ) → ((x : ℕ) → (f x +ℤ g x) ≤ℤ pos 0) → (sumOf l f +ℤ sumOf l g) ≤ℤ pos 0
 sums-opposed l f g h = subst₂ _≤ℤ_ (sum-add l f g) (sum-zero l) (sum-mono l (λ x. f x +ℤ g x) (λ x. pos 0) (λ x _. h x))
 
 tripleSums-opposed : (n : ℕ) (s : Similarity) (W U Z : ℕ) → (tripleSum n s W U Z +ℤ tripleSum n s W Z U) ≤ℤ pos 0

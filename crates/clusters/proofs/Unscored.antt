@@ -128,7 +128,7 @@ unfolding groups groupSets listed plainGroups plainSets index
 scored-groups n s scored =
     ap (map (λ A. (A, filledIndex scoreLimit n s A)))
     (keep-cong (λ A. speaksOf strong n A && leZ (pos 1) (filledIndex scoreLimit n s A)) (λ A. speaksOf strong n A && leZ (pos 1) (strongIndex n s A))
-    (λ A. ap (λ z. speaksOf strong n A && leZ (pos 1) z) (scored-index scoreLimit n s scored A)) (sets n))
+    (sets n) (λ A _. ap (λ z. speaksOf strong n A && leZ (pos 1) z) (scored-index scoreLimit n s scored A)))
     ∙ map-cong (λ A. (A, filledIndex scoreLimit n s A)) (λ A. (A, strongIndex n s A)) (plainSets n s)
     (λ A _. ap (λ (z : ℤ). (A, z)) (scored-index scoreLimit n s scored A))
 

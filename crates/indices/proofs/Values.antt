@@ -63,11 +63,11 @@ side-member A x t = has-yes A x (subst T (beq-true (has A x)) t)
 
 pub side-members : (n A : ℕ) → keep (λ y. Bool·beq (has A y) true) (below n) ≡ members n A
 unfolding members
-side-members n A = keep-cong (λ y. Bool·beq (has A y) true) (has A) (λ y. beq-true (has A y)) (below n)
+side-members n A = keep-cong (λ y. Bool·beq (has A y) true) (has A) (below n) (λ y _. beq-true (has A y))
 
 pub side-others : (n A : ℕ) → keep (λ y. Bool·beq (has A y) false) (below n) ≡ others n A
 unfolding others
-side-others n A = keep-cong (λ y. Bool·beq (has A y) false) (λ y. not (has A y)) (λ y. go (has A y)) (below n)
+side-others n A = keep-cong (λ y. Bool·beq (has A y) false) (λ y. not (has A y)) (below n) (λ y _. go (has A y))
   where
     go : (b : Bool) → Bool·beq b false ≡ not b
     go true = refl

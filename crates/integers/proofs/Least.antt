@@ -35,15 +35,6 @@ pub max-is : (a b : ℤ) → (maxZ a b ≡ a) ⊎ (maxZ a b ≡ b)
 unfolding maxZ
 max-is a b = cond-elim (leZ a b) b a (λ z. (z ≡ a) ⊎ (z ≡ b)) (λ t. inr refl) (λ t. inl refl)
 
-pub max-comm : (a b : ℤ) → maxZ a b ≡ maxZ b a
-max-comm a b = go (max-is a b) (max-is b a)
-  where
-    go : (maxZ a b ≡ a) ⊎ (maxZ a b ≡ b) → (maxZ b a ≡ b) ⊎ (maxZ b a ≡ a) → maxZ a b ≡ maxZ b a
-    go (inl e) (inl f) = omega (zarith, max-right a b, max-right b a)
-    go (inl e) (inr f) = e ∙ sym f
-    go (inr e) (inl f) = e ∙ sym f
-    go (inr e) (inr f) = omega (zarith, max-left a b, max-left b a)
-
 -- What is taken from a list by a choice between two: one argument for the least and the greatest. R a b says that a is chosen before b,
 -- or as well.
 record Choice (m : ℤ → ℤ → ℤ) (R : ℤ → ℤ → Type 0) : Type 0 where
@@ -85,11 +76,28 @@ module _ (m : ℤ → ℤ → ℤ) (R : ℤ → ℤ → Type 0) (c : Choice m R)
   chosen-same (x ∷ l) (y ∷ k) f g = c .both (chosen m (x ∷ l)) (chosen m (y ∷ k))
       (chosen-first (x ∷ l) (g (chosen m (y ∷ k)) (chosen-in y k))) (chosen-first (y ∷ k) (f (chosen m (x ∷ l)) (chosen-in x l)))
 
+  -- in either order
+  chosen-before : (a b : ℤ) → R (m a b) (m b a)
+  chosen-before a b = go (c .one b a)
+    where
+      go : (m b a ≡ b) ⊎ (m b a ≡ a) → R (m a b) (m b a)
+      go (inl e) = subst (R (m a b)) (sym e) (c .right a b)
+      go (inr e) = subst (R (m a b)) (sym e) (c .left a b)
+
+  chosen-comm : (a b : ℤ) → m a b ≡ m b a
+  chosen-comm a b = c .both (m a b) (m b a) (chosen-before a b) (chosen-before b a)
+
 smaller : Choice minZ _≤ℤ_
 smaller = record { itself = ≤ℤ-refl; left = min-left; right = min-right; one = min-is; trans = λ a b c h k. omega zarith; both = λ a b h k. omega zarith }
 
 larger : Choice maxZ (λ a b. b ≤ℤ a)
 larger = record { itself = ≤ℤ-refl; left = max-left; right = max-right; one = max-is; trans = λ a b c h k. omega zarith; both = λ a b h k. omega zarith }
+
+pub min-comm : (a b : ℤ) → minZ a b ≡ minZ b a
+min-comm = chosen-comm minZ _≤ℤ_ smaller
+
+pub max-comm : (a b : ℤ) → maxZ a b ≡ maxZ b a
+max-comm = chosen-comm maxZ (λ a b. b ≤ℤ a) larger
 
 least-is : (l : List ℤ) → least l ≡ chosen minZ l
 unfolding least chosen

@@ -6,12 +6,12 @@ use native.Mathlib.Nat.{mul-le-mul}
 use native.Mathlib.Omega.{arith}
 use lib.Dec.{lit<}
 use lib.IntN.{ℤ, pos, negsuc, negℤ, _+ℤ_, _-ℤ_, _*ℤ_}
-use lib.ListN.{getD}
+use lib.ListN.{length, getD}
 use lib.Signed.{_≤ℤ_, leZ}
 use mir.Syntax.{Width, w32, w64}
 use mir.Val.{SFits, hbits}
 use Rattle.lists.proofs.Tests.{cond-elim}
-use Rattle.integers.specs.Integers.{minZ, maxZ}
+use Rattle.integers.specs.Integers.{minZ, maxZ, sumOf, sum}
 use Rattle.integers.specs.Range.{Within, Bounded}
 use Rattle.integers.proofs.Linear.{up, dn, zarith, +at, *at, neg-up, neg-dn}
 
@@ -65,6 +65,12 @@ within-neg {z} h = within (omega (arith, neg-up z, dn-le h)) (omega (arith, neg-
 
 pub within-difference : {j k : ℕ} {a b : ℤ} → Within j a → Within k b → Within (j + k) (a -ℤ b)
 within-difference h l = within-sum h (within-neg l)
+
+pub sum-within : {k : ℕ} (n : ℕ) (l : List ℤ) → length l ≤ n → Bounded k l → Within (n * k) (sum l)
+unfolding sum sumOf up dn
+sum-within n [] h b = within (omega arith) (omega arith)
+sum-within zero (z ∷ l) h b = absurd (omega arith)
+sum-within {k} (suc n) (z ∷ l) h b = within-grow (omega arith) (within-sum (b z (List·Memᴰ·head refl)) (sum-within n l (omega arith) (λ y m. b y (List·Memᴰ·tail m))))
 
 -- a natural number of times
 pub within-times : {j k : ℕ} {z : ℤ} (m : ℕ) → m ≤ j → Within k z → Within (j * k) (pos m *ℤ z)

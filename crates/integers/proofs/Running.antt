@@ -41,7 +41,12 @@ unfolding each
 foldl-each op f z [] = refl
 foldl-each op f z (x ∷ l) = foldl-append op z (f x) (each l f) ∙ foldl-each op f (foldl op z (f x)) l
 
-min-above : {a b c : ℤ} → c ≤ℤ a → c ≤ℤ b → c ≤ℤ minZ a b
+-- two folds that take the same steps
+pub foldl-cong : {S X : Type 0} (f g : S → X → S) → ((s : S) (x : X) → f s x ≡ g s x) → (s : S) (l : List X) → foldl f s l ≡ foldl g s l
+foldl-cong f g h s [] = refl
+foldl-cong {S} f g h s (x ∷ l) = ap (λ (s : S). foldl f s l) (h s x) ∙ foldl-cong f g h (g s x) l
+
+pub min-above : {a b c : ℤ} → c ≤ℤ a → c ≤ℤ b → c ≤ℤ minZ a b
 unfolding minZ
 min-above {a} {b} {c} h k = cond-elim (leZ a b) a b (λ z. c ≤ℤ z) (λ _. h) (λ _. k)
 

@@ -127,10 +127,10 @@ module _ {ℓ} {A : Type ℓ} (p : A → Bool) where
       go true e = ap (λ r. x ∷ r) e
       go false e = e
 
-pub keep-cong : {A : Type 0} (p q : A → Bool) → ((x : A) → p x ≡ q x) → (l : List A) → keep p l ≡ keep q l
+pub keep-cong : {A : Type 0} (p q : A → Bool) (l : List A) → ((x : A) → x ∈ l → p x ≡ q x) → keep p l ≡ keep q l
 unfolding keep
-keep-cong p q e [] = refl
-keep-cong p q e (x ∷ l) = rw (e x, keep-cong p q e l)
+keep-cong p q [] e = refl
+keep-cong p q (x ∷ l) e = rw (e x (List·Memᴰ·head refl), keep-cong p q l (λ y m. e y (List·Memᴰ·tail m)))
 
 pub count-below : (n : ℕ) → length (below n) ≡ n
 unfolding below
