@@ -10,3 +10,4 @@ pub mod Touched
 pub mod Bench
 pub mod Nesting
 pub mod Pooling
+pub mod Refined
