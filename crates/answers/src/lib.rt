@@ -11,3 +11,9 @@ pub enum Shared {
     Set(u32, usize),
     Refused(usize),
 }
+
+// The refined weight of a split, or the number of the refusal.
+pub enum Weighed {
+    Weight(i64),
+    Refused(usize),
+}

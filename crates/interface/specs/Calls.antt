@@ -13,11 +13,14 @@ use Rattle.clusters.specs.PairList.{Similarity, rowStart, score, hasLength}
 use Rattle.clusters.specs.Farris.{anchoredScores, distancesBack}
 use Rattle.clusters.specs.Linkage.{Linkage, Tree, mergedBlocks}
 use Rattle.clusters.specs.Nesting.{Hit, smallestShared}
+use Rattle.clusters.specs.Refined.{refinedWeight}
 use Rattle.answers.specs.declared.Answer.{Answer}
 use Rattle.answers.specs.declared.Answer.the-variants.{Count, Refused}
 use Rattle.answers.specs.Answers.{answer, slots, filled}
 use Rattle.answers.specs.declared.Shared.{Shared}
 use Rattle.answers.specs.Shared.{sharedNumber, sharedSet, sharedLine, sharedAnswer}
+use Rattle.answers.specs.declared.Weighed.{Weighed}
+use Rattle.answers.specs.Weighed.{weighedNumber, weighedWeight, weighedAnswer}
 use Rattle.interface.specs.Sheet.{names, entries, pairs}
 use Rattle.interface.specs.Listing.{groupsFound, sheetListing}
 use Rattle.interface.specs.Pool.{poolText}
@@ -32,6 +35,7 @@ use Rattle.interface.specs.Refusals.{
   scoreRefusal,
   sharedRefusal,
   poolRefusal,
+  weightRefusal,
 }
 
 -- The sheet call: the listing's length, and the listing in the first bytes.
@@ -174,3 +178,15 @@ pub record SharedInC (kind : ℤ) (n : ℕ) (l : List ℤ) (i j : ℕ) (r : ℤ)
 pub record PoolCall (first second lent : List ℕ) (r : Answer) (after : List ℕ) : Type 0 where
   pub answered : r ≡ answer (poolRefusal first second (length lent)) (length (poolText first second))
   pub written : after ≡ slots (poolRefusal first second (length lent)) (poolText first second) lent
+
+-- The refined weight of a split (document 02, 2.5), of which "one side as a set" is handed in.
+pub record WeightCall (n : ℕ) (l : List ℤ) (A : ℕ) (r : Weighed) : Type 0 where
+  pub answered : r ≡ weighedAnswer (weightRefusal n l A) (refinedWeight n (score l) A)
+
+-- in C, since a weight may be negative: the refusal's number is answered, 0 for none, and the weight goes to a slot, on
+-- refusal too
+pub record WeightInC (n : ℕ) (l : List ℤ) (A : ℕ) (r weight : ℤ) : Type 0 where
+  pub given : Weighed
+  pub outcome : WeightCall n l A given
+  pub answered : r ≡ pos (weighedNumber given)
+  pub written : weight ≡ weighedWeight given

@@ -3,12 +3,13 @@
 use mathlib.Core.Path.{_≡_}
 use mathlib.Core.Bool.{Bool, true, not, cond, _&&_, _||_}
 use mathlib.Core.List.{List, [], _∷_, _++_}
-use Prim.Native.Nat.{ℕ, _+_, _-_, _*_}
+use Prim.Native.Nat.{ℕ, _+_, _-_, _*_, _^_}
 use lib.IntN.{ℤ, pos}
 use lib.Dec.{T, eqb, leb, ltb}
 use lib.ListN.{length, getD}
 use Rattle.lists.specs.Lists.{below, all}
 use Rattle.integers.specs.Integers.{eqZ}
+use Rattle.sets.specs.Sets.{size, complement}
 use Rattle.clusters.specs.PairList.{rowStart, hasLength, scoresInRange, hasUnscored, areDistances}
 use Rattle.clusters.specs.Farris.{isAnchored}
 use Rattle.interface.specs.Sheet.{
@@ -203,6 +204,14 @@ check17 first second = (17, namesDiffer (names first) (names second))
 abbrev pub check18 : (sums : List ℤ) → Check
 check18 sums = (18, not (scoresInRange sums))
 
+-- "a side with fewer than two, or a member numbered n or more, gives 19" (document 02, 2.5): the side handed in or the
+-- other
+unfoldable pub wrongSide : ℕ → (side : ℕ) → Bool
+wrongSide n A = ltb (size n A) 2 || ltb (size n (complement n A)) 2 || leb (2 ^ n) A
+
+abbrev pub check19 : ℕ → (side : ℕ) → Check
+check19 n A = (19, wrongSide n A)
+
 -- Which call makes which, 16 "right after 11". "The sheet and C calls make checks 1 to 9, 11, 12, 14"
 unfoldable pub sheetCallChecks : ℤ → List ℕ → (buffer : ℕ) → List Check
 sheetCallChecks kind s buffer =
@@ -311,6 +320,17 @@ bothChecks first second buffer =
 unfoldable pub poolChecks : (first second : List ℕ) → (buffer : ℕ) → List Check
 poolChecks first second buffer = sheetChecks first ++ (sheetChecks second ++ bothChecks first second buffer)
 
+-- of the refined weight of a split: "after 6, 10, 11, 16 and 12, judged as kind 3", 19 (document 02, 2.5)
+unfoldable pub weightChecks : ℕ → List ℤ → (side : ℕ) → List Check
+weightChecks n l A =
+    check6 n
+    ∷ check10 n l
+    ∷ check11 l
+    ∷ check16 l
+    ∷ check12 (pos 3) n l
+    ∷ check19 n A
+    ∷ []
+
 -- the number of the refusal that each call gives, 0 if none
 unfoldable pub sheetRefusal : ℤ → List ℕ → (buffer : ℕ) → ℕ
 sheetRefusal kind s buffer = firstOf (sheetCallChecks kind s buffer)
@@ -338,3 +358,6 @@ sharedRefusal kind n l i j = firstOf (sharedChecks kind n l i j)
 
 unfoldable pub poolRefusal : (first second : List ℕ) → (buffer : ℕ) → ℕ
 poolRefusal first second buffer = firstOf (poolChecks first second buffer)
+
+unfoldable pub weightRefusal : ℕ → List ℤ → (side : ℕ) → ℕ
+weightRefusal n l A = firstOf (weightChecks n l A)

@@ -2,13 +2,14 @@
 use mathlib.Core.Path.{_≡_}
 use mathlib.Core.Logic.{_⊎_, _≢_, _↔_}
 use mathlib.Core.List.{List, [], _∷_, _++_, map}
-use Prim.Native.Nat.{ℕ, _+_, _*_, _/_, _^_, _<_, _≤_}
-use lib.IntN.{ℤ, pos, negℤ, _+ℤ_}
+use Prim.Native.Nat.{ℕ, _+_, _-_, _*_, _/_, _^_, _<_, _≤_}
+use lib.IntN.{ℤ, pos, negℤ, _+ℤ_, _*ℤ_}
 use lib.Signed.{_≤ℤ_}
 use lib.Dec.{T}
 use lib.ListN.{length, getD, set, take, drop}
 use Rattle.lists.specs.Lists.{_∈_, _lists_}
-use Rattle.sets.specs.Sets.{_∋_, size, allEntries, Subset}
+use Rattle.sets.specs.Sets.{_∋_, size, allEntries, complement, Subset}
+use Rattle.integers.specs.Integers.{sumOf}
 use Rattle.integers.specs.Range.{Within}
 use Rattle.pairs.specs.declared.Carried.the-variants.{Scored, Unscored}
 use Rattle.pairs.specs.Pairs.{mark, carried, isScored}
@@ -16,19 +17,23 @@ use Rattle.clusters.specs.PairList.{Similarity, place, score, scoreLimit, hasLe
 use Rattle.clusters.specs.Fillings.{Fills, AllScored, ScoredMore}
 use Rattle.clusters.specs.Farris.{farris, unfarris}
 use Rattle.clusters.specs.Linkage.{Linkage}
-use Rattle.clusters.specs.Groups.{kindOf, plainSets, plainGroups, writtenSet}
+use Rattle.clusters.specs.Groups.{splits, kindOf, plainSets, plainGroups, writtenSet}
 use Rattle.clusters.specs.Reordering.{Permutation, Reordered, image}
 use Rattle.clusters.specs.Nesting.{smallestOfAll, OnLine}
+use Rattle.clusters.specs.Refined.{Quartet, doubledScore, Across, Chosen, Compatible}
 use Rattle.answers.specs.declared.Answer.{Answer}
 use Rattle.answers.specs.Answers.{numberOf, countOf}
 use Rattle.answers.specs.declared.Shared.{Shared}
 use Rattle.answers.specs.Shared.{sharedNumber, sharedSet, sharedLine}
+use Rattle.answers.specs.declared.Weighed.{Weighed}
+use Rattle.answers.specs.Weighed.{weighedNumber, weighedWeight}
 use Rattle.interface.specs.Sheet.{names, entries, value, pairs}
 use Rattle.interface.specs.Refusals.{Check, none, Given, check1, check6, check10, check11, check1Groups}
-use Rattle.interface.specs.Refusals.{readerChecks, sharedChecks, sheetChecks, poolChecks}
+use Rattle.interface.specs.Refusals.{readerChecks, sharedChecks, sheetChecks, poolChecks, weightChecks}
 use Rattle.interface.specs.Calls.{InC, CCall, NumbersCall, LinkageCall, AnchoredCall}
 use Rattle.interface.specs.Calls.{BackCall, ReaderCall, ScoreInC, SharedCall, SharedInC, PoolCall}
-use Rattle.interface.specs.Demands.{Wrote}
+use Rattle.interface.specs.Calls.{WeightCall, WeightInC}
+use Rattle.interface.specs.Demands.{Listed, Wrote}
 
 -- 2.1, the smallest group two entries share: the refusal's number, 0 for none, the set and the line that the call
 -- answers, here or in C
@@ -282,3 +287,56 @@ pub record Request-2-4 : Type 0 where
       → (A B : ℕ) → SameSet bytes bytes′ A B → (z : ℤ)
       → (found lists (writtenSet (kindOf kind) (entries bytes) A, z))
       ↔ (found′ lists (writtenSet (kindOf kind) (entries bytes′) B, z))
+
+-- 2.5, refined weight of a split: the refusal's number, 0 for none, and the weight that the call answers for one side,
+-- here or in C
+pub data SideWeighed (n : ℕ) (l : List ℤ) (A : ℕ) : (number : ℕ) (weight : ℤ) → Type 0 where
+  by-weight-call : {r : Weighed} → WeightCall n l A r → SideWeighed n l A (weighedNumber r) (weighedWeight r)
+  by-weight-in-C : {r weight : ℤ} → WeightInC n l A r weight
+      → (number : ℕ) → r ≡ pos number → SideWeighed n l A number weight
+
+-- "Both sides have at least two entries", so there is a quartet; and no member is numbered n or more
+pub record TwoSides (n A : ℕ) : Type 0 where
+  pub members : (i : ℕ) → A ∋ i → i < n
+  pub some : Quartet
+  pub across : Across n A some
+
+-- "after 6, 10, 11, 16 and 12, judged as kind 3, a side with fewer than two, or a member numbered n or more, gives 19":
+-- the number given, beside that which the numbers call gives for kind 3
+pub record WeighedAfter (n A numbers number : ℕ) : Type 0 where
+  pub refused : numbers ≢ 0 → number ≡ numbers
+  pub wrong-side : numbers ≡ 0 → (TwoSides n A → ⊥) → number ≡ 19
+  pub passed : numbers ≡ 0 → TwoSides n A → number ≡ 0
+
+pub record Request-2-5 : Type 0 where
+  -- each number is given if and only if its line holds and none before it does; "Refused, the weight is 0."
+  pub refusal : {n : ℕ} {l : List ℤ} {A number : ℕ} {w : ℤ} → SideWeighed n l A number w
+      → (k : ℕ) → 0 < k → (number ≡ k) ↔ Given (weightChecks n l A) k
+  pub refused : {n : ℕ} {l : List ℤ} {A number : ℕ} {w : ℤ} → SideWeighed n l A number w
+      → number ≢ 0 → w ≡ pos 0
+  pub judged : {n : ℕ} {l : List ℤ} {A number : ℕ} {w : ℤ} → SideWeighed n l A number w
+      → {lentSets sets : List ℕ} {lentIndices indices : List ℤ} {r : Answer}
+      → NumbersCall (pos 3) n l lentSets lentIndices r sets indices → numberOf r ≢ 13
+      → WeighedAfter n A (numberOf r) number
+  -- the pair list of a sheet whose splits were listed has a weight for each split with two entries on each side
+  pub of-sheet : {sheet bytes : List ℕ} → Listed (pos 3) sheet bytes → {A number : ℕ} {w : ℤ}
+      → SideWeighed (entries sheet) (pairs sheet) A number w → TwoSides (entries sheet) A → number ≡ 0
+  -- "The weight is the sum of the n − 3 smallest": no n − 3 different quartets have a smaller sum, and some have this
+  pub smallest : {n : ℕ} {l : List ℤ} {A : ℕ} {w : ℤ} → SideWeighed n l A 0 w
+      → (qs : List Quartet) → Chosen n A qs → w ≤ℤ sumOf qs (doubledScore (score l))
+  pub attained : {n : ℕ} {l : List ℤ} {A : ℕ} {w : ℤ} → SideWeighed n l A 0 w
+      → (qs : List Quartet) × Chosen n A qs × (w ≡ sumOf qs (doubledScore (score l)))
+  -- either side may be handed in
+  pub either-side : {n : ℕ} {l : List ℤ} {A number number′ : ℕ} {w w′ : ℤ} → A < 2 ^ n
+      → SideWeighed n l A number w → SideWeighed n l (complement n A) number′ w′
+      → (number′ ≡ number) × (w′ ≡ w)
+  -- a reordering keeps the weight
+  pub reordered : {n : ℕ} {l l′ : List ℤ} {A : ℕ} {w w′ : ℤ} (p : Permutation n)
+      → SideWeighed n l A 0 w → SideWeighed n l′ (image n p A) 0 w′ → Reordered n p (score l) (score l′) → w′ ≡ w
+  -- "Two splits of positive weight never cross: some side of one lies within a side of the other."
+  pub never-cross : {n : ℕ} {l : List ℤ} {A C : ℕ} {w w′ : ℤ} → SideWeighed n l A 0 w → SideWeighed n l C 0 w′
+      → pos 1 ≤ℤ w → pos 1 ≤ℤ w′ → Compatible n A C
+  -- "And a kind 3 line with two or more on each side has positive weight": n − 3 times its index or more
+  pub of-line : {n : ℕ} {l : List ℤ} {A : ℕ} {w : ℤ} → SideWeighed n l A 0 w
+      → {found : List (ℕ × ℤ)} → Wrote (pos 3) n (score l) found → (z : ℤ) → found lists (writtenSet splits n A, z)
+      → ((pos (n - 3) *ℤ z) ≤ℤ w) × (pos 1 ≤ℤ w)
