@@ -129,12 +129,9 @@ fn is_out_of_place(n: usize, x: usize, room: usize) -> bool
 fn anchored_refusal(n: usize, x: usize, pairs: &[i32], room: usize) -> usize
     ensures { λ r. ⌜ r ≡ anchoredRefusal n x (now (pairs .entry)) room ⌝ }
 {
-    let refused = matrix::scored_refusal(n, pairs);
+    let refused = matrix::distances_refusal(n, pairs);
     if refused != 0 {
         return refused;
-    }
-    if !matrix::are_distances(n, pairs) {
-        return 12;
     }
     if is_out_of_place(n, x, room) {
         return 15;

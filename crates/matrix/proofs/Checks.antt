@@ -5,14 +5,15 @@ use mathlib.Core.List.{List, [], _∷_}
 use Prim.Native.Nat.{ℕ, _≤_}
 use borrow.Author.Tests.{not-false}
 use lib.Dec.{T, lit<}
-use lib.IntN.{ℤ}
+use lib.IntN.{ℤ, pos}
 use lib.ListN.{length}
 use Rattle.lists.specs.Lists.{all}
 use Rattle.lists.proofs.Tests.{true-T, false-T}
-use Rattle.clusters.specs.PairList.{rowStart, hasLength, scoresInRange, hasUnscored}
-use Rattle.interface.specs.Refusals.{Check, firstOf, wrongCount, check6, check10, check11, check16}
+use Rattle.clusters.specs.PairList.{rowStart, hasLength, scoresInRange, hasUnscored, areDistances}
+use Rattle.interface.specs.Refusals.{Check, firstOf, wrongCount, wrongDistances, check6, check10, check11, check16, check12}
 use Rattle.interface.proofs.Refusals.{Gives, no-first, first-front, first-back, some-count, right-count, right-length}
-use Rattle.matrix.specs.Checks.{lengthChecks, pairChecks, scoredChecks, Checked}
+use Rattle.interface.proofs.Anchored.{judged}
+use Rattle.matrix.specs.Checks.{lengthChecks, pairChecks, scoredChecks, distanceChecks, Checked}
 
 -- a table that goes on behind them and gives 0, read backwards
 module _ (n : ℕ) (l : List ℤ) (rest : List Check) where
@@ -37,6 +38,14 @@ scored-none n l rest e =
     let (checked, e₁₁) = pairs-none n l (check16 l ∷ rest) e in
     let (c₁₆, e₁₆) = no-first 16 (hasUnscored l) rest (lit< tt) e₁₁ in
     (checked, false-T c₁₆, e₁₆)
+
+-- and with check 12, judged as kind 3
+pub distances-none : (n : ℕ) (l : List ℤ) (rest : List Check) → firstOf (check6 n ∷ check10 n l ∷ check11 l ∷ check16 l ∷ check12 (pos 3) n l ∷ rest) ≡ 0
+    → Checked n l × T (not (hasUnscored l)) × T (areDistances n l) × (firstOf rest ≡ 0)
+distances-none n l rest e =
+    let (checked, scored, e₁₆) = scored-none n l (check12 (pos 3) n l ∷ rest) e in
+    let (c₁₂, e₁₂) = no-first 12 (wrongDistances (pos 3) n l) rest (lit< tt) e₁₆ in
+    (checked, scored, true-T (not-false (areDistances n l) (sym (judged n l) ∙ c₁₂)), e₁₂)
 
 -- they give k, found by the code: what they leave if that is 0, and what the table gives
 module _ (n : ℕ) (l : List ℤ) {k : ℕ} (e : k ≡ firstOf (lengthChecks n l)) where
@@ -77,3 +86,17 @@ module _ (n : ℕ) (l : List ℤ) {k : ℕ} (e : k ≡ firstOf (scoredChecks n l
   pub scored-passed : {rest : List Check} {r : ℕ} → k ≡ 0 → Gives rest r → Gives (check6 n ∷ check10 n l ∷ check11 l ∷ check16 l ∷ rest) r
   unfolding scoredChecks all
   scored-passed {rest} = first-back (scoredChecks n l) rest tt e
+
+module _ (n : ℕ) (l : List ℤ) {k : ℕ} (e : k ≡ firstOf (distanceChecks n l)) where
+  pub distances-left : k ≡ 0 → Checked n l × T (not (hasUnscored l)) × T (areDistances n l)
+  unfolding distanceChecks
+  distances-left z = let (checked, scored, distances, _) = distances-none n l [] (sym e ∙ z) in (checked, scored, distances)
+
+  pub distances-refused : {rest : List Check} → (k ≡ 0 → ⊥) → Gives (check6 n ∷ check10 n l ∷ check11 l ∷ check16 l ∷ check12 (pos 3) n l ∷ rest) k
+  unfolding distanceChecks all
+  distances-refused {rest} = first-front (distanceChecks n l) rest tt e
+
+  pub distances-passed : {rest : List Check} {r : ℕ} → k ≡ 0 → Gives rest r
+      → Gives (check6 n ∷ check10 n l ∷ check11 l ∷ check16 l ∷ check12 (pos 3) n l ∷ rest) r
+  unfolding distanceChecks all
+  distances-passed {rest} = first-back (distanceChecks n l) rest tt e

@@ -12,7 +12,7 @@ ghost use Rattle.clusters.specs.PairList.{rowStart, place, score, scoreLimit, h
 ghost use Rattle.clusters.specs.PairList.{scoresInRange, hasUnscored, areDistances};
 ghost use Rattle.clusters.specs.Touched.{rowScored, touchedEntries};
 ghost use Rattle.interface.specs.Refusals.{firstOf, wrongCount, wrongEntries};
-ghost use Rattle.matrix.specs.Checks.{passes, lengthChecks, pairChecks, scoredChecks};
+ghost use Rattle.matrix.specs.Checks.{passes, lengthChecks, pairChecks, scoredChecks, distanceChecks};
 use pairs::Pair;
 
 // Where row i of the lower triangle starts.
@@ -261,6 +261,20 @@ pub fn are_distances(n: usize, pairs: &[i32]) -> bool
     ensures { λ r. ⌜ r ≡ areDistances n (now (pairs .entry)) ⌝ }
 {
     are_not_negative(pairs) && are_own_zero(n, pairs)
+}
+
+// Checks 6, 10, 11, 16 and 12, of the calls that take distances, judged as kind 3.
+pub fn distances_refusal(n: usize, pairs: &[i32]) -> usize
+    ensures { λ r. ⌜ r ≡ firstOf (distanceChecks n (now (pairs .entry))) ⌝ }
+{
+    let earlier = scored_refusal(n, pairs);
+    if earlier != 0 {
+        return earlier;
+    }
+    if !are_distances(n, pairs) {
+        return 12;
+    }
+    0
 }
 
 // Check 15 of two entry numbers.
