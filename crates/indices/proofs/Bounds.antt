@@ -3,24 +3,22 @@
 use mathlib.Core.Path.{_≡_, refl}
 use mathlib.Core.List.{List, [], _∷_, map, List·Memᴰ·head}
 use Prim.Native.Nat.{ℕ, _-_, _*_, _≤_, _<_}
+use native.Mathlib.Nat.{mul-le-mul}
 use native.Mathlib.Omega.{arith}
 use lib.IntN.{ℤ}
-use lib.ListN.{take, length-take}
 use Rattle.lists.specs.Lists.{_∈_}
 use Rattle.lists.proofs.Lists.{of-each, of-map}
-use Rattle.integers.specs.Integers.{least, sort, sumOfSmallest}
+use Rattle.integers.specs.Integers.{least}
 use Rattle.integers.specs.Range.{Within, Bounded}
 use Rattle.integers.proofs.Least.{least-of}
 use Rattle.integers.proofs.Range.{zero-within, within-grow, within-equal, within-sum, within-difference, within-max}
-use Rattle.integers.proofs.Smallest.{of-sort}
 use Rattle.sets.specs.Sets.{others, size}
 use Rattle.sets.proofs.Sets.{size-le}
+use Rattle.smallest.proofs.Totals.{smallest-within}
 use Rattle.clusters.specs.PairList.{Similarity, score}
 use Rattle.clusters.specs.Indices.{strongValues, strongIndex, weight, pairsOf, weights, cleanIndex, separationValues, separationIndex}
 use Rattle.clusters.proofs.Strong.{of-strongValues, of-separationValues}
 use Rattle.matrix.proofs.Scores.{score-within}
-use Rattle.indices.proofs.Smallest.{of-take}
-use Rattle.indices.proofs.Totals.{sum-within}
 
 least-within : {k : ℕ} (l : List ℤ) → Bounded k l → Within k (least l)
 unfolding least
@@ -55,9 +53,9 @@ module _ {l : List ℤ} {k : ℕ} (b : Bounded k l) where
       (within-equal e (within-difference (within-difference (within-sum (score-within b x v) (score-within b y w)) (score-within b x y)) (score-within b v w))))
 
   pub clean-within : (n A : ℕ) → n ≤ 32 → Within (62 * k) (cleanIndex n (score l) A)
-  unfolding cleanIndex sumOfSmallest
+  unfolding cleanIndex
   clean-within n A few =
-      let w = weights n (score l) A in
-      let smallest = take (size n A - 1) (sort w) in
-      within-grow (omega arith) (sum-within 31 smallest (omega (arith, length-take (size n A - 1) (sort w), size-le n A))
-      (λ z m. weights-within n A z (of-sort w (of-take (size n A - 1) (sort w) m))))
+      let j = size n A - 1 in
+      let most : j ≤ 31 = omega (arith, size-le n A) in
+      let same : 2 * k ≤ 2 * k = omega arith in
+      within-grow (omega (arith, mul-le-mul most same)) (smallest-within j (weights n (score l) A) (weights-within n A))

@@ -1,5 +1,4 @@
-pub mod Smallest
-pub mod Totals
+pub mod Triples
 pub mod Bounds
 pub mod Margins
 pub mod Seen

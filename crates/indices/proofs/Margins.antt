@@ -1,7 +1,7 @@
 -- The strong and the separation index are least margins.
 use mathlib.Core.Path.{_≡_, sym, ap, _∙_}
 use mathlib.Core.List.{List, map, Memᴰ·cast}
-use Prim.Native.Nat.{ℕ, _+_}
+use Prim.Native.Nat.{ℕ}
 use lib.IntN.{ℤ, _+ℤ_, _-ℤ_}
 use Rattle.lists.specs.Lists.{_∈_, each}
 use Rattle.lists.proofs.Lists.{in-map, of-map, in-each, of-each, map-cong}

@@ -23,13 +23,15 @@ use Rattle.integers.proofs.Running.{Run}
 use Rattle.integers.proofs.Least.{least-le, least-of, greatest-ge, greatest-of}
 use Rattle.sets.specs.Sets.{has, _∋_, _∌_, members, others}
 use Rattle.sets.proofs.Sets.{yes-has, no-has, in-or-out, in-members, of-members, in-others, of-others}
+use Rattle.smallest.proofs.Tops.{top}
 use Rattle.clusters.specs.PairList.{score}
 use Rattle.clusters.specs.Indices.{strongIndex}
 use Rattle.clusters.proofs.PairList.{score-symm}
+use Rattle.matrix.specs.Rows.{number, Row}
 use Rattle.indices.specs.Asked.{SmallRow, Proper, Table}
-use Rattle.indices.specs.Margins.{margin, nearness, separationFrom, leastMargin, number, spread, Row, Numbers, Parted, AtMost}
+use Rattle.indices.specs.Margins.{margin, nearness, separationFrom, leastMargin, spread, Numbers, Parted, AtMost}
 use Rattle.indices.proofs.Margins.{a-member, an-other, strong-margins}
-use Rattle.indices.proofs.Values.{top, side-members, side-others, of-side, least-side, margin-beyond}
+use Rattle.indices.proofs.Values.{side-members, side-others, of-side, least-side, margin-beyond}
 
 far-within : {k : ℕ} → Within k (pos k)
 unfolding up dn

@@ -12,8 +12,9 @@ use Rattle.integers.proofs.Linear.{zarith}
 use Rattle.integers.proofs.Least.{least-of, greatest-of, greatest-ge}
 use Rattle.integers.proofs.Range.{within-grow, within-equal, within-difference}
 use Rattle.integers.proofs.Running.{turn-all, running-least, running-greatest}
+use Rattle.matrix.specs.Rows.{number}
 use Rattle.indices.specs.Asked.{Table}
-use Rattle.indices.specs.Margins.{number, spread, AtMost}
+use Rattle.indices.specs.Margins.{spread, AtMost}
 use Rattle.indices.specs.Seen.{Seen}
 use Rattle.indices.specs.declared.Extremes.{Extremes}
 

@@ -4,8 +4,7 @@ use mathlib.Core.Bool.{Bool, true, false, not, Bool·beq}
 use mathlib.Core.List.{List, map}
 use Prim.Native.Nat.{ℕ, _+_, _^_, _<_}
 use lib.Dec.{T, lit<, lit≤}
-use lib.ListN.{length, getD}
-use lib.IntN.{ℤ, pos, _-ℤ_}
+use lib.IntN.{ℤ, _-ℤ_}
 use mir.Syntax.{w64}
 use mir.Val.{ofZ, toZ}
 use Rattle.lists.specs.Lists.{_∈_, below, keep}
@@ -13,16 +12,17 @@ use Rattle.lists.proofs.Lists.{below-lt, in-map, of-map, of-keep, keep-cong}
 use Rattle.integers.specs.Integers.{minZ, least, greatest}
 use Rattle.integers.specs.Range.{Within, Bounded}
 use Rattle.integers.proofs.Least.{least-of, greatest-of}
-use Rattle.integers.proofs.Range.{value-within, within-grow, within-equal, within-difference}
+use Rattle.integers.proofs.Range.{within-grow, within-equal, within-difference}
 use Rattle.integers.proofs.Held.{Held, held-result}
 use Rattle.integers.proofs.Running.{Run, run-least}
 use Rattle.sets.specs.Sets.{has, _∋_, members, others}
 use Rattle.sets.proofs.Sets.{has-yes, of-members, of-others}
-use Rattle.clusters.specs.PairList.{place, score}
-use Rattle.matrix.proofs.Places.{score-asks}
+use Rattle.smallest.proofs.Tops.{top}
+use Rattle.clusters.specs.PairList.{score}
+use Rattle.matrix.specs.Rows.{number}
 use Rattle.matrix.proofs.Scores.{score-within}
-use Rattle.indices.specs.Asked.{Scores, SmallRow, Proper}
-use Rattle.indices.specs.Margins.{margin, nearness, separationFrom, number, Numbers}
+use Rattle.indices.specs.Asked.{SmallRow, Proper}
+use Rattle.indices.specs.Margins.{margin, nearness, separationFrom, Numbers}
 use Rattle.indices.proofs.Margins.{a-member, an-other}
 
 -- values between −k and k, and a margin of them
@@ -47,9 +47,6 @@ module _ {n A k : ℕ} (p : Proper n A) {f : ℕ → ℤ} (b : (y : ℕ) → y <
   margin-within = within-difference least-in-within greatest-out-within
 
 -- beyond every value: what a running least starts from
-abbrev pub top : ℤ
-top = pos (2 ^ 30)
-
 pub top-held : Held w64 (ofZ w64 top) top
 top-held = held-result refl (lit< tt) refl
 
@@ -94,9 +91,6 @@ module _ {n A : ℕ} (p : Proper n A) {f : ℕ → ℤ} {x i : ℕ} (e : x ≡ n
       run-least m (subst (λ (y : ℕ). Run minZ top (λ y. Bool·beq (has A y) inner) f y i) e r) (b y h t .top)
 
 -- the values that the loops over a pair list see
-pub score-asked : {n : ℕ} {l : List ℤ} → Scores n l → {a b : ℕ} → a < n → b < n → (a < 32) × (b < 32) × (place a b < length l)
-score-asked {l = l} s h k = score-asks l (s .few) (s .long) h k
-
 pub margin-beyond : {n A : ℕ} → Proper n A → (l t : List ℤ) → Numbers n t → (x : ℕ) → SmallRow n l x
     → Within (2 ^ 30) (margin n (λ y. score l x y -ℤ number t y) A)
 margin-beyond p l t u x r = within-grow (lit≤ tt) (margin-within p (λ y h. within-difference (r y h) (u y h)))
@@ -104,12 +98,6 @@ margin-beyond p l t u x r = within-grow (lit≤ tt) (margin-within p (λ y h. wi
 module _ {l : List ℤ} (s : Bounded (2 ^ 22) l) where
   pub small-row : {n : ℕ} (x : ℕ) → SmallRow n l x
   small-row x y _ = score-within s x y
-
-  pub score-safe : (a b : ℕ) → Within (2 ^ 61) (score l a b)
-  score-safe a b = within-grow (lit≤ tt) (score-within s a b)
-
-  pub value-safe : (i : ℕ) → Within (2 ^ 61) (getD l i (pos 0))
-  value-safe i = within-grow (lit≤ tt) (value-within l i s)
 
   nearness-within : (a x y : ℕ) → Within (2 ^ 23) (nearness (score l) a x y)
   unfolding nearness

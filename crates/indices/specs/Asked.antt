@@ -1,17 +1,11 @@
 -- The code's own vocabulary, which nobody need believe: what the code for the indices asks of its callers.
-use mathlib.Core.Path.{_≡_}
 use mathlib.Core.List.{List}
 use Prim.Native.Nat.{ℕ, _^_, _≤_, _<_}
 use lib.IntN.{ℤ, pos}
 use lib.ListN.{length, getD}
 use Rattle.integers.specs.Range.{Within}
 use Rattle.sets.specs.Sets.{size}
-use Rattle.clusters.specs.PairList.{rowStart, score}
-
--- a pair list of n entries, up to 32 of them
-pub record Scores (n : ℕ) (l : List ℤ) : Type 0 where
-  pub few : n ≤ 32
-  pub long : length l ≡ rowStart n
+use Rattle.clusters.specs.PairList.{score}
 
 -- the scores of x are far from the machine's limits
 abbrev pub SmallRow : ℕ → List ℤ → ℕ → Type 0

@@ -1,4 +1,4 @@
 pub mod Margins
 pub mod Seen
-pub mod Smallest
+pub mod Triples
 pub mod Asked

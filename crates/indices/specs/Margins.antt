@@ -1,16 +1,16 @@
 -- The code's own vocabulary, which nobody need believe: the strong index and the separation index by their margins.
-use mathlib.Core.Path.{_≡_}
 use mathlib.Core.Bool.{Bool, Bool·beq, cond}
 use mathlib.Core.List.{List, map}
 use Prim.Native.Nat.{ℕ, _^_, _≤_, _<_}
 use lib.IntN.{ℤ, pos, negℤ, _-ℤ_}
 use lib.Signed.{_≤ℤ_}
-use lib.ListN.{length, getD}
+use lib.ListN.{length}
 use Rattle.lists.specs.Lists.{below, keep}
 use Rattle.integers.specs.Integers.{least, greatest}
 use Rattle.integers.specs.Range.{Within}
 use Rattle.sets.specs.Sets.{has, members, others}
 use Rattle.clusters.specs.PairList.{Similarity}
+use Rattle.matrix.specs.Rows.{number, Row}
 
 -- by how much the least value in A exceeds the greatest value outside A
 unfoldable pub margin : ℕ → (ℕ → ℤ) → ℕ → ℤ
@@ -24,14 +24,7 @@ nearness d a x y = d y x -ℤ d a y
 unfoldable pub separationFrom : ℕ → Similarity → ℕ → ℕ → ℤ
 separationFrom n d A a = least (map (λ x. margin n (nearness d a x) A) (others n A))
 
--- As the code finds a margin: by tables of a number for each entry
-abbrev pub number : List ℤ → ℕ → ℤ
-number t y = getD t y (pos 0)
-
-abbrev pub Row : ℕ → (ℕ → ℤ) → List ℤ → Type 0
-Row n f t = (y : ℕ) → y < n → number t y ≡ f y
-
--- numbers as small as scores
+-- As the code finds a margin, by tables of a number for each entry: numbers as small as scores
 abbrev pub Numbers : ℕ → List ℤ → Type 0
 Numbers n t = (y : ℕ) → y < n → Within (2 ^ 22) (number t y)
 

@@ -5,7 +5,7 @@ use Prim.Native.Nat.{ℕ, _-_, _^_}
 use lib.IntN.{ℤ, pos, negℤ, _-ℤ_}
 use Rattle.lists.specs.Lists.{below}
 use Rattle.integers.specs.Integers.{minZ, maxZ}
-use Rattle.indices.specs.Margins.{number}
+use Rattle.matrix.specs.Rows.{number}
 use Rattle.indices.specs.declared.Extremes.{Extremes}
 
 -- of the values of the entries below k, less the numbers of two tables; from what is beyond them all

@@ -23,8 +23,9 @@ use Rattle.clusters.proofs.Groups.{leastSize, speaks-size}
 use Rattle.clusters.proofs.Scored.{allowed-within, list-allowed, scored-in-range}
 use Rattle.clusters.proofs.Untouched.{of-untouched}
 use Rattle.interface.specs.Refusals.{wrongUnscored}
-use Rattle.indices.specs.Asked.{Scores, Proper, SmallRow}
 use Rattle.matrix.specs.Checks.{Checked}
+use Rattle.matrix.specs.Rows.{Scores}
+use Rattle.indices.specs.Asked.{Proper, SmallRow}
 use Rattle.kinds.specs.Kinds.{Scored, Accepted}
 
 -- what a test said of the kind as passed

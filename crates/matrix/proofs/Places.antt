@@ -8,6 +8,7 @@ use lib.IntN.{ℤ}
 use lib.ListN.{length}
 use Rattle.clusters.specs.PairList.{rowStart, place}
 use Rattle.clusters.proofs.PairList.{rowStart-suc, rowStart-le, place-row, place-comm, place-lt}
+use Rattle.matrix.specs.Rows.{Scores}
 
 -- the row before n ends where row n starts
 pub rowStart-before : (n : ℕ) → 0 < n → rowStart (n - 1) + n ≡ rowStart n
@@ -17,6 +18,9 @@ rowStart-before (suc n) h = let e : suc n - 1 ≡ n = omega arith in omega (arit
 -- what the lookup of a score asks, in a pair list of n entries
 pub score-asks : {n a b : ℕ} (l : List ℤ) → n ≤ 32 → length l ≡ rowStart n → a < n → b < n → (a < 32) × (b < 32) × (place a b < length l)
 score-asks {n} {a} {b} l m e h k = (omega arith, omega arith, omega (arith, place-lt n a b h k))
+
+pub score-asked : {n : ℕ} {l : List ℤ} → Scores n l → {a b : ℕ} → a < n → b < n → (a < 32) × (b < 32) × (place a b < length l)
+score-asked {l = l} s h k = score-asks l (s .few) (s .long) h k
 
 -- along the row of a up to the own pair, then down its column
 pub place-column : (a b : ℕ) → a ≤ b → place a b ≡ rowStart b + a

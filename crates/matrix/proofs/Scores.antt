@@ -4,7 +4,8 @@ use mathlib.Core.Logic.{_⊎_, inl, inr}
 use mathlib.Core.List.{List}
 use Prim.Native.Nat.{ℕ, _^_}
 use lib.Dec.{T, lit≤}
-use lib.IntN.{ℤ}
+use lib.IntN.{ℤ, pos}
+use lib.ListN.{getD}
 use Rattle.lists.proofs.Lists.{all-in}
 use Rattle.integers.specs.Range.{Within, Bounded}
 use Rattle.integers.proofs.Linear.{up, dn}
@@ -35,3 +36,11 @@ lent-bounded l t z m = go (allowed-cases (all-in (λ v. isAllowedPair scoreLimit
 pub score-within : {k : ℕ} {l : List ℤ} → Bounded k l → (a b : ℕ) → Within k (score l a b)
 unfolding score
 score-within {l = l} h a b = value-within l (place a b) h
+
+-- small numbers are far from the limits of 64 bits
+module _ {l : List ℤ} (h : Bounded (2 ^ 22) l) where
+  pub score-safe : (a b : ℕ) → Within (2 ^ 61) (score l a b)
+  score-safe a b = within-grow (lit≤ tt) (score-within h a b)
+
+  pub value-safe : (i : ℕ) → Within (2 ^ 61) (getD l i (pos 0))
+  value-safe i = within-grow (lit≤ tt) (value-within l i h)

@@ -1,5 +1,5 @@
-// The pair list as lent: scores looked up by two entries, and checks 6, 10 to 12 and 16 (document 01, Where a call is
-// turned away; document 02, 2.2).
+// The pair list as lent: scores looked up by two entries, or all of one entry, and checks 6, 10 to 12 and 16 (document
+// 01, Where a call is turned away; document 02, 2.2).
 ghost use mathlib.Core.Path.{_≡_};
 ghost use Prim.Native.Nat.{_+_, _<_, _≤_};
 ghost use lib.IntN.{pos};
@@ -13,6 +13,7 @@ ghost use Rattle.clusters.specs.PairList.{scoresInRange, hasUnscored, areDistan
 ghost use Rattle.clusters.specs.Touched.{rowScored, touchedEntries};
 ghost use Rattle.interface.specs.Refusals.{firstOf, wrongCount, wrongEntries};
 ghost use Rattle.matrix.specs.Checks.{passes, lengthChecks, pairChecks, scoredChecks, distanceChecks};
+ghost use Rattle.matrix.specs.Rows.{Scores, Row};
 use pairs::Pair;
 
 // Where row i of the lower triangle starts.
@@ -76,6 +77,20 @@ pub fn pair(pairs: &[i32], a: usize, b: usize) -> Pair
     ensures { λ r. ⌜ r ≡ pairOf (score (now (pairs .entry)) a b) ⌝ }
 {
     pairs::pair_of(pairs[place_of(a, b)])
+}
+
+// The scores of a, for each entry.
+pub fn row(n: usize, pairs: &[i32], a: usize) -> [i32; 32]
+    requires { ⌜ Scores n (now pairs) × (a < n) ⌝ }
+    ensures { λ r. ⌜ Row n (score (now (pairs .entry)) a) r ⌝ }
+{
+    let mut found = [0i32; 32];
+    let mut at = place_of(a, 0);
+    for y in 0..n {
+        found[y] = pairs[at];
+        at = next_place(at, a, y);
+    }
+    found
 }
 
 // Check 6.

@@ -6,7 +6,7 @@ use lib.Dec.{lit<}
 use Rattle.integers.proofs.Range.{within-equal}
 use Rattle.clusters.specs.PairList.{rowStart, place, score}
 use Rattle.clusters.proofs.PairList.{rowStart-le, place-row}
-use Rattle.indices.specs.Margins.{number}
+use Rattle.matrix.specs.Rows.{number}
 use Rattle.indices.specs.Seen.{Seen}
 use Rattle.indices.proofs.Seen.{seen-none, seen-more, seen-end}
 use Rattle.indices.proofs.along_row.Statement.{statement}

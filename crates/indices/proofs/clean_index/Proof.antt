@@ -7,7 +7,8 @@ use Rattle.integers.specs.Integers.{sum}
 use Rattle.integers.specs.Range.{Bounded}
 use Rattle.integers.proofs.Held.{passed}
 use Rattle.sets.specs.Sets.{size}
-use Rattle.indices.proofs.Clean.{counted, tops-sorted, kept-within, kept-clean}
+use Rattle.smallest.proofs.Tops.{tops-sorted}
+use Rattle.indices.proofs.Clean.{counted, kept-within, kept-clean}
 use Rattle.indices.proofs.clean_index.Statement.{statement}
 use Rattle.indices.proofs.clean_index.Tie as tie
 

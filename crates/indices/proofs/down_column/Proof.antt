@@ -3,11 +3,10 @@ use Prim.Native.Nat.{_-_, _<_, _≤_}
 use native.Mathlib.Omega.{arith}
 use Rattle.integers.proofs.Range.{within-equal}
 use Rattle.clusters.specs.PairList.{place, score}
-use Rattle.matrix.proofs.Places.{next-column, place-few}
-use Rattle.indices.specs.Margins.{number}
+use Rattle.matrix.specs.Rows.{number}
+use Rattle.matrix.proofs.Places.{next-column, place-few, score-asked}
 use Rattle.indices.specs.Seen.{Seen}
 use Rattle.indices.proofs.Seen.{seen-more, seen-end}
-use Rattle.indices.proofs.Values.{score-asked}
 use Rattle.indices.proofs.down_column.Statement.{statement}
 use Rattle.indices.proofs.down_column.Tie as tie
 

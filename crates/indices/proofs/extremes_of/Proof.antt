@@ -1,5 +1,5 @@
 use native.Mathlib.Omega.{arith}
-use Rattle.indices.proofs.Values.{score-asked}
+use Rattle.matrix.proofs.Places.{score-asked}
 use Rattle.indices.proofs.extremes_of.Statement.{statement}
 use Rattle.indices.proofs.extremes_of.Tie as tie
 

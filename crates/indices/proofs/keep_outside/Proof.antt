@@ -11,12 +11,15 @@ use Rattle.integers.specs.Integers.{maxZ}
 use Rattle.integers.proofs.Held.{passed}
 use Rattle.integers.proofs.Range.{within-equal, within-max}
 use Rattle.sets.specs.Sets.{has, others}
+use Rattle.smallest.specs.Smallest.{keepSmallest}
+use Rattle.smallest.proofs.Kept.{Kept, kept-start, kept-yes, kept-no, kept-sorted, kept-end}
+use Rattle.smallest.proofs.Rising.{sorted-kept}
 use Rattle.clusters.specs.PairList.{place, score}
 use Rattle.clusters.specs.Indices.{weight}
-use Rattle.indices.specs.Margins.{number}
-use Rattle.indices.specs.Smallest.{keepSmallest, keepOutside}
-use Rattle.indices.proofs.Values.{score-asked, score-safe, value-safe}
-use Rattle.indices.proofs.Smallest.{Kept, kept-start, kept-yes, kept-no, kept-sorted, kept-end, sorted-triple}
+use Rattle.matrix.specs.Rows.{number}
+use Rattle.matrix.proofs.Places.{score-asked}
+use Rattle.matrix.proofs.Scores.{score-safe, value-safe}
+use Rattle.indices.specs.Triples.{keepOutside}
 use Rattle.indices.proofs.keep_outside.Statement.{statement}
 use Rattle.indices.proofs.keep_outside.Tie as tie
 
@@ -75,7 +78,7 @@ keep-smallest-requires c κs = let s = c .before .before .before .before .before
     let g = s .before .before .before .before in
     let r = s .loop .inv .3 in (
       omega (arith, g .pre .4, r .long),
-      kept-sorted r (sorted-triple (g .args .n) (score (g .args .pairs .now)) (g .args .set) (g .args .k) (g .args .a) (g .args .b)) (g .pre .5),
+      kept-sorted r (λ l c. sorted-kept (g .args .k) l (weight (score (g .args .pairs .now)) (g .args .a) (g .args .b) c)) (g .pre .5),
     )
 
 next-place-requires : tie.Need-next-place-requires Inv-loop μ-loop

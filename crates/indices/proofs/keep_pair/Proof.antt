@@ -11,7 +11,7 @@ use mir.Facts.{toZ-ofZ}
 use Rattle.integers.proofs.Held.{passed}
 use Rattle.integers.proofs.Tests.{leZ-true}
 use Rattle.clusters.specs.PairList.{score}
-use Rattle.indices.proofs.Smallest.{pair-still}
+use Rattle.indices.proofs.Triples.{pair-still}
 use Rattle.indices.proofs.keep_pair.Statement.{statement}
 use Rattle.indices.proofs.keep_pair.Tie as tie
 

@@ -10,10 +10,11 @@ use Rattle.integers.specs.Integers.{minZ}
 use Rattle.integers.proofs.Held.{passed}
 use Rattle.integers.proofs.Running.{Run, run-start, run-yes, run-no}
 use Rattle.sets.specs.Sets.{has}
+use Rattle.smallest.proofs.Tops.{top}
 use Rattle.clusters.specs.PairList.{score}
 use Rattle.indices.specs.Margins.{spread}
 use Rattle.indices.proofs.Parted.{tables, least-spread}
-use Rattle.indices.proofs.Values.{top, top-held}
+use Rattle.indices.proofs.Values.{top-held}
 use Rattle.indices.proofs.least_margin.Statement.{statement}
 use Rattle.indices.proofs.least_margin.Tie as tie
 

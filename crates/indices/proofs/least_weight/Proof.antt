@@ -9,8 +9,9 @@ use mir.Facts.{toZ-ofZ}
 use Rattle.integers.specs.Integers.{maxZ}
 use Rattle.integers.proofs.Held.{passed}
 use Rattle.integers.proofs.Range.{within-equal, within-grow, within-max, fits-within}
-use Rattle.indices.specs.Margins.{number}
-use Rattle.indices.proofs.Values.{score-asked, score-safe}
+use Rattle.matrix.specs.Rows.{number}
+use Rattle.matrix.proofs.Places.{score-asked}
+use Rattle.matrix.proofs.Scores.{score-safe}
 use Rattle.indices.proofs.least_weight.Statement.{statement}
 use Rattle.indices.proofs.least_weight.Tie as tie
 

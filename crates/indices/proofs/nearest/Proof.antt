@@ -12,9 +12,9 @@ use Rattle.integers.proofs.Linear.{zarith}
 use Rattle.integers.proofs.Held.{passed}
 use Rattle.sets.proofs.Sets.{has-no}
 use Rattle.clusters.specs.PairList.{score}
-use Rattle.indices.specs.Smallest.{Near}
+use Rattle.indices.specs.Triples.{Near}
 use Rattle.indices.proofs.Parted.{zeros, tables, near-most}
-use Rattle.indices.proofs.Smallest.{near-more, near-none}
+use Rattle.indices.proofs.Triples.{near-more, near-none}
 use Rattle.indices.proofs.Values.{small-row}
 use Rattle.indices.proofs.nearest.Statement.{statement}
 use Rattle.indices.proofs.nearest.Tie as tie

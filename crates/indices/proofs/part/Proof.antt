@@ -10,9 +10,6 @@ use Rattle.indices.specs.Margins.{Parted}
 use Rattle.indices.proofs.Parted.{part-more}
 use Rattle.indices.proofs.part.Statement.{statement}
 use Rattle.indices.proofs.part.Tie as tie
-use Rattle.indices.proofs.part.Reads as reads
-use Rattle.indices.proofs.part.Lts as lts
-use Rattle.sets.proofs.has.Reads as has-reads
 
 abbrev Inv-loop : tie.InvT-loop
 Inv-loop n set numbers inside₀ outside₀ y₀ inside outside y = (y ≤ n) × (length inside ≡ 32) × (length outside ≡ 32) × Parted y numbers set inside outside
@@ -20,7 +17,6 @@ Inv-loop n set numbers inside₀ outside₀ y₀ inside outside y = (y ≤ n) ×
 abbrev μ-loop : tie.MeasureT-loop
 μ-loop n set numbers inside₀ outside₀ y₀ inside outside y = n - y
 
--- src/lib.rt:47:5
 loop-holds : tie.Need-loop-holds Inv-loop μ-loop
 loop-holds c = (
   omega arith,
@@ -29,71 +25,54 @@ loop-holds c = (
   record { long = (omega arith, omega arith); members = λ y h. absurd (omega arith); others = λ y h. absurd (omega arith) },
 )
 
--- src/lib.rt:48:12
 has-requires : tie.Need-has-requires Inv-loop μ-loop
 has-requires c κs = search needs
 
--- src/lib.rt:49:25
 mul-inside : tie.Need-mul-inside Inv-loop μ-loop
 mul-inside c = search needs
 
--- src/lib.rt:49:25
 array-copy-out-inside : tie.Need-array-copy-out-inside Inv-loop μ-loop
 array-copy-out-inside c = search needs
 
--- src/lib.rt:49:13
 mul-inside-2 : tie.Need-mul-inside-2 Inv-loop μ-loop
 mul-inside-2 c = search needs
 
--- src/lib.rt:49:13
 array-set-from-inside : tie.Need-array-set-from-inside Inv-loop μ-loop
 array-set-from-inside c = search needs
 
--- src/lib.rt:50:13
 mul-outside : tie.Need-mul-outside Inv-loop μ-loop
 mul-outside c = search needs
 
--- src/lib.rt:50:13
 array-set-of-outside : tie.Need-array-set-of-outside Inv-loop μ-loop
 array-set-of-outside c = search needs
 
--- src/lib.rt:52:25
 sub-inside : tie.Need-sub-inside Inv-loop μ-loop
 sub-inside c = record { sfits = lit< tt }
 
--- src/lib.rt:52:13
 mul-inside-3 : tie.Need-mul-inside-3 Inv-loop μ-loop
 mul-inside-3 c = search needs
 
--- src/lib.rt:52:13
 array-set-from-inside-2 : tie.Need-array-set-from-inside-2 Inv-loop μ-loop
 array-set-from-inside-2 c = search needs
 
--- src/lib.rt:53:26
 mul-outside-2 : tie.Need-mul-outside-2 Inv-loop μ-loop
 mul-outside-2 c = search needs
 
--- src/lib.rt:53:26
 array-copy-out-outside : tie.Need-array-copy-out-outside Inv-loop μ-loop
 array-copy-out-outside c = search needs
 
--- src/lib.rt:53:13
 mul-outside-3 : tie.Need-mul-outside-3 Inv-loop μ-loop
 mul-outside-3 c = search needs
 
--- src/lib.rt:53:13
 array-set-from-outside : tie.Need-array-set-from-outside Inv-loop μ-loop
 array-set-from-outside c = search needs
 
--- src/lib.rt:47:9
 add-y : tie.Need-add-y Inv-loop μ-loop
 add-y c = search needs
 
--- src/lib.rt:47:5
 loop-less : tie.Need-loop-less Inv-loop μ-loop
 loop-less c = omega arith
 
--- src/lib.rt:47:5
 loop-again : tie.Need-loop-again Inv-loop μ-loop
 loop-again c = let s = c .before .before .before in
     let l = s .loop in
@@ -113,7 +92,6 @@ loop-again c = let s = c .before .before .before in
     ))
     (c .if1 .came)
 
--- src/lib.rt:41:1
 returns : tie.Need-returns Inv-loop μ-loop
 returns c = let l = c .before .loop in
     record {

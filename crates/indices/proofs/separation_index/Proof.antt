@@ -8,10 +8,11 @@ use Rattle.integers.specs.Integers.{minZ}
 use Rattle.integers.proofs.Held.{passed}
 use Rattle.integers.proofs.Running.{Run, run-start, run-yes, run-no}
 use Rattle.sets.specs.Sets.{has}
+use Rattle.smallest.proofs.Tops.{top}
 use Rattle.clusters.specs.PairList.{score}
 use Rattle.indices.specs.Margins.{separationFrom}
 use Rattle.indices.proofs.Margins.{separation-margins}
-use Rattle.indices.proofs.Values.{top, top-held, least-member, separation-beyond}
+use Rattle.indices.proofs.Values.{top-held, least-member, separation-beyond}
 use Rattle.indices.proofs.separation_index.Statement.{statement}
 use Rattle.indices.proofs.separation_index.Tie as tie
 

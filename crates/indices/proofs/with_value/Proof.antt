@@ -8,7 +8,7 @@ use mir.Facts.{toZ-ofZ}
 use Rattle.integers.specs.Integers.{minZ, maxZ}
 use Rattle.integers.proofs.Held.{passed}
 use Rattle.integers.proofs.Range.{within-equal}
-use Rattle.indices.specs.Margins.{number}
+use Rattle.matrix.specs.Rows.{number}
 use Rattle.indices.proofs.with_value.Statement.{statement}
 use Rattle.indices.proofs.with_value.Tie as tie
 

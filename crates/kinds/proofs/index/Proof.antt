@@ -9,8 +9,9 @@ use Rattle.integers.proofs.Held.{passed}
 use Rattle.clusters.specs.PairList.{score, scoreLimit, hasUnscored}
 use Rattle.clusters.specs.Groups.{index}
 use Rattle.clusters.proofs.Untouched.{untouched-index}
+use Rattle.matrix.specs.Rows.{Scores}
 use Rattle.matrix.proofs.Scores.{range-bounded}
-use Rattle.indices.specs.Asked.{Scores, Proper}
+use Rattle.indices.specs.Asked.{Proper}
 use Rattle.kinds.specs.Kinds.{kindFor, Scored}
 use Rattle.kinds.specs.declared.Kind.{Kind}
 use Rattle.kinds.proofs.Listed.{checked-scores, accepted-range, untouched-small, spoken}

@@ -7,11 +7,10 @@ use lib.ListN.{length, length-set}
 use mir.Facts.{toZ-ofZ}
 use Rattle.lists.proofs.Written.{place-more}
 use Rattle.clusters.specs.PairList.{place, score}
-use Rattle.matrix.proofs.Places.{place-few}
-use Rattle.indices.specs.Margins.{number, Row}
-use Rattle.indices.proofs.Values.{score-asked}
-use Rattle.indices.proofs.row.Statement.{statement}
-use Rattle.indices.proofs.row.Tie as tie
+use Rattle.matrix.specs.Rows.{number, Row}
+use Rattle.matrix.proofs.Places.{score-asked, place-few}
+use Rattle.matrix.proofs.row.Statement.{statement}
+use Rattle.matrix.proofs.row.Tie as tie
 
 abbrev Inv-loop : tie.InvT-loop
 Inv-loop n pairs a found₀ at₀ y₀ found at y = (y ≤ n) × (at ≡ place a y) × (length found ≡ 32) × Row y (score pairs a) found

@@ -1,20 +1,15 @@
--- The code's own vocabulary, which nobody need believe: the smallest numbers of a list, kept one by one.
+-- The code's own vocabulary, which nobody need believe: the smallest weights of triples, kept one by one.
 use mathlib.Core.List.{List, foldl}
 use Prim.Native.Nat.{ℕ, _<_}
 use lib.IntN.{ℤ}
 use lib.Signed.{_≤ℤ_}
-use lib.ListN.{take}
-use Rattle.integers.specs.Integers.{insert}
 use Rattle.sets.specs.Sets.{_∋_, _∌_, members, others}
+use Rattle.smallest.specs.Smallest.{keepSmallest}
 use Rattle.clusters.specs.PairList.{Similarity}
 use Rattle.clusters.specs.Indices.{weight}
-use Rattle.indices.specs.Margins.{number}
+use Rattle.matrix.specs.Rows.{number}
 
--- the k smallest of the numbers kept and w
-unfoldable pub keepSmallest : ℕ → List ℤ → ℤ → List ℤ
-keepSmallest k kept w = take k (insert w kept)
-
--- of the numbers kept and the weights of the triples ab|c, c outside A; b in A before a; a in A
+-- the k smallest of the numbers kept and the weights of the triples ab|c, c outside A; b in A before a; a in A
 unfoldable pub keepOutside : ℕ → Similarity → ℕ → ℕ → ℕ → ℕ → List ℤ → List ℤ
 keepOutside n s A k a b kept = foldl (λ l c. keepSmallest k l (weight s a b c)) kept (others n A)
 
