@@ -30,6 +30,7 @@ use Rattle.sets.proofs.Sets.{
   find,
   subset-antisymm,
 }
+use Rattle.sets.proofs.Parts.{common, common-comm}
 use Rattle.clusters.specs.PairList.{Similarity, Symmetric}
 use Rattle.clusters.specs.Indices.{strongIndex, weight, weights, cleanIndex}
 use Rattle.clusters.specs.Stability.{tripleSum, Division, Stable}
@@ -104,24 +105,6 @@ division n A K Z low lowk part out (k, lk, hk) (r, lr, ar, kr) (z, lz, hz) = rec
     at i l a (inl m) = ∪-right (difference n A K) K m
     at i l a (inr m) = ∪-left (difference n A K) K (in-difference n A K l a m)
 
--- the entries that A and B share are those of A that are not of A alone
-shared : ℕ → ℕ → ℕ → ℕ
-shared n A B = difference n A (difference n A B)
-
-shared-le : (n A B : ℕ) → Subset n (shared n A B) (shared n B A)
-unfolding shared
-shared-le n A B = record {
-  all = λ i l k.
-      let (a, d) = of-difference n A (difference n A B) l k in
-      in-difference n B (difference n B A) l (out-difference n A B l a d) (not-difference n B A l a);
-}
-
-shared-comm : (n A B : ℕ) → shared n A B ≡ shared n B A
-unfolding shared
-shared-comm n A B =
-    subset-antisymm n (shared n A B) (shared n B A) (difference-lt n A (difference n A B)) (difference-lt n B (difference n B A)) (shared-le n A B)
-    (shared-le n B A)
-
 -- the weights of ab|c and ac|b have a sum of at most 0, so not both of their triple sums are above 0
 opposed : (s : Similarity) (a b c : ℕ) → (weight s a b c +ℤ weight s a c b) ≤ℤ pos 0
 unfolding weight up dn
@@ -141,8 +124,8 @@ tripleSums-opposed n s W U Z =
 
 -- where A and B cross, they divide A
 crossing : (n A B : ℕ) → A < 2 ^ n → Only n A B → (w : ℕ) × (w < n) × (A ∋ w) × (B ∋ w) → Only n B A
-    → Division n A (shared n A B) (difference n A B) (difference n B A)
-unfolding shared
+    → Division n A (common n A B) (difference n A B) (difference n B A)
+unfolding common
 crossing n A B low (u, lu, au, bu) (w, lw, aw, bw) (z, lz, bz, az) =
     division n A (difference n A B) (difference n B A) low (difference-lt n A B)
     (record { all = λ i l k. of-difference n A B l k .0 }) (record { all = λ i l k. of-difference n B A l k .1 })
@@ -157,10 +140,10 @@ stable-nested n s _ A B lowa lowb sa sb = go (find n A B) (find n B A) (find n A
     go (inl u) (inr p) _ = inl (inr p)
     go (inl u) (inl z) (inr p) = inr (record { all = λ i l k. of-difference n A B l (p .all i l k) .1 })
     go (inl u) (inl z) (inl (w, lw, aw, d)) =
-        let W = shared n A B in
+        let W = common n A B in
         let U = difference n A B in
         let Z = difference n B A in
         let bw = out-difference n A B lw aw d in
         let p = sa .positive W U Z (crossing n A B lowa u (w, lw, aw, bw) z) in
-        let q = sb .positive W Z U (subst (λ (X : ℕ). Division n B X Z U) (shared-comm n B A) (crossing n B A lowb z (w, lw, bw, aw) u)) in
+        let q = sb .positive W Z U (subst (λ (X : ℕ). Division n B X Z U) (common-comm n B A) (crossing n B A lowb z (w, lw, bw, aw) u)) in
         absurd (omega (zarith, tripleSums-opposed n s W U Z, +at (tripleSum n s W U Z) (tripleSum n s W Z U)))

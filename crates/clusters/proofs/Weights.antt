@@ -12,6 +12,7 @@ use Rattle.lists.specs.Lists.{below, each}
 use Rattle.lists.proofs.Lists.{below-lt, length-each, some-length}
 use Rattle.integers.specs.Integers.{sumOf, sum}
 use Rattle.integers.proofs.Least.{max-comm}
+use Rattle.integers.proofs.Smallest.{Among}
 use Rattle.integers.proofs.Sums.{sum-cong, sum-each, sum-map, sum-nonneg, sum-keep-le}
 use Rattle.sets.specs.Sets.{has, _∋_, members, others, size}
 use Rattle.sets.proofs.Sets.{has-yes, no-has, ∪-left, ∪-right, in-others, size-less}
@@ -73,9 +74,8 @@ left-inside {U} {W} d {i} k = subst (λ (B : ℕ). B ∋ i) (d .whole) (∪-left
 pub right-inside : {n A U W Z : ℕ} → Division n A U W Z → {i : ℕ} → W ∋ i → A ∋ i
 right-inside {U} {W} d {i} k = subst (λ (B : ℕ). B ∋ i) (d .whole) (∪-right U W k)
 
--- the triples of a division of A are among those of A, as sums tell of any φ from 0 on
-pub division-among : (n : ℕ) (s : Similarity) → Symmetric s → (A U W Z : ℕ) → Division n A U W Z → (φ : ℤ → ℤ) → ((x : ℤ) → pos 0 ≤ℤ φ x)
-    → sumOf (triples n s U W Z) φ ≤ℤ sumOf (weights n s A) φ
+-- the triples of a division of A are among those of A
+pub division-among : (n : ℕ) (s : Similarity) → Symmetric s → (A U W Z : ℕ) → Division n A U W Z → Among (triples n s U W Z) (weights n s A)
 unfolding members others
 division-among n s symm A U W Z d φ nn =
     subst₂ _≤ℤ_ (sym (triples-sum n s U W Z φ)) (sym (weights-sum n s A φ))

@@ -2,7 +2,9 @@ pub mod Linear
 pub mod Tests
 pub mod Least
 pub mod Sums
+pub mod Sorting
 pub mod Smallest
+pub mod Choices
 pub mod Halves
 pub mod Range
 pub mod Held

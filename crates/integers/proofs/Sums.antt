@@ -8,10 +8,10 @@ use lib.IntN.{ℤ, pos, _+ℤ_, _-ℤ_, _*ℤ_, +ℤ-idl, +ℤ-idr, +ℤ-assoc, 
 use lib.Signed.{_≤ℤ_, _<ℤ_, ≤ℤ-refl, leZ, leZ-yes}
 use lib.Dec.{T, eqb, eqb→eq}
 use lib.ListN.{length}
-use Rattle.lists.specs.Lists.{_∈_, below, each, keep, erase}
+use Rattle.lists.specs.Lists.{_∈_, below, each, keep, erase, Distinct}
 use Rattle.lists.proofs.Tests.{true-T, false-T, eqb-no}
 use Rattle.lists.proofs.Lists.{keep-one}
-use Rattle.lists.proofs.Distinct.{in-erase}
+use Rattle.lists.proofs.Distinct.{in-erase, Place, rest, placed, inside-rest}
 use Rattle.integers.specs.Integers.{sumOf}
 use Rattle.integers.proofs.Linear.{up, dn, zarith, +at, four, four-sub, *-add, leZ-no}
 
@@ -108,6 +108,24 @@ sum-erase U (C ∷ bs) f m = go (eqb C U) refl (sum-erase U bs f) (List·Memᴰ�
     go false e ih (inl q) = absurd (eqb-no C U (false-T e) (sym q))
     go false e ih (inr m) =
         omega (zarith, ih m, +at (f C) (sumOf bs f), +at (f U) (sumOf (erase U bs) f), +at (f C) (sumOf (erase U bs) f), +at (f U) (f C +ℤ sumOf (erase U bs) f))
+
+-- of elements of any type: one summand taken out of its place; and distinct elements that are all in l, which have at most the sum of l, with no
+-- summand below 0
+module _ {ℓ} {X : Type ℓ} where
+  pub sum-rest : {x : X} {l : List X} (p : Place x l) (f : X → ℤ) → sumOf l f ≡ f x +ℤ sumOf (rest p) f
+  unfolding sumOf
+  sum-rest {x} {l} p f = end (f x) (sumOf (p .front) f) (sumOf (p .back) f) (sumOf (rest p) f) (sumOf l f)
+      (ap (λ (k : List X). sumOf k f) (p .split) ∙ sum-append (p .front) (x ∷ p .back) f) (sum-append (p .front) (p .back) f)
+    where
+      end : (a u w r s : ℤ) → s ≡ u +ℤ (a +ℤ w) → r ≡ u +ℤ w → s ≡ a +ℤ r
+      end a u w r s d e = omega (zarith, +at a w, +at u (a +ℤ w), +at u w, +at a r)
+
+  pub sum-inside : (m l : List X) → Distinct m → ((x : X) → x ∈ m → x ∈ l) → (f : X → ℤ) → ((x : X) → pos 0 ≤ℤ f x) → sumOf m f ≤ℤ sumOf l f
+  unfolding sumOf
+  sum-inside [] l d i f nn = sum-nonneg l f (λ x _. nn x)
+  sum-inside (x ∷ m) l d i f nn =
+      let p = placed l (i x (List·Memᴰ·head refl)) in
+      omega (zarith, sum-rest p f, sum-inside m (rest p) (d .1) (inside-rest d i p) f nn, +at (f x) (sumOf m f), +at (f x) (sumOf (rest p) f))
 
 -- summands above 0, one or more of them, have a sum above 0
 pub sum-pos {ℓ} : {X : Type ℓ} (l : List X) (f : X → ℤ) → ((x : X) → x ∈ l → pos 0 <ℤ f x) → {x : X} → x ∈ l → pos 0 <ℤ sumOf l f

@@ -25,7 +25,7 @@ use Prim.Native.Nat.{ℕ, zero, suc, _<_, _*_}
 use native.Mathlib.Omega.{arith}
 use native.Mathlib.Decide.{ℕ-discrete}
 use lib.Dec.{T, eqb, eqb→eq, not-T}
-use lib.ListN.{length, length-append, length-map, getD, List·getD-append}
+use lib.ListN.{length, length-append, length-map, take, getD, List·getD-append}
 use lib.Seq.{getD-at}
 use Rattle.lists.specs.Lists.{_∈_, below, each, keep, all}
 use Rattle.lists.proofs.Tests.{and-T, T-and, eqb-yes}
@@ -235,6 +235,18 @@ getD-below f (suc n) i d h = ap (λ l. getD l i d) (map-append f (below n) (n �
     go : Dec (i ≡ n) → (i < n → getD (map f (below n)) i d ≡ f i) → getD (map f (below n) ++ (f n ∷ [])) i d ≡ f i
     go (yes e) ih = rw e (getD-at (map f (below n)) (f n) [] d n long)
     go (no g) ih = List·getD-append (map f (below n)) (f n ∷ []) d i (omega (arith, long)) ∙ ih (omega arith)
+
+-- the first k elements, and what is made of them
+pub of-take {ℓ} : {A : Type ℓ} (k : ℕ) (l : List A) {x : A} → x ∈ take k l → x ∈ l
+of-take zero l m = absurd (List·Memᴰ·not-nil m)
+of-take (suc k) [] m = m
+of-take (suc k) (y ∷ l) (List·Memᴰ·head e) = List·Memᴰ·head e
+of-take (suc k) (y ∷ l) (List·Memᴰ·tail m) = List·Memᴰ·tail (of-take k l m)
+
+pub map-take {ℓ κ} : {A : Type ℓ} {B : Type κ} (f : A → B) (k : ℕ) (l : List A) → map f (take k l) ≡ take k (map f l)
+map-take f zero l = refl
+map-take f (suc k) [] = refl
+map-take f (suc k) (x ∷ l) = ap (λ (m : List _). f x ∷ m) (map-take f k l)
 
 -- a list of the same length for each element
 pub length-each {ℓ κ} : {A : Type ℓ} {B : Type κ} (l : List A) (f : A → List B) (c : ℕ) → ((x : A) → length (f x) ≡ c) → length (each l f) ≡ length l * c

@@ -1,6 +1,6 @@
 -- Laws of sets of entries: members, unions, sizes.
 use mathlib.Core.Path.{_≡_, refl, sym, ap, _∙_, subst}
-use mathlib.Core.Bool.{Bool, true, false, not, cond, _&&_}
+use mathlib.Core.Bool.{Bool, true, false, not, cond, _&&_, Bool·not-not}
 use mathlib.Core.Logic.{_⊎_, inl, inr, _≢_}
 use mathlib.Core.List.{[], _∷_, _++_, append-nil}
 use Prim.Native.Nat.{ℕ, zero, suc, _+_, _*_, _/_, _%_, _^_, _≤_, _<_, max, min}
@@ -11,9 +11,10 @@ use lib.Pow.{pow-pos}
 use lib.Bits.{bitAnd, or-step, and-step, and-le-l, or-shr, or-lt, or-disjoint}
 use lib.Dec.{T, eqb, eqb→eq, T-not}
 use lib.ListN.{length, length-append}
-use Rattle.lists.specs.Lists.{_∈_, below, keep}
+use Rattle.lists.specs.Lists.{_∈_, below, keep, Distinct}
 use Rattle.lists.proofs.Tests.{and-T, T-and}
-use Rattle.lists.proofs.Lists.{below-lt, lt-below, in-keep, of-keep, keep-yes, keep-no, keep-append, some-length, length-some}
+use Rattle.lists.proofs.Lists.{below-lt, lt-below, in-keep, of-keep, keep-yes, keep-no, keep-append, keep-cong, some-length, length-some}
+use Rattle.lists.proofs.Distinct.{distinct-keep, distinct-below}
 use Rattle.sets.specs.Sets.{has, _∋_, _∌_, members, others, size, _∪_, mask, complement, difference, Subset}
 
 pub has-yes : (A i : ℕ) → T (has A i) → A ∋ i
@@ -93,6 +94,10 @@ in-others n A {i} h k = in-keep (λ i. not (has A i)) (lt-below n i h) (no-has A
 pub of-others : (n A : ℕ) {i : ℕ} → i ∈ others n A → (i < n) × (A ∌ i)
 unfolding others
 of-others n A {i} m = let r = of-keep (λ i. not (has A i)) (below n) m in (below-lt n (r .0), has-no A i (r .1))
+
+pub members-distinct : (n A : ℕ) → Distinct (members n A)
+unfolding members
+members-distinct n A = distinct-keep (has A) (below n) (distinct-below n)
 
 -- {i} has the one member i
 pub one-in : (i : ℕ) → (2 ^ i) ∋ i
@@ -217,6 +222,20 @@ out-complement n A {i} h k = go (in-or-out A i)
     go : (A ∋ i) ⊎ (A ∌ i) → A ∋ i
     go (inl c) = c
     go (inr c) = clash (in-complement n A h c) k
+
+-- the members of a complement are the entries outside, and the other way round: those below any m up to n
+pub complement-has : (n A : ℕ) {i : ℕ} → i < n → has (complement n A) i ≡ not (has A i)
+unfolding complement
+complement-has n A {i} h = mask-has n (λ i. not (has A i)) i h
+
+pub members-complement : (n A m : ℕ) → m ≤ n → members m (complement n A) ≡ others m A
+unfolding members others
+members-complement n A m h = keep-cong (has (complement n A)) (λ i. not (has A i)) (below m) (λ i k. complement-has n A (omega (arith, below-lt m k)))
+
+pub others-complement : (n A m : ℕ) → m ≤ n → others m (complement n A) ≡ members m A
+unfolding members others
+others-complement n A m h =
+    keep-cong (λ i. not (has (complement n A) i)) (has A) (below m) (λ i k. ap not (complement-has n A (omega (arith, below-lt m k))) ∙ Bool·not-not (has A i))
 
 pub difference-lt : (n A B : ℕ) → difference n A B < 2 ^ n
 unfolding difference
