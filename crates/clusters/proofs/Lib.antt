@@ -26,3 +26,6 @@ pub mod Fillings
 pub mod Untouched
 pub mod Unscored
 pub mod Pooled
+pub mod Quartets
+pub mod Crossing
+pub mod Refined

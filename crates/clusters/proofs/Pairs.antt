@@ -1,4 +1,4 @@
--- The unordered pairs of different members of a set: sums and folds over them, and how many they are.
+-- The unordered pairs of different members of a set: which they are, sums and folds over them, and how many they are.
 use mathlib.Core.Path.{_≡_, sym, ap, ap₂, _∙_, subst₂}
 use mathlib.Core.Logic.{_⊎_, inl, inr}
 use mathlib.Core.List.{List, [], _∷_, _++_, map, foldl, foldl-map}
@@ -7,14 +7,27 @@ use native.Mathlib.Omega.{arith}
 use lib.IntN.{ℤ, pos, _+ℤ_, +ℤ-idr}
 use lib.Signed.{_≤ℤ_, ≤ℤ-refl}
 use lib.ListN.{length, length-append, length-map}
-use Rattle.lists.specs.Lists.{_∈_, below, each, keep}
-use Rattle.lists.proofs.Lists.{below-lt, of-each, of-map, each-append}
+use Rattle.lists.specs.Lists.{_∈_, _lists_, below, each, keep, Distinct}
+use Rattle.lists.proofs.Lists.{below-lt, in-each, of-each, in-map, of-map, each-append, each-cong}
+use Rattle.lists.proofs.Distinct.{distinct-map, distinct-each}
 use Rattle.integers.specs.Integers.{sumOf}
 use Rattle.integers.proofs.Linear.{zarith, +at}
 use Rattle.integers.proofs.Sums.{sum-cong, sum-add, sum-append, sum-each, sum-map, sum-nonneg, sum-keep-le}
 use Rattle.integers.proofs.Running.{foldl-each, foldl-cong}
-use Rattle.sets.specs.Sets.{has, _∋_, _∌_, members, size}
-use Rattle.sets.proofs.Sets.{has-yes, yes-has, in-or-out, clash, of-members, members-with, members-without}
+use Rattle.sets.specs.Sets.{has, _∋_, _∌_, members, others, size, complement}
+use Rattle.sets.proofs.Sets.{
+  has-yes,
+  yes-has,
+  in-or-out,
+  clash,
+  in-members,
+  of-members,
+  members-distinct,
+  members-with,
+  members-without,
+  members-complement,
+  others-complement,
+}
 use Rattle.clusters.specs.Indices.{pairsOf}
 
 -- the pairs of a and a member before it
@@ -31,9 +44,38 @@ module _ (n A : ℕ) where
       let (hb, kb) = of-members a A mb in
       rw e (ha, hb, ka, kb)
 
+  pub in-pairs : {a b : ℕ} → a < n → b < a → A ∋ a → A ∋ b → pairsOf n A lists (a, b)
+  unfolding pairsOf row
+  in-pairs {a} h k ka kb = in-each (row A) (in-members n A h ka) (in-map (λ b. (a, b)) (in-members a A k kb))
+
+  pub pairs-distinct : Distinct (pairsOf n A)
+  unfolding pairsOf row
+  pairs-distinct = distinct-each (row A)
+      (λ a. distinct-map (λ b. (a, b)) (λ b c e. ap (λ (ab : ℕ × ℕ). ab .1) e) (members a A) (members-distinct a A))
+      (λ a b z h k. first a z h ∙ sym (first b z k))
+      (members n A) (members-distinct n A)
+    where
+      first : (a : ℕ) (z : ℕ × ℕ) → z ∈ row A a → a ≡ z .0
+      first a z h = sym (ap (λ (ab : ℕ × ℕ). ab .0) (of-map (λ b. (a, b)) (members a A) h .2))
+
+  -- by another list of the members below each m up to n
+  pairs-by : (f : ℕ → List ℕ) → ((m : ℕ) → m ≤ n → members m A ≡ f m) → pairsOf n A ≡ each (f n) λ a. map (λ b. (a, b)) (f a)
+  unfolding pairsOf row
+  pairs-by f e =
+      each-cong (members n A) (row A) (λ a. map (λ b. (a, b)) (f a)) (λ a m. let h = of-members n A m .0 in ap (map (λ b. (a, b))) (e a (omega arith)))
+      ∙ ap (λ (l : List ℕ). each l λ a. map (λ b. (a, b)) (f a)) (e n (omega arith))
+
   pub pairs-sum : (f : ℕ × ℕ → ℤ) → sumOf (pairsOf n A) f ≡ sumOf (members n A) (λ a. sumOf (members a A) (λ b. f (a, b)))
   unfolding pairsOf row
   pairs-sum f = sum-each (members n A) (row A) f ∙ sum-cong (members n A) _ _ (λ a _. sum-map (λ b. (a, b)) (members a A) f)
+
+-- the pairs of the entries outside A; and of those outside of these
+pub pairs-outside : (n A : ℕ) → pairsOf n (complement n A) ≡ each (others n A) λ b. map (λ b′. (b, b′)) (others b A)
+pairs-outside n A = pairs-by n (complement n A) (λ m. others m A) (members-complement n A)
+
+pub pairs-back : (n A : ℕ) → pairsOf n (complement n (complement n A)) ≡ pairsOf n A
+unfolding pairsOf row
+pairs-back n A = pairs-by n (complement n (complement n A)) (λ m. members m A) (λ m h. members-complement n (complement n A) m h ∙ others-complement n A m h)
 
 -- a loop over the pairs of a member and one before it, or of any a of l and b of f a
 pub pairs-fold : {S : Type 0} (f : ℕ → List ℕ) (op : S → ℕ × ℕ → S) (z : S) (l : List ℕ)

@@ -12,13 +12,16 @@ use Rattle.lists.proofs.Lists.{below-lt}
 use Rattle.integers.specs.Integers.{sumOf}
 use Rattle.integers.proofs.Linear.{zarith, +at}
 use Rattle.integers.proofs.Sums.{sum-cong, sum-add, sum-swap, sum-keep, sum-snoc, sum-one}
-use Rattle.sets.specs.Sets.{has, _∋_, _∌_, members, others}
-use Rattle.sets.proofs.Sets.{in-or-out, of-members, members-with, members-without}
+use Rattle.sets.specs.Sets.{has, _∋_, _∌_, members, others, complement}
+use Rattle.sets.proofs.Sets.{in-or-out, of-members, complement-has, members-with, members-without}
 use Rattle.clusters.specs.Reordering.{Permutation}
 
 -- B holds p(i) where A holds i
 abbrev pub Image : (n : ℕ) → Permutation n → ℕ → ℕ → Type 0
 Image n p A B = (i : ℕ) → i < n → has B (p .to i) ≡ has A i
+
+pub complement-image : (n : ℕ) (p : Permutation n) (A B : ℕ) → Image n p A B → Image n p (complement n A) (complement n B)
+complement-image n p A B im i h = complement-has n B (p .to-lt i h) ∙ ap not (im i h) ∙ sym (complement-has n A h)
 
 module _ (n : ℕ) (p : Permutation n) where
   reindex : (f : ℕ → ℤ) → sumOf (below n) (λ i. f (p .to i)) ≡ sumOf (below n) f

@@ -1,10 +1,11 @@
--- The eight starred cases of document 01's bench, as a table.
+-- The eight starred cases of document 01's bench, as a table; and splits with their refined weights (document 02, 2.5).
 use mathlib.Core.List.{List, [], _∷_, map}
 use Prim.Native.Nat.{ℕ}
 use lib.IntN.{ℤ, pos, negsuc}
 use Rattle.sets.specs.Sets.{size}
 use Rattle.clusters.specs.PairList.{score}
 use Rattle.clusters.specs.Groups.{Kind, strong, clean, splits, index, groups}
+use Rattle.clusters.specs.Refined.{refinedWeight}
 
 -- a sheet by its pair list, the kind asked for, the lines (set, size, index), and what is said of sets with no line
 -- (set, index)
@@ -84,4 +85,43 @@ bench =
     ∷ record { kind = splits; entries = 4; pairs = copies; lines = copiesLines; unlisted = [] }
     ∷ record { kind = splits; entries = 2; pairs = apart; lines = (2, 1, pos 10) ∷ []; unlisted = [] }
     ∷ record { kind = splits; entries = 2; pairs = equal; lines = []; unlisted = [] }
+    ∷ []
+
+-- a sheet by its pair list, one side of a split, and its refined weight
+pub record SplitCase : Type 0 where
+  pub entries : ℕ
+  pub pairs : List ℤ
+  pub side : ℕ
+  pub weight : ℤ
+
+-- what the definition gives
+unfoldable pub weightFound : SplitCase → ℤ
+weightFound c = refinedWeight (c .entries) (score (c .pairs)) (c .side)
+
+-- d(0,2) = d(0,4) = d(1,4) = d(2,4) = 2, other distances 1
+unfoldable pub metric : List ℤ
+metric = pos 0
+    ∷ pos 1 ∷ pos 0
+    ∷ pos 2 ∷ pos 1 ∷ pos 0
+    ∷ pos 1 ∷ pos 1 ∷ pos 1 ∷ pos 0
+    ∷ pos 2 ∷ pos 2 ∷ pos 2 ∷ pos 1 ∷ pos 0 ∷ []
+
+-- d(1,2) = 3, d(3,4) = 2, other distances 4
+unfoldable pub near : List ℤ
+near = pos 0
+    ∷ pos 4 ∷ pos 0
+    ∷ pos 4 ∷ pos 3 ∷ pos 0
+    ∷ pos 4 ∷ pos 4 ∷ pos 4 ∷ pos 0
+    ∷ pos 4 ∷ pos 4 ∷ pos 4 ∷ pos 2 ∷ pos 0 ∷ []
+
+-- the scores of the quartets, rising, are 4 (of ab|cd); −4 (of bc|ad, which crosses it; d(a,b) + d(c,d) is the smaller
+-- sum); 0, 1, 1 (an entry paired with itself would bring a second 0: equal members do not count); 0, 0, 1 (the second
+-- sum is the smaller one); 2, 2, 3 (equal scores are counted each)
+unfoldable pub splitBench : List SplitCase
+splitBench =
+    record { entries = 4; pairs = copies; side = 12; weight = pos 4 }
+    ∷ record { entries = 4; pairs = copies; side = 6; weight = negsuc 3 }
+    ∷ record { entries = 5; pairs = metric; side = 24; weight = pos 1 }
+    ∷ record { entries = 5; pairs = metric; side = 28; weight = pos 0 }
+    ∷ record { entries = 5; pairs = near; side = 24; weight = pos 4 }
     ∷ []
