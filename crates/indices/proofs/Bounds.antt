@@ -12,9 +12,9 @@ use Rattle.integers.specs.Integers.{least}
 use Rattle.integers.specs.Range.{Within, Bounded}
 use Rattle.integers.proofs.Least.{least-of}
 use Rattle.integers.proofs.Range.{zero-within, within-grow, within-equal, within-sum, within-difference, within-max}
+use Rattle.integers.proofs.Smallest.{smallest-within}
 use Rattle.sets.specs.Sets.{others, size}
 use Rattle.sets.proofs.Sets.{size-le}
-use Rattle.smallest.proofs.Totals.{smallest-within}
 use Rattle.clusters.specs.PairList.{Similarity, score}
 use Rattle.clusters.specs.Indices.{strongValues, strongIndex, weight, pairsOf, weights, cleanIndex, separationValues, separationIndex}
 use Rattle.clusters.proofs.Strong.{of-strongValues, of-separationValues}

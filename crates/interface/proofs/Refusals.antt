@@ -1,12 +1,12 @@
 -- A table of checks. "Each number is given if and only if its line holds and none before it does."
-use mathlib.Core.Path.{_≡_, refl, sym, ap, _∙_}
+use mathlib.Core.Path.{_≡_, refl, sym, ap, _∙_, subst₂}
 use mathlib.Core.Bool.{Bool, true, false, not, cond, _&&_}
 use mathlib.Core.Logic.{_≢_, _↔_}
 use mathlib.Core.List.{List, [], _∷_, _++_}
-use Prim.Native.Nat.{ℕ, _≤_, _<_}
+use Prim.Native.Nat.{ℕ, zero, suc, _≤_, _<_}
 use native.Mathlib.Omega.{arith}
 use borrow.Author.Tests.{eqb-true, eqb-false, leb-false, ltb-false, eq-eqb, ne-eqb, not-false}
-use lib.Dec.{T, eqb, leb, ltb, leb→le}
+use lib.Dec.{T, eqb, eqb·suc-zero, leb, ltb, leb→le}
 use lib.IntN.{ℤ}
 use lib.ListN.{length, getD}
 use Rattle.lists.specs.Lists.{all}
@@ -146,3 +146,29 @@ module _ (l m : List (ℕ × Bool)) {k : ℕ} (t : T (numbered l)) (e : k ≡ fi
 
   pub first-back : {r : ℕ} → k ≡ 0 → Gives m r → Gives (l ++ m) r
   first-back z g = record { is = g .is ∙ sym (first-append l m t ∙ rw (sym e, eq-eqb k 0 z)) }
+
+-- two tables with the same front, behind which each has one check more: what the second gives, beside what the first gives
+pub record Beside (holds : Bool) (k first second : ℕ) : Type 0 where
+  pub refused : first ≢ 0 → second ≡ first
+  pub last : first ≡ 0 → holds ≡ true → second ≡ k
+  pub passed : first ≡ 0 → holds ≡ false → second ≡ 0
+
+pub beside : (l : List (ℕ × Bool)) → T (numbered l) → (j k : ℕ) (other holds : Bool) → 0 < j → firstOf (l ++ ((j, other) ∷ [])) ≢ j
+    → Beside holds k (firstOf (l ++ ((j, other) ∷ []))) (firstOf (l ++ ((k, holds) ∷ [])))
+unfolding firstOf
+beside l t j k other holds h d =
+    subst₂ (Beside holds k) (sym (first-append l ((j, other) ∷ []) t)) (sym (first-append l ((k, holds) ∷ []) t))
+    (go (firstOf l) other (λ e. d (first-append l ((j, other) ∷ []) t ∙ e)))
+  where
+    go : (front : ℕ) (other : Bool) → cond (eqb front 0) (cond other j 0) front ≢ j
+        → Beside holds k (cond (eqb front 0) (cond other j 0) front) (cond (eqb front 0) (cond holds k 0) front)
+    go zero true d = absurd (d refl)
+    go zero false d = record { refused = λ f. absurd (f refl); last = λ _ e. rw e; passed = λ _ e. rw e }
+    go (suc front) other d = record {
+      refused = λ _. rw (eqb·suc-zero front);
+      last = λ e. absurd (some e);
+      passed = λ e. absurd (some e);
+    }
+      where
+        some : cond (eqb (suc front) 0) (cond other j 0) (suc front) ≡ 0 → ⊥
+        some e = let q : suc front ≡ 0 = sym (rw (eqb·suc-zero front)) ∙ e in omega arith

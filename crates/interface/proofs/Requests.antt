@@ -3,14 +3,14 @@ use mathlib.Core.Path.{_≡_, refl, sym, ap, ap₂, _∙_, subst, subst₂}
 use mathlib.Core.Bool.{Bool, true, false, not, cond, _||_}
 use mathlib.Core.Logic.{_⊎_, inl, inr, _≢_}
 use mathlib.Core.List.{List, [], _∷_, _++_}
-use Prim.Native.Nat.{ℕ, zero, suc, _^_, _<_, _≤_}
+use Prim.Native.Nat.{ℕ, zero, _^_, _<_, _≤_}
 use native.Mathlib.Omega.{arith}
 use borrow.Author.Tests.{le-leb, lt-leb}
-use lib.Dec.{T, T-not, not-T, eqb, eqb·suc-zero, leb, le→leb, lit<}
+use lib.Dec.{T, T-not, not-T, leb, le→leb, lit<}
 use lib.IntN.{ℤ, pos}
 use lib.ListN.{length}
 use Rattle.lists.specs.Lists.{_∈_, _lists_, all}
-use Rattle.lists.proofs.Tests.{T-true, T-false, false-T, or-first, T-or-right}
+use Rattle.lists.proofs.Tests.{T-true, T-false, false-T, or-first, or-second, T-or-right}
 use Rattle.integers.specs.Integers.{eqZ}
 use Rattle.integers.proofs.Linear.{eqZ-yes}
 use Rattle.clusters.specs.PairList.{Similarity, Symmetric, score}
@@ -50,14 +50,14 @@ use Rattle.interface.specs.Refusals.{
 }
 use Rattle.interface.specs.Calls.{setsFound, sharedFound}
 use Rattle.interface.specs.Requests.{SharedAnswered, by-shared-call, by-shared-in-C, refused-in-C, SmallestFound, JudgedAfter, Request-2-1}
-use Rattle.interface.proofs.Refusals.{numbered, first-append, first-iff, passes, right-entries}
+use Rattle.interface.proofs.Refusals.{numbered, first-iff, passes, right-entries, Beside, beside}
 use Rattle.interface.proofs.Demands.{c-count, c-refused, wrote}
 
 -- 2.1: the checks that this call and the numbers call both make, for a kind that is not 3
-common : ℤ → ℕ → List ℤ → List Check
+unfoldable pub common : ℤ → ℕ → List ℤ → List Check
 common kind n l = check1 kind ∷ check6 n ∷ check10 n l ∷ check11 l ∷ check16Of kind l ∷ check12 kind n l ∷ []
 
-numbered-common : (kind : ℤ) (n : ℕ) (l : List ℤ) → T (numbered (common kind n l))
+pub numbered-common : (kind : ℤ) (n : ℕ) (l : List ℤ) → T (numbered (common kind n l))
 unfolding common all
 numbered-common kind n l = tt
 
@@ -72,45 +72,26 @@ shared-common kind n l i j d = rw (not-third, or-nothing (wrongKind kind))
     or-nothing true = refl
     or-nothing false = refl
 
-numbers-common : (kind : ℤ) (n : ℕ) (l : List ℤ) (sets indices : ℕ) → numbersChecks kind n l sets indices ≡ common kind n l ++ (check13 n sets indices ∷ [])
+pub numbers-common : (kind : ℤ) (n : ℕ) (l : List ℤ) (sets indices : ℕ) → numbersChecks kind n l sets indices ≡ common kind n l ++ (check13 n sets indices ∷ [])
 unfolding numbersChecks common
 numbers-common kind n l sets indices = refl
-
-tables : (kind : ℤ) (n : ℕ) (l : List ℤ) (i j sets indices : ℕ) → kind ≢ pos 3 → let k = firstOf (common kind n l) in
-    (numbersRefusal kind n l sets indices ≡ cond (eqb k 0) (cond (fewSlots n sets indices) 13 0) k)
-    × (sharedRefusal kind n l i j ≡ cond (eqb k 0) (cond (wrongEntries n i j) 15 0) k)
-unfolding numbersRefusal sharedRefusal firstOf
-tables kind n l i j sets indices d = (
-  ap firstOf (numbers-common kind n l sets indices) ∙ first-append (common kind n l) (check13 n sets indices ∷ []) (numbered-common kind n l),
-  ap firstOf (shared-common kind n l i j d) ∙ first-append (common kind n l) (check15 (wrongEntries n i j) ∷ []) (numbered-common kind n l),
-)
 
 third : (kind : ℤ) (n : ℕ) (l : List ℤ) (i j : ℕ) → kind ≡ pos 3 → sharedRefusal kind n l i j ≡ 1
 unfolding sharedRefusal sharedChecks firstOf wrongGroupKind wrongKind eqZ
 third kind n l i j e = ap (λ (k : ℤ). sharedRefusal k n l i j) e
 
--- the common checks give k; behind them stands 13 in the one table, 15 in the other
-judged-after : (n i j k : ℕ) (few : Bool) → cond (eqb k 0) (cond few 13 0) k ≢ 13
-    → JudgedAfter n i j (cond (eqb k 0) (cond few 13 0) k) (cond (eqb k 0) (cond (wrongEntries n i j) 15 0) k)
+-- behind the common checks stands 13 in the one table, 15 in the other
+judged-after : {n i j numbers number : ℕ} → Beside (wrongEntries n i j) 15 numbers number → JudgedAfter n i j numbers number
 unfolding wrongEntries wrongAnchor
-judged-after n i j zero true d = absurd (d refl)
-judged-after n i j zero false d = record {
-  refused = λ f. absurd (f refl);
-  past = λ _. far;
-  passed = λ _ hi hj. simp (lt-leb n i hi, lt-leb n j hj);
+judged-after {n} {i} {j} b = record {
+  refused = b .refused;
+  past = λ z p. b .last z (far p);
+  passed = λ z hi hj. b .passed z (or-second (lt-leb n i hi) (lt-leb n j hj));
 }
   where
-    far : (n ≤ i) ⊎ (n ≤ j) → _≡_ {A = ℕ} (cond (leb n i || leb n j) 15 0) 15
-    far (inl p) = rw (or-first (leb n j) (le-leb n i p))
-    far (inr p) = rw (T-true {b = leb n i || leb n j} (T-or-right (leb n i) (leb n j) (le→leb n j p)))
-judged-after n i j (suc k) few d = record {
-  refused = λ _. rw (eqb·suc-zero k);
-  past = λ e. absurd (some e);
-  passed = λ e. absurd (some e);
-}
-  where
-    some : cond (eqb (suc k) 0) (cond few 13 0) (suc k) ≡ 0 → ⊥
-    some e = let q : suc k ≡ 0 = sym (rw (eqb·suc-zero k)) ∙ e in omega arith
+    far : (n ≤ i) ⊎ (n ≤ j) → leb n i || leb n j ≡ true
+    far (inl p) = or-first (leb n j) (le-leb n i p)
+    far (inr p) = T-true {b = leb n i || leb n j} (T-or-right (leb n i) (leb n j) (le→leb n j p))
 
 -- what was answered, by the checks and by what was found
 record Answered (kind : ℤ) (n : ℕ) (l : List ℤ) (i j number set line : ℕ) : Type 0 where
@@ -245,7 +226,7 @@ unfolding sharedFound
 found-swapped kind n l i j = shared-swapped n j i (setsFound kind n l)
 
 pub request-2-1 : (kind : ℤ) → Request-2-1 kind
-unfolding sharedRefusal
+unfolding sharedRefusal numbersRefusal
 request-2-1 kind = record {
   refusal = λ {n} {l} {i} {j} c k h. let f = first-iff (sharedChecks kind n l i j) k h in let e = answered c .is-number in
       (λ q. f .0 (sym e ∙ q), λ g. e ∙ f .1 g);
@@ -258,9 +239,11 @@ request-2-1 kind = record {
   judged = λ d {n} {l} {i} {j} {number} c {lentSets} {sets} {lentIndices} {indices} {r} m room.
       let k = numbersRefusal kind n l (length lentSets) (length lentIndices) in
       let numbers : numberOf r ≡ k = ap numberOf (m .answered) ∙ number-answer k (length (groupsFound kind n l)) in
-      let (p, q) = tables kind n l i j (length lentSets) (length lentIndices) d in
-      subst₂ (JudgedAfter n i j) (sym (numbers ∙ p)) (sym (answered c .is-number ∙ q))
-      (judged-after n i j (firstOf (common kind n l)) (fewSlots n (length lentSets) (length lentIndices)) (λ e. room (numbers ∙ p ∙ e)));
+      let first = numbers ∙ ap firstOf (numbers-common kind n l (length lentSets) (length lentIndices)) in
+      let second = answered c .is-number ∙ ap firstOf (shared-common kind n l i j d) in
+      judged-after (subst₂ (Beside (wrongEntries n i j) 15) (sym first) (sym second)
+      (beside (common kind n l) (numbered-common kind n l) 13 15 (fewSlots n (length lentSets) (length lentIndices)) (wrongEntries n i j) (lit< tt)
+      (λ e. room (first ∙ e))));
   smallest = λ {n} {l} {i} {j} {set} {line} c w.
       let a = found c in
       let (e, symm) = wrote w in
