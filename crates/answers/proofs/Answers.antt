@@ -5,11 +5,13 @@ use mathlib.Core.List.{List, _++_}
 use Prim.Native.Nat.{ℕ, zero, suc, _-_, _<_}
 use native.Mathlib.Omega.{arith}
 use lib.Dec.{eqb·suc-zero}
+use lib.IntN.{ℤ, pos}
 use lib.ListN.{length, take, drop, replicate}
 use lib.Seq.{take-append-seam}
 use Rattle.answers.specs.declared.Answer.the-variants.{Count, Refused}
 use Rattle.answers.specs.Answers.{numberOf, countOf, answer, slots, filled}
 use Rattle.answers.specs.Shared.{sharedNumber, sharedSet, sharedLine, sharedAnswer}
+use Rattle.answers.specs.Weighed.{weighedNumber, weighedWeight, weighedAnswer}
 
 pub number-answer : (k c : ℕ) → numberOf (answer k c) ≡ k
 unfolding numberOf answer
@@ -73,3 +75,19 @@ module _ (A line : ℕ) where
   pub shared-found : (sharedSet (sharedAnswer 0 A line) ≡ A) × (sharedLine (sharedAnswer 0 A line) ≡ line)
   unfolding sharedSet sharedLine sharedAnswer
   shared-found = (refl, refl)
+
+-- the same of a weight
+module _ (w : ℤ) where
+  pub weighed-number : (k : ℕ) → weighedNumber (weighedAnswer k w) ≡ k
+  unfolding weighedNumber weighedAnswer
+  weighed-number zero = refl
+  weighed-number (suc k) = refl
+
+  pub weighed-nothing : (k : ℕ) → k ≢ 0 → weighedWeight (weighedAnswer k w) ≡ pos 0
+  unfolding weighedWeight weighedAnswer
+  weighed-nothing zero f = absurd (f refl)
+  weighed-nothing (suc k) f = refl
+
+  pub weighed-found : weighedWeight (weighedAnswer 0 w) ≡ w
+  unfolding weighedWeight weighedAnswer
+  weighed-found = refl

@@ -4,3 +4,4 @@ pub mod Found
 pub mod Sheets
 pub mod Small
 pub mod InC
+pub mod Weighed

@@ -8,9 +8,11 @@ ghost use Rattle.clusters.specs.Linkage.{single, average};
 ghost use Rattle.answers.specs.Answers.{numberOf, countOf};
 ghost use Rattle.interface.specs.Calls.{SheetCall, cNumber, InC, CCall, NumbersCall, LinkageCall};
 ghost use Rattle.interface.specs.Calls.{AnchoredCall, BackCall, ReaderCall, NameInC, ScoreInC, SharedInC, PoolCall};
+ghost use Rattle.interface.specs.Calls.{WeightInC};
 ghost use Rattle.farzhudyl.specs.Pairs.{PairsListed};
 use answers::Answer;
 use answers::Shared;
+use answers::Weighed;
 
 // The listing of a pair list, or the first of checks 11, 16, 12 and 14 that refuses.
 fn list_pairs(kind: i32, n: usize, pairs: &[i32], out: &mut [u8]) -> Answer
@@ -220,4 +222,27 @@ pub extern "C" fn farzhudyl_pool(first: &[u8], second: &[u8], out: &mut [u8]) ->
         (now (out .entry)) a (now (out .exit))) r ⌝ }
 {
     as_number(pooling::pool(first, second, out))
+}
+
+// A weight may be negative, so it goes to a slot, on refusal 0; 0 is answered, or the refusal's number.
+#[no_mangle]
+pub extern "C" fn farzhudyl_refined_weight(
+    n: usize,
+    pairs: &[i32],
+    side: u32,
+    weight: &mut i64,
+) -> i32
+    ensures { λ r. ⌜ WeightInC n (now (pairs .entry)) side r (now (weight .exit)) ⌝ }
+{
+    let answer = refined::refined_weight(n, pairs, side);
+    match answer {
+        Weighed::Weight(found) => {
+            *weight = found;
+            0
+        }
+        Weighed::Refused(number) => {
+            *weight = 0;
+            as_i32(number)
+        }
+    }
 }

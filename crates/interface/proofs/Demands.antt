@@ -166,12 +166,12 @@ demand-1 kind sheet lent r after c =
     }
 
 -- bytes that either call listed are the sheet's listing, and no check refused
-record Accepted (kind : ℤ) (sheet bytes : List ℕ) : Type 0 where
-  buffer : ℕ
-  passed : sheetRefusal kind sheet buffer ≡ 0
-  are : bytes ≡ sheetListing kind sheet
+pub record Accepted (kind : ℤ) (sheet bytes : List ℕ) : Type 0 where
+  pub buffer : ℕ
+  pub passed : sheetRefusal kind sheet buffer ≡ 0
+  pub are : bytes ≡ sheetListing kind sheet
 
-accepted : {kind : ℤ} {sheet bytes : List ℕ} → Listed kind sheet bytes → Accepted kind sheet bytes
+pub accepted : {kind : ℤ} {sheet bytes : List ℕ} → Listed kind sheet bytes → Accepted kind sheet bytes
 accepted {kind} {sheet} (by-C-call {lent} {after} {r} c count e) =
     let k = sheetRefusal kind sheet (length lent) in
     let text = sheetListing kind sheet in

@@ -20,3 +20,4 @@ pub mod Places
 pub mod Pool
 pub mod SharedExample
 pub mod PoolExample
+pub mod Weighed

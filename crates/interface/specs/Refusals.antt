@@ -322,14 +322,7 @@ poolChecks first second buffer = sheetChecks first ++ (sheetChecks second ++ bot
 
 -- of the refined weight of a split: "after 6, 10, 11, 16 and 12, judged as kind 3", 19 (document 02, 2.5)
 unfoldable pub weightChecks : ℕ → List ℤ → (side : ℕ) → List Check
-weightChecks n l A =
-    check6 n
-    ∷ check10 n l
-    ∷ check11 l
-    ∷ check16 l
-    ∷ check12 (pos 3) n l
-    ∷ check19 n A
-    ∷ []
+weightChecks n l A = check6 n ∷ check10 n l ∷ check11 l ∷ check16 l ∷ check12 (pos 3) n l ∷ check19 n A ∷ []
 
 -- the number of the refusal that each call gives, 0 if none
 unfoldable pub sheetRefusal : ℤ → List ℕ → (buffer : ℕ) → ℕ

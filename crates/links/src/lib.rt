@@ -20,7 +20,7 @@ ghost use Rattle.links.specs.Table.{
   FoundBefore,
 };
 
-fn get(t: &[i64; 1024], a: usize, b: usize) -> i64
+pub fn get(t: &[i64; 1024], a: usize, b: usize) -> i64
     requires { ⌜ (a < 32) × (b < 32) ⌝ }
     ensures { λ r. ⌜ r ≡ entry (now (t .entry)) a b ⌝ }
 {

@@ -1,5 +1,5 @@
 -- Subsets by their sizes; the set without entries and the set of all; sets that share no entry.
-use mathlib.Core.Path.{_≡_, refl, ap, _∙_, subst}
+use mathlib.Core.Path.{_≡_, refl, sym, ap, _∙_, subst}
 use mathlib.Core.Bool.{true}
 use mathlib.Core.Logic.{_⊎_, inl, inr, _≢_, _↔_}
 use Prim.Native.Nat.{ℕ, zero, suc, _+_, _-_, _/_, _%_, _^_, _≤_, _<_, min}
@@ -9,7 +9,7 @@ use native.Mathlib.Omega.{arith}
 use lib.Bits.{bitAnd, and-step, and-shr, and-le-l}
 use lib.Pow.{ones-split, ones-lt, high}
 use Rattle.sets.specs.Sets.{_∋_, _∌_, size, mask, allEntries, Subset, Disjoint}
-use Rattle.sets.proofs.Sets.{in-or-out, same, size-suc, size-le, left-out, mask-lt, in-mask}
+use Rattle.sets.proofs.Sets.{in-or-out, clash, at-suc, same, size-suc, size-le, member-size, left-out, mask-lt, in-mask}
 
 -- the same of one entry less
 fewer : {n A B : ℕ} → Subset (suc n) A B → Subset n A B
@@ -94,3 +94,31 @@ disjoint-and n A B h = (
     at : (i : ℕ) → (A ∋ i) ⊎ (A ∌ i) → (A ∋ i → B ∌ i) → bitAnd A B / 2 ^ i % 2 ≡ 0 / 2 ^ i % 2
     at i (inl k) f = omega (arith, and-bit A B i, f k .bit, zero i)
     at i (inr k) f = omega (arith, and-bit A B i, zero i)
+
+-- a number below 2 ^ n is a set of the n entries, and only such a one
+bound : (n : ℕ) → n < 2 ^ n
+bound zero = omega arith
+bound (suc n) = omega (arith, bound n)
+
+pub fits-members : (n A : ℕ) → A < 2 ^ n → (i : ℕ) → A ∋ i → i < n
+fits-members zero A h i k = let none : A ≡ 0 = omega arith in clash k (subst (λ (A : ℕ). A ∌ i) (sym none) (empty-out i))
+fits-members (suc n) A h zero k = omega arith
+fits-members (suc n) A h (suc i) k = let l = fits-members n (A / 2) (omega arith) i (record { bit = sym (at-suc A i) ∙ k .bit }) in omega arith
+
+pub members-fit : (n A : ℕ) → ((i : ℕ) → A ∋ i → i < n) → A < 2 ^ n
+members-fit zero A f = go (ℕ-discrete 0 A)
+  where
+    go : Dec (0 ≡ A) → A < 2 ^ 0
+    go (yes e) = omega arith
+    go (no d) = let (i, _, k, _) = left-out A A 0 (bound A) (omega (arith, bound A)) d (record { all = λ i h m. clash m (empty-out i) }) in absurd (omega (arith, f i k))
+members-fit (suc n) A f =
+    let h = members-fit n (A / 2) (λ i k. let l = f (suc i) (record { bit = at-suc A i ∙ k .bit }) in omega arith) in omega arith
+
+-- two members
+pub two-size : (n A : ℕ) {i j : ℕ} → i < n → j < i → A ∋ i → A ∋ j → 2 ≤ size n A
+two-size zero A h l ki kj = absurd (omega arith)
+two-size (suc n) A {i} {j} h l ki kj = go (ℕ-discrete i n) (λ h. two-size n A {i = i} {j = j} h)
+  where
+    go : Dec (i ≡ n) → (i < n → j < i → A ∋ i → A ∋ j → 2 ≤ size n A) → 2 ≤ size (suc n) A
+    go (yes e) ih = let k = subst (λ (i : ℕ). A ∋ i) e ki in omega (arith, size-suc n A, member-size n A {i = j} (omega arith) kj, k .bit)
+    go (no d) ih = omega (arith, size-suc n A, ih (omega arith) l ki kj)

@@ -1,0 +1,241 @@
+-- 2.5, the refined weight of a split, from the outcomes of the call and the theorems about quartets.
+use mathlib.Core.Path.{_≡_, refl, sym, ap, ap₂, _∙_, subst, subst₂}
+use mathlib.Core.Bool.{Bool, true, false, not, _||_}
+use mathlib.Core.List.{List, [], _∷_, _++_}
+use Prim.Native.Nat.{ℕ, _+_, _-_, _^_, _<_, _≤_}
+use native.Mathlib.Omega.{arith}
+use borrow.Author.Tests.{lt-leb, le-ltb, ltb-false, leb-false, eq-eqb}
+use lib.Dec.{leb, ltb, lit<}
+use lib.IntN.{ℤ, pos, _*ℤ_}
+use lib.Signed.{_≤ℤ_}
+use lib.ListN.{length}
+use Rattle.lists.specs.Lists.{_lists_, all}
+use Rattle.lists.proofs.Lists.{length-some}
+use Rattle.lists.proofs.Tests.{T-false, or-none, or-second, cond-elim}
+use Rattle.integers.specs.Integers.{eqZ, sumOf}
+use Rattle.sets.specs.Sets.{has, size, complement}
+use Rattle.sets.proofs.Sets.{in-complement, size-complement, complement-lt}
+use Rattle.sets.proofs.Subsets.{fits-members, members-fit, two-size}
+use Rattle.clusters.specs.PairList.{score, rowStart, hasLength, scoresInRange, hasUnscored}
+use Rattle.clusters.specs.Groups.{splits, kindOf, index, listed, groups, writtenSet}
+use Rattle.clusters.specs.Refined.{quartets, doubledScore, refinedWeight}
+use Rattle.clusters.proofs.PairList.{score-symm, length-pairList}
+use Rattle.clusters.proofs.Groups.{in-groups}
+use Rattle.clusters.proofs.Quartets.{in-quartets, quartets-many}
+use Rattle.clusters.proofs.Crossing.{refined-never-cross}
+use Rattle.clusters.proofs.Refined.{refined-ge, split-refined, refined-either-side, refined-image, refined-least, refined-attained}
+use Rattle.answers.specs.Answers.{numberOf}
+use Rattle.answers.specs.Weighed.{weighedNumber, weighedWeight, weighedAnswer}
+use Rattle.answers.proofs.Answers.{number-answer, weighed-number, weighed-nothing, weighed-found}
+use Rattle.interface.specs.Sheet.{entries, value, pairs}
+use Rattle.interface.specs.Listing.{groupsFound}
+use Rattle.interface.specs.Refusals.{
+  firstOf,
+  wrongKind,
+  wrongCount,
+  wrongUnscored,
+  wrongSide,
+  fewSlots,
+  check12,
+  check19,
+  numbersRefusal,
+  sheetCallChecks,
+  sheetRefusal,
+  weightChecks,
+  weightRefusal,
+}
+use Rattle.interface.specs.Requests.{SideWeighed, by-weight-call, by-weight-in-C, TwoSides, WeighedAfter, Request-2-5}
+use Rattle.interface.proofs.Refusals.{gives, first-no, no-more, first-iff, passes, Beside, beside}
+use Rattle.interface.proofs.Demands.{wrote, accepted}
+use Rattle.interface.proofs.Requests.{common, numbered-common, numbers-common}
+
+-- what was answered, by the checks and the definition
+record Answered (n : ℕ) (l : List ℤ) (A number : ℕ) (w : ℤ) : Type 0 where
+  is-number : number ≡ weightRefusal n l A
+  is-weight : w ≡ weighedWeight (weighedAnswer (weightRefusal n l A) (refinedWeight n (score l) A))
+
+pos-equal : {j k : ℕ} → pos j ≡ pos k → j ≡ k
+pos-equal e = cc
+
+answered : {n : ℕ} {l : List ℤ} {A number : ℕ} {w : ℤ} → SideWeighed n l A number w → Answered n l A number w
+answered {n} {l} {A} (by-weight-call c) = record {
+  is-number = ap weighedNumber (c .answered) ∙ weighed-number (refinedWeight n (score l) A) (weightRefusal n l A);
+  is-weight = ap weighedWeight (c .answered);
+}
+answered {n} {l} {A} (by-weight-in-C c number e) =
+    let q = c .outcome .answered in
+    record {
+      is-number = pos-equal (sym e ∙ c .answered) ∙ ap weighedNumber q ∙ weighed-number (refinedWeight n (score l) A) (weightRefusal n l A);
+      is-weight = c .written ∙ ap weighedWeight q;
+    }
+
+-- what 19 leaves: two entries or more on each side, and no other
+pub record Sides (n A : ℕ) : Type 0 where
+  pub fits : A < 2 ^ n
+  pub two : 2 ≤ size n A
+  pub rest : size n A + 2 ≤ n
+
+pub sides : {n A : ℕ} → wrongSide n A ≡ false → Sides n A
+unfolding wrongSide
+sides {n} {A} e =
+    let (e₁, high) = or-none (ltb (size n A) 2 || ltb (size n (complement n A)) 2) (leb (2 ^ n) A) e in
+    let (one, other) = or-none (ltb (size n A) 2) (ltb (size n (complement n A)) 2) e₁ in
+    let few = ltb-false (size n (complement n A)) 2 other in
+    record {
+      fits = leb-false (2 ^ n) A high;
+      two = ltb-false (size n A) 2 one;
+      rest = omega (arith, few, size-complement n A);
+    }
+
+right-side : {n A : ℕ} → Sides n A → wrongSide n A ≡ false
+unfolding wrongSide
+right-side {n} {A} s =
+    or-second (or-second (le-ltb (size n A) 2 (s .two)) (le-ltb (size n (complement n A)) 2 (omega (arith, s .rest, size-complement n A))))
+    (lt-leb (2 ^ n) A (s .fits))
+
+-- as the request says it
+two-sides : {n A : ℕ} → Sides n A → TwoSides n A
+two-sides {n} {A} s =
+    let (q, m) = length-some (quartets n A) (omega (arith, quartets-many n A (s .two) (s .rest), s .two, s .rest)) in
+    record { members = fits-members n A (s .fits); some = q; across = in-quartets n A q .0 m }
+
+of-two-sides : {n A : ℕ} → TwoSides n A → Sides n A
+of-two-sides {n} {A} t =
+    let (ha, la, ka, ka′) = t .across .one-side in
+    let (hb, lb, kb, kb′) = t .across .other-side in
+    let others = two-size n (complement n A) hb lb (in-complement n A hb kb) (in-complement n A (omega arith) kb′) in
+    record { fits = members-fit n A (t .members); two = two-size n A ha la ka ka′; rest = omega (arith, others, size-complement n A) }
+
+-- behind the checks that the numbers call makes for kind 3, 13 stands in its table, 19 here
+weight-common : (n : ℕ) (l : List ℤ) (A : ℕ) → weightRefusal n l A ≡ firstOf (common (pos 3) n l ++ (check19 n A ∷ []))
+unfolding weightRefusal weightChecks common firstOf wrongKind wrongUnscored eqZ
+weight-common n l A = refl
+
+weighed-after : {n A numbers number : ℕ} → Beside (wrongSide n A) 19 numbers number → WeighedAfter n A numbers number
+weighed-after {n} {A} b = record {
+  refused = b .refused;
+  wrong-side = λ z f. b .last z (wrong (wrongSide n A) refl f);
+  passed = λ z t. b .passed z (right-side (of-two-sides t));
+}
+  where
+    wrong : (c : Bool) → wrongSide n A ≡ c → (TwoSides n A → ⊥) → wrongSide n A ≡ true
+    wrong true e f = e
+    wrong false e f = absurd (f (two-sides (sides e)))
+
+-- the checks of a sheet that is listed are those of its pair list
+sheet-left : (sheet : List ℕ) (buffer : ℕ) (A : ℕ) → sheetRefusal (pos 3) sheet buffer ≡ 0 → wrongSide (entries sheet) A ≡ false
+    → weightRefusal (entries sheet) (pairs sheet) A ≡ 0
+unfolding sheetRefusal sheetCallChecks weightRefusal weightChecks all pairs hasLength wrongUnscored eqZ
+sheet-left sheet buffer A e right =
+    let checks = sheetCallChecks (pos 3) sheet buffer in
+    let n = entries sheet in
+    sym (gives (first-no (T-false {b = wrongCount n} (passes checks tt e 5 (lit< tt)))
+    (first-no (ap not (eq-eqb (length (pairs sheet)) (rowStart n) (length-pairList n (value sheet))))
+    (first-no (T-false {b = not (scoresInRange (pairs sheet))} (passes checks tt e 9 (lit< tt)))
+    (first-no (T-false {b = hasUnscored (pairs sheet)} (passes checks tt e 10 (lit< tt)))
+    (first-no (T-false {b = check12 (pos 3) n (pairs sheet) .1} (passes checks tt e 11 (lit< tt)))
+    (first-no right no-more)))))))
+
+-- an answer that is no refusal
+record Found (n : ℕ) (l : List ℤ) (A : ℕ) (w : ℤ) : Type 0 where
+  of-sides : Sides n A
+  weight : w ≡ refinedWeight n (score l) A
+
+found : {n : ℕ} {l : List ℤ} {A : ℕ} {w : ℤ} → SideWeighed n l A 0 w → Found n l A w
+unfolding weightRefusal weightChecks all
+found {n} {l} {A} c =
+    let a = answered c in
+    let zero : weightRefusal n l A ≡ 0 = sym (a .is-number) in
+    record {
+      of-sides = sides (T-false {b = wrongSide n A} (passes (weightChecks n l A) tt zero 5 (lit< tt)));
+      weight = a .is-weight ∙ ap (λ (k : ℕ). weighedWeight (weighedAnswer k (refinedWeight n (score l) A))) zero ∙ weighed-found (refinedWeight n (score l) A);
+    }
+
+-- the other side
+other-side : {n A : ℕ} → Sides n A → Sides n (complement n A)
+other-side {n} {A} s = record {
+  fits = complement-lt n A;
+  two = omega (arith, s .rest, size-complement n A);
+  rest = omega (arith, s .two, size-complement n A);
+}
+
+back : {n A : ℕ} → A < 2 ^ n → Sides n (complement n A) → Sides n A
+back {n} {A} h s = record {
+  fits = h;
+  two = omega (arith, s .rest, size-complement n A);
+  rest = omega (arith, s .two, size-complement n A);
+}
+
+wrong-other : (n A : ℕ) → A < 2 ^ n → wrongSide n (complement n A) ≡ wrongSide n A
+wrong-other n A h = go (wrongSide n (complement n A)) (wrongSide n A) refl refl
+  where
+    go : (b c : Bool) → wrongSide n (complement n A) ≡ b → wrongSide n A ≡ c → b ≡ c
+    go true true e f = refl
+    go false false e f = refl
+    go true false e f = sym e ∙ right-side (other-side (sides f))
+    go false true e f = sym (right-side (back h (sides e))) ∙ f
+
+refusal-other : (n : ℕ) (l : List ℤ) (A : ℕ) → A < 2 ^ n → weightRefusal n l (complement n A) ≡ weightRefusal n l A
+unfolding weightRefusal weightChecks
+refusal-other n l A h = rw (wrong-other n A h)
+
+-- a line of kind 3: the weight of the side that is written
+module _ (n : ℕ) (l : List ℤ) (A : ℕ) where
+  written-weight : refinedWeight n (score l) (writtenSet splits n A) ≡ refinedWeight n (score l) A
+  unfolding writtenSet
+  written-weight = cond-elim (has A 0) (complement n A) A (λ (B : ℕ). refinedWeight n (score l) B ≡ refinedWeight n (score l) A)
+      (λ _. refined-either-side n (score l) (score-symm l) A) (λ _. refl)
+
+  written-sides : Sides n A → Sides n (writtenSet splits n A)
+  unfolding writtenSet
+  written-sides s = cond-elim (has A 0) (complement n A) A (Sides n) (λ _. other-side s) (λ _. s)
+
+  line-weight : Sides n A → (z : ℤ) → groups splits n (score l) lists (writtenSet splits n A, z)
+      → ((pos (n - 3) *ℤ z) ≤ℤ refinedWeight n (score l) A) × (pos 1 ≤ℤ refinedWeight n (score l) A)
+  unfolding index
+  line-weight s z m =
+      let B = writtenSet splits n A in
+      let (h, t, e) = in-groups splits n (score l) B z .0 m in
+      let b = written-sides s in
+      subst (λ w. ((pos (n - 3) *ℤ z) ≤ℤ w) × (pos 1 ≤ℤ w)) written-weight (
+        subst (λ z. (pos (n - 3) *ℤ z) ≤ℤ refinedWeight n (score l) B) (sym e) (refined-ge n (score l) B (b .two) (b .rest) (score-symm l)),
+        split-refined n (score l) B (b .two) (b .rest) (score-symm l) t,
+      )
+
+pub request-2-5 : Request-2-5
+unfolding weightRefusal numbersRefusal kindOf eqZ
+request-2-5 = record {
+  refusal = λ {n} {l} {A} c k h. let f = first-iff (weightChecks n l A) k h in let e = answered c .is-number in
+      (λ q. f .0 (sym e ∙ q), λ g. e ∙ f .1 g);
+  refused = λ {n} {l} {A} c d. let a = answered c in
+      a .is-weight ∙ weighed-nothing (refinedWeight n (score l) A) (weightRefusal n l A) (λ z. d (a .is-number ∙ z));
+  judged = λ {n} {l} {A} c {lentSets} {sets} {lentIndices} {indices} {r} m room.
+      let k = numbersRefusal (pos 3) n l (length lentSets) (length lentIndices) in
+      let numbers : numberOf r ≡ k = ap numberOf (m .answered) ∙ number-answer k (length (groupsFound (pos 3) n l)) in
+      let first = numbers ∙ ap firstOf (numbers-common (pos 3) n l (length lentSets) (length lentIndices)) in
+      let second = answered c .is-number ∙ weight-common n l A in
+      weighed-after (subst₂ (Beside (wrongSide n A) 19) (sym first) (sym second)
+      (beside (common (pos 3) n l) (numbered-common (pos 3) n l) 13 19 (fewSlots n (length lentSets) (length lentIndices)) (wrongSide n A) (lit< tt)
+      (λ e. room (first ∙ e))));
+  of-sheet = λ {sheet} l {A} c t. let a = accepted l in
+      answered c .is-number ∙ sheet-left sheet (a .buffer) A (a .passed) (right-side (of-two-sides t));
+  smallest = λ {n} {l} {A} c qs chosen. let f = found c in
+      subst (λ w. w ≤ℤ sumOf qs (doubledScore (score l))) (sym (f .weight)) (refined-least n (score l) A qs chosen);
+  attained = λ {n} {l} {A} c. let f = found c in
+      let (qs, chosen, e) = refined-attained n (score l) A (f .of-sides .two) (f .of-sides .rest) in
+      (qs, chosen, f .weight ∙ e);
+  either-side = λ {n} {l} {A} h c c′.
+      let a = answered c in
+      let a′ = answered c′ in
+      let k = refusal-other n l A h in (
+        a′ .is-number ∙ k ∙ sym (a .is-number),
+        a′ .is-weight ∙ ap₂ (λ (k : ℕ) w. weighedWeight (weighedAnswer k w)) k (refined-either-side n (score l) (score-symm l) A) ∙ sym (a .is-weight),
+      );
+  reordered = λ {n} {l} {l′} {A} p c c′ r.
+      found c′ .weight ∙ refined-image n p (score l) (score l′) r (score-symm l) (score-symm l′) A ∙ sym (found c .weight);
+  never-cross = λ {n} {l} {A} {C} c c′ h h′.
+      refined-never-cross n (score l) (score-symm l) A C (subst (λ w. pos 1 ≤ℤ w) (found c .weight) h) (subst (λ w. pos 1 ≤ℤ w) (found c′ .weight) h′);
+  of-line = λ {n} {l} {A} {w} c {found = written} wr z m. let f = found c in
+      subst (λ w. ((pos (n - 3) *ℤ z) ≤ℤ w) × (pos 1 ≤ℤ w)) (sym (f .weight))
+      (line-weight n l A (f .of-sides) z (subst (λ (g : List (ℕ × ℤ)). g lists (writtenSet splits n A, z)) (wrote wr .0) m));
+}

@@ -1,0 +1,55 @@
+use mathlib.Core.Path.{refl, sym, ap, _∙_, subst}
+use Prim.Native.Nat.{_-_, _^_}
+use native.Mathlib.Omega.{arith}
+use borrow.Author.Needs.{needs}
+use mir.Syntax.{w64}
+use Rattle.integers.specs.Integers.{sum}
+use Rattle.integers.specs.Range.{Bounded}
+use Rattle.integers.proofs.Held.{passed}
+use Rattle.smallest.proofs.Tops.{tops-sorted}
+use Rattle.refined.proofs.Weight.{kept-within, kept-weight, filled-table}
+use Rattle.refined.proofs.weight_of.Statement.{statement}
+use Rattle.refined.proofs.weight_of.Tie as tie
+
+-- the sum of what is kept is the weight
+returns : tie.Need-returns
+returns c = let r = c .before .before .before in
+    let f = r .before .before .before in
+    let g = f .before .before in
+    passed w64 (c .total .ok)
+    (c .total .ensures ∙ ap sum (r .keep-all .ensures) ∙ kept-weight (g .args .pairs .now) (f .fill .ensures .0) _ (g .pre .2) _ (g .pre .0) (g .pre .3) (g .pre .4) refl)
+
+sub-k : tie.Need-sub-k
+sub-k c = search needs
+
+fill-requires : tie.Need-fill-requires
+fill-requires c κs = (c .before .pre .0, c .before .pre .1, refl)
+
+slice-aggregate-keep-all : tie.Need-slice-aggregate-keep-all
+slice-aggregate-keep-all c = search needs
+
+keep-all-requires : tie.Need-keep-all-requires
+keep-all-requires c κs = let f = c .before .before in
+    let g = f .before .before in
+    (filled-table (g .pre .0) (g .pre .2) (f .fill .ensures .0) (f .fill .ensures .1), omega arith, search (tops-sorted, needs))
+
+slice-aggregate-total : tie.Need-slice-aggregate-total
+slice-aggregate-total c = search needs
+
+total-requires : tie.Need-total-requires
+total-requires c κs = let r = c .before .before in
+    let f = r .before .before .before in
+    let g = f .before .before in
+    (omega arith, omega (arith, r .keep-all .kept .0), subst (Bounded (2 ^ 30)) (sym (r .keep-all .ensures)) (kept-within (g .args .pairs .now) (f .fill .ensures .0) _ (g .pre .2) _))
+
+pub weight-of-spec : {M : Type 1} → statement M
+weight-of-spec =
+    tie.close
+    (tie.spec
+    sub-k
+    fill-requires
+    slice-aggregate-keep-all
+    keep-all-requires
+    slice-aggregate-total
+    total-requires
+    returns)

@@ -1,0 +1,150 @@
+// The refined weight of a split (document 02, 2.5).
+ghost use mathlib.Core.Path.{_≡_};
+ghost use Prim.Native.Nat.{_+_, _^_, _<_, _≤_};
+ghost use lib.ListN.{length, take};
+ghost use Rattle.integers.specs.Integers.{Sorted};
+ghost use Rattle.integers.specs.Range.{Bounded};
+ghost use Rattle.sets.specs.Sets.{size};
+ghost use Rattle.clusters.specs.PairList.{rowStart, score};
+ghost use Rattle.clusters.specs.Refined.{quartet, doubledScore, refinedWeight};
+ghost use Rattle.interface.specs.Refusals.{wrongSide, weightRefusal};
+ghost use Rattle.interface.specs.Calls.{WeightCall};
+ghost use Rattle.links.specs.Table.{entry};
+ghost use Rattle.refined.specs.Kept.{Distances, keepBeside, keepAcross, keepBefore, keepAll};
+use answers::Weighed;
+
+// Beyond every doubled score.
+const BEYOND: i64 = 1073741824;
+
+// Check 19: a member numbered n or more, or fewer than two entries on either side.
+fn is_wrong_side(n: usize, side: u32) -> bool
+    requires { ⌜ (1 ≤ n) × (n ≤ 32) ⌝ }
+    ensures { λ r. ⌜ r ≡ wrongSide n side ⌝ }
+{
+    if sets::all_entries(n) < side {
+        return true;
+    }
+    let members = sets::size(side);
+    (members < 2) | (n < members + 2)
+}
+
+// The first number of the call's table whose condition holds, 0 if none does.
+fn weight_refusal(n: usize, pairs: &[i32], side: u32) -> usize
+    ensures { λ r. ⌜ r ≡ weightRefusal n (now (pairs .entry)) side ⌝ }
+{
+    let refused = matrix::distances_refusal(n, pairs);
+    if refused != 0 {
+        return refused;
+    }
+    if is_wrong_side(n, side) {
+        return 19;
+    }
+    0
+}
+
+// The doubled score of the quartet of a and a2 on one side, b and b2 on the other, by a table of the distances.
+fn doubled_score(t: &[i64; 1024], n: usize, a: usize, a2: usize, b: usize, b2: usize) -> i64
+    requires { ⌜ Distances n (now t) × (a < n) × (a2 < n) × (b < n) × (b2 < n) ⌝ }
+    ensures { λ r. ⌜ r ≡ doubledScore (entry (now (t .entry))) (quartet (a, a2) (b, b2)) ⌝ }
+{
+    let straight = integers::sum(links::get(t, a, b), links::get(t, a2, b2));
+    let crossed = integers::sum(links::get(t, a, b2), links::get(t, a2, b));
+    let within = integers::sum(links::get(t, a, a2), links::get(t, b, b2));
+    integers::difference(integers::smaller(straight, crossed), within)
+}
+
+// Keeps the k smallest, with the doubled scores of the quartets of a, a2, b and each entry outside the side before b.
+fn keep_beside(
+    kept: &mut [i64],
+    k: usize,
+    t: &[i64; 1024],
+    n: usize,
+    side: u32,
+    a: usize,
+    a2: usize,
+    b: usize,
+)
+    requires { ⌜ Distances n (now t) × (a < n) × (a2 < n) × (b < n)
+        × (k < length (now kept)) × Sorted (take k (now kept)) ⌝ }
+    ensures { λ _. ⌜ take k (now (kept .exit)) ≡
+        keepBeside (entry (now (t .entry))) side k a a2 b (take k (now (kept .entry))) ⌝ }
+{
+    for b2 in 0..b {
+        if !sets::has(side, b2) {
+            smallest::keep_smallest(kept, k, doubled_score(t, n, a, a2, b, b2));
+        }
+    }
+}
+
+// The same for each b outside the side.
+fn keep_across(
+    kept: &mut [i64],
+    k: usize,
+    t: &[i64; 1024],
+    n: usize,
+    side: u32,
+    a: usize,
+    a2: usize,
+)
+    requires { ⌜ Distances n (now t) × (a < n) × (a2 < n)
+        × (k < length (now kept)) × Sorted (take k (now kept)) ⌝ }
+    ensures { λ _. ⌜ take k (now (kept .exit)) ≡
+        keepAcross (entry (now (t .entry))) n side k a a2 (take k (now (kept .entry))) ⌝ }
+{
+    for b in 0..n {
+        if !sets::has(side, b) {
+            keep_beside(kept, k, t, n, side, a, a2, b);
+        }
+    }
+}
+
+// The same for each a2 of the side before a.
+fn keep_before(kept: &mut [i64], k: usize, t: &[i64; 1024], n: usize, side: u32, a: usize)
+    requires { ⌜ Distances n (now t) × (a < n) × (k < length (now kept)) × Sorted (take k (now kept)) ⌝ }
+    ensures { λ _. ⌜ take k (now (kept .exit)) ≡
+        keepBefore (entry (now (t .entry))) n side k a (take k (now (kept .entry))) ⌝ }
+{
+    for a2 in 0..a {
+        if sets::has(side, a2) {
+            keep_across(kept, k, t, n, side, a, a2);
+        }
+    }
+}
+
+// The same for each a of the side.
+fn keep_all(kept: &mut [i64], k: usize, t: &[i64; 1024], n: usize, side: u32)
+    requires { ⌜ Distances n (now t) × (k < length (now kept)) × Sorted (take k (now kept)) ⌝ }
+    ensures { λ _. ⌜ take k (now (kept .exit)) ≡
+        keepAll (entry (now (t .entry))) n side k (take k (now (kept .entry))) ⌝ }
+{
+    for a in 0..n {
+        if sets::has(side, a) {
+            keep_before(kept, k, t, n, side, a);
+        }
+    }
+}
+
+// The weight of a split with two entries or more on each side.
+fn weight_of(n: usize, pairs: &[i32], side: u32) -> i64
+    requires { ⌜ (n ≤ 32) × (length (now pairs) ≡ rowStart n) × Bounded (2 ^ 22) (now pairs)
+        × (2 ≤ size n side) × (size n side + 2 ≤ n) ⌝ }
+    ensures { λ r. ⌜ r ≡ refinedWeight n (score (now (pairs .entry))) side ⌝ }
+{
+    let k = n - 3;
+    let mut table = [0i64; 1024];
+    links::fill(pairs, n, &mut table);
+    let mut kept = [BEYOND; 32];
+    keep_all(&mut kept, k, &table, n, side);
+    smallest::total(&kept, k)
+}
+
+// The call.
+pub fn refined_weight(n: usize, pairs: &[i32], side: u32) -> Weighed
+    ensures { λ r. ⌜ WeightCall n (now (pairs .entry)) side r ⌝ }
+{
+    let refusal = weight_refusal(n, pairs, side);
+    if refusal != 0 {
+        return Weighed::Refused(refusal);
+    }
+    Weighed::Weight(weight_of(n, pairs, side))
+}
