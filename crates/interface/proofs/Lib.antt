@@ -21,3 +21,4 @@ pub mod Pool
 pub mod SharedExample
 pub mod PoolExample
 pub mod Weighed
+pub mod WeightExample

@@ -59,13 +59,13 @@ pos-equal e = cc
 
 answered : {n : ℕ} {l : List ℤ} {A number : ℕ} {w : ℤ} → SideWeighed n l A number w → Answered n l A number w
 answered {n} {l} {A} (by-weight-call c) = record {
-  is-number = ap weighedNumber (c .answered) ∙ weighed-number (refinedWeight n (score l) A) (weightRefusal n l A);
+  is-number = ap weighedNumber (c .answered) ∙ weighed-number _ (weightRefusal n l A);
   is-weight = ap weighedWeight (c .answered);
 }
 answered {n} {l} {A} (by-weight-in-C c number e) =
     let q = c .outcome .answered in
     record {
-      is-number = pos-equal (sym e ∙ c .answered) ∙ ap weighedNumber q ∙ weighed-number (refinedWeight n (score l) A) (weightRefusal n l A);
+      is-number = pos-equal (sym e ∙ c .answered) ∙ ap weighedNumber q ∙ weighed-number _ (weightRefusal n l A);
       is-weight = c .written ∙ ap weighedWeight q;
     }
 
