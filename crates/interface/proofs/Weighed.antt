@@ -1,18 +1,21 @@
 -- 2.5, the refined weight of a split, from the outcomes of the call and the theorems about quartets.
 use mathlib.Core.Path.{_≡_, refl, sym, ap, ap₂, _∙_, subst, subst₂}
 use mathlib.Core.Bool.{Bool, true, false, not, _||_}
+use mathlib.Core.Logic.{_⊎_}
 use mathlib.Core.List.{List, [], _∷_, _++_}
 use Prim.Native.Nat.{ℕ, _+_, _-_, _^_, _<_, _≤_}
 use native.Mathlib.Omega.{arith}
 use borrow.Author.Tests.{lt-leb, le-ltb, ltb-false, leb-false, eq-eqb}
 use lib.Dec.{leb, ltb, lit<}
-use lib.IntN.{ℤ, pos, _*ℤ_}
+use lib.IntN.{ℤ, pos, _+ℤ_, _-ℤ_, _*ℤ_}
 use lib.Signed.{_≤ℤ_}
 use lib.ListN.{length}
 use Rattle.lists.specs.Lists.{_lists_, all}
 use Rattle.lists.proofs.Lists.{length-some}
 use Rattle.lists.proofs.Tests.{T-false, or-none, or-second, cond-elim}
-use Rattle.integers.specs.Integers.{eqZ, sumOf}
+use Rattle.integers.specs.Integers.{eqZ, minZ, sumOf}
+use Rattle.integers.proofs.Linear.{zarith, +at, -at}
+use Rattle.integers.proofs.Least.{min-left, min-right, min-is}
 use Rattle.sets.specs.Sets.{has, size, complement}
 use Rattle.sets.proofs.Sets.{in-complement, size-complement, complement-lt}
 use Rattle.sets.proofs.Subsets.{fits-members, members-fit, two-size}
@@ -202,8 +205,15 @@ module _ (n : ℕ) (l : List ℤ) (A : ℕ) where
         split-refined n (score l) B (b .two) (b .rest) (score-symm l) t,
       )
 
+-- a difference, together with what was taken away
+back-again : (m w : ℤ) → m -ℤ w +ℤ w ≡ m
+back-again m w = omega (zarith, -at m w, +at (m -ℤ w) w)
+
+smaller-of : (u v w : ℤ) → let s = minZ u v -ℤ w +ℤ w in (s ≤ℤ u) × (s ≤ℤ v) × ((s ≡ u) ⊎ (s ≡ v))
+smaller-of u v w = subst (λ s. (s ≤ℤ u) × (s ≤ℤ v) × ((s ≡ u) ⊎ (s ≡ v))) (sym (back-again (minZ u v) w)) (min-left u v, min-right u v, min-is u v)
+
 pub request-2-5 : Request-2-5
-unfolding weightRefusal numbersRefusal kindOf eqZ
+unfolding weightRefusal numbersRefusal kindOf eqZ doubledScore
 request-2-5 = record {
   refusal = λ {n} {l} {A} c k h. let f = first-iff (weightChecks n l A) k h in let e = answered c .is-number in
       (λ q. f .0 (sym e ∙ q), λ g. e ∙ f .1 g);
@@ -219,6 +229,7 @@ request-2-5 = record {
       (λ e. room (first ∙ e))));
   of-sheet = λ {sheet} l {A} c t. let a = accepted l in
       answered c .is-number ∙ sheet-left sheet (a .buffer) A (a .passed) (right-side (of-two-sides t));
+  doubled = λ d q. smaller-of (d (q .a) (q .b) +ℤ d (q .a′) (q .b′)) (d (q .a) (q .b′) +ℤ d (q .a′) (q .b)) (d (q .a) (q .a′) +ℤ d (q .b) (q .b′));
   smallest = λ {n} {l} {A} c qs chosen. let f = found c in
       subst (λ w. w ≤ℤ sumOf qs (doubledScore (score l))) (sym (f .weight)) (refined-least n (score l) A qs chosen);
   attained = λ {n} {l} {A} c. let f = found c in

@@ -321,6 +321,11 @@ pub record Request-2-5 : Type 0 where
   -- the pair list of a sheet whose splits were listed has a weight for each split with two entries on each side
   pub of-sheet : {sheet bytes : List ℕ} → Listed (pos 3) sheet bytes → {A number : ℕ} {w : ℤ}
       → SideWeighed (entries sheet) (pairs sheet) A number w → TwoSides (entries sheet) A → number ≡ 0
+  -- "A quartet's doubled score is the smaller of d(a,b) + d(a',b') and d(a,b') + d(a',b), less the sum d(a,a') +
+  -- d(b,b')": together with that sum it is above neither of the two, and is one of them
+  pub doubled : (d : Similarity) (q : Quartet) → let s = doubledScore d q +ℤ (d (q .a) (q .a′) +ℤ d (q .b) (q .b′)) in
+      (s ≤ℤ (d (q .a) (q .b) +ℤ d (q .a′) (q .b′))) × (s ≤ℤ (d (q .a) (q .b′) +ℤ d (q .a′) (q .b)))
+      × ((s ≡ d (q .a) (q .b) +ℤ d (q .a′) (q .b′)) ⊎ (s ≡ d (q .a) (q .b′) +ℤ d (q .a′) (q .b)))
   -- "The weight is the sum of the n − 3 smallest": no n − 3 different quartets have a smaller sum, and some have this
   pub smallest : {n : ℕ} {l : List ℤ} {A : ℕ} {w : ℤ} → SideWeighed n l A 0 w
       → (qs : List Quartet) → Chosen n A qs → w ≤ℤ sumOf qs (doubledScore (score l))
