@@ -8,7 +8,7 @@ use Rattle.smallest.specs.Smallest.{keepSmallest}
 use Rattle.smallest.proofs.Rising.{sorted-kept, sorted-fold}
 use Rattle.clusters.specs.PairList.{Similarity}
 use Rattle.clusters.specs.Refined.{quartet, doubledScore}
-use Rattle.refined.specs.Kept.{keepBeside, keepAcross, keepBefore}
+use Rattle.refined.specs.Kept.{keepBeside, keepAcross, keepWithin}
 
 module _ (d : Similarity) (n A k : ℕ) where
   pub sorted-beside : (a a′ : ℕ) (l : List ℤ) (b : ℕ) → Sorted l → Sorted (keepBeside d A k a a′ b l)
@@ -20,6 +20,6 @@ module _ (d : Similarity) (n A k : ℕ) where
   unfolding keepAcross
   sorted-across a l a′ = sorted-fold (λ l b. keepBeside d A k a a′ b l) (sorted-beside a a′) l (others n A)
 
-  pub sorted-before : (l : List ℤ) (a : ℕ) → Sorted l → Sorted (keepBefore d n A k a l)
-  unfolding keepBefore
-  sorted-before l a = sorted-fold (λ l a′. keepAcross d n A k a a′ l) (sorted-across a) l (members a A)
+  pub sorted-within : (l : List ℤ) (a : ℕ) → Sorted l → Sorted (keepWithin d n A k a l)
+  unfolding keepWithin
+  sorted-within l a = sorted-fold (λ l a′. keepAcross d n A k a a′ l) (sorted-across a) l (members a A)

@@ -6,9 +6,9 @@ use lib.IntN.{ℤ, _+ℤ_}
 use Rattle.integers.specs.Range.{Within}
 use Rattle.integers.proofs.Range.{within-grow, within-sum}
 use Rattle.links.specs.Table.{entry}
-use Rattle.refined.specs.Kept.{Distances}
+use Rattle.refined.specs.Kept.{DistanceTable}
 
-module _ {n : ℕ} {t : List ℤ} (d : Distances n t) where
+module _ {n : ℕ} {t : List ℤ} (d : DistanceTable n t) where
   pub safe : (a b : ℕ) → a < n → b < n → Within (2 ^ 61) (entry t a b)
   safe a b h k = within-grow (lit≤ tt) (d .small a b h k)
 

@@ -22,12 +22,12 @@ use Rattle.clusters.proofs.Quartets.{in-quartets, quartets-fold, quartets-many}
 use Rattle.clusters.proofs.Refined.{quartets-within}
 use Rattle.matrix.proofs.Scores.{score-within}
 use Rattle.links.specs.Table.{entry, Holds, OwnKept}
-use Rattle.refined.specs.Kept.{Distances, keepBeside, keepAcross, keepBefore, keepAll}
+use Rattle.refined.specs.Kept.{DistanceTable, keepBeside, keepAcross, keepWithin, keepQuartets}
 
 -- the loops take the quartets in their order
-keepAll-quartets : (d : Similarity) (n A k : ℕ) (l : List ℤ) → keepAll d n A k l ≡ foldl (keepSmallest k) l (map (doubledScore d) (quartets n A))
-unfolding keepAll keepBefore keepAcross keepBeside
-keepAll-quartets d n A k l = sym (foldl-map (doubledScore d) (keepSmallest k) (quartets n A) l ∙ quartets-fold n A (λ l q. keepSmallest k l (doubledScore d q)) l)
+quartets-kept : (d : Similarity) (n A k : ℕ) (l : List ℤ) → keepQuartets d n A k l ≡ foldl (keepSmallest k) l (map (doubledScore d) (quartets n A))
+unfolding keepQuartets keepWithin keepAcross keepBeside
+quartets-kept d n A k l = sym (foldl-map (doubledScore d) (keepSmallest k) (quartets n A) l ∙ quartets-fold n A (λ l q. keepSmallest k l (doubledScore d q)) l)
 
 -- a table with the scores of any two different entries has the doubled score of any quartet
 module _ {n : ℕ} (l : List ℤ) {t : List ℤ} (h : Holds n (score l) t) (A : ℕ) where
@@ -57,14 +57,14 @@ module _ {n : ℕ} (l : List ℤ) {t : List ℤ} (h : Holds n (score l) t) (A : 
     unfolding scores
     small z m = within-grow (lit≤ tt) (quartets-within (score l) (score-within s) n A z m)
 
-    kept-are : keepAll (entry t) n A k (tops k) ≡ foldl (keepSmallest k) (tops k) scores
+    kept-are : keepQuartets (entry t) n A k (tops k) ≡ foldl (keepSmallest k) (tops k) scores
     unfolding scores
-    kept-are = keepAll-quartets (entry t) n A k (tops k) ∙ ap (foldl (keepSmallest k) (tops k)) same-scores
+    kept-are = quartets-kept (entry t) n A k (tops k) ∙ ap (foldl (keepSmallest k) (tops k)) same-scores
 
-    pub kept-within : Bounded (2 ^ 30) (keepAll (entry t) n A k (tops k))
+    pub kept-within : Bounded (2 ^ 30) (keepQuartets (entry t) n A k (tops k))
     kept-within = subst (Bounded (2 ^ 30)) (sym kept-are) (tops-within scores small k)
 
-    pub kept-weight : n ≤ 32 → 2 ≤ size n A → size n A + 2 ≤ n → k ≡ n - 3 → sum (keepAll (entry t) n A k (tops k)) ≡ refinedWeight n (score l) A
+    pub kept-weight : n ≤ 32 → 2 ≤ size n A → size n A + 2 ≤ n → k ≡ n - 3 → sum (keepQuartets (entry t) n A k (tops k)) ≡ refinedWeight n (score l) A
     unfolding refinedWeight scores
     kept-weight few two rest e =
         let many = quartets-many n A two rest in
@@ -73,7 +73,7 @@ module _ {n : ℕ} (l : List ℤ) {t : List ℤ} (h : Holds n (score l) t) (A : 
         ∙ ap (λ (k : ℕ). sumOfSmallest k scores) e
 
 -- a table filled with the scores
-pub filled-table : {n : ℕ} {l t : List ℤ} → n ≤ 32 → Bounded (2 ^ 22) l → Holds n (score l) t → OwnKept (replicate 1024 (pos 0)) t → Distances n t
+pub filled-table : {n : ℕ} {l t : List ℤ} → n ≤ 32 → Bounded (2 ^ 22) l → Holds n (score l) t → OwnKept (replicate 1024 (pos 0)) t → DistanceTable n t
 filled-table {n} {l} {t} few s h o = record { few = few; size = h .size; small = λ a b ha hb. at a b ha hb (ℕ-discrete a b) }
   where
     at : (a b : ℕ) → a < n → b < n → Dec (a ≡ b) → Within (2 ^ 22) (entry t a b)

@@ -13,7 +13,7 @@ use Rattle.clusters.specs.Refined.{quartet, doubledScore}
 use Rattle.links.specs.Table.{entry}
 
 -- a table of 32 rows with the distances of n entries, which are far from the machine's limits
-pub record Distances (n : ℕ) (t : List ℤ) : Type 0 where
+pub record DistanceTable (n : ℕ) (t : List ℤ) : Type 0 where
   pub few : n ≤ 32
   pub size : length t ≡ 1024
   pub small : (a b : ℕ) → a < n → b < n → Within (2 ^ 22) (entry t a b)
@@ -27,8 +27,8 @@ keepBeside d A k a a′ b kept =
 unfoldable pub keepAcross : Similarity → ℕ → ℕ → ℕ → ℕ → ℕ → List ℤ → List ℤ
 keepAcross d n A k a a′ kept = foldl (λ l b. keepBeside d A k a a′ b l) kept (others n A)
 
-unfoldable pub keepBefore : Similarity → ℕ → ℕ → ℕ → ℕ → List ℤ → List ℤ
-keepBefore d n A k a kept = foldl (λ l a′. keepAcross d n A k a a′ l) kept (members a A)
+unfoldable pub keepWithin : Similarity → ℕ → ℕ → ℕ → ℕ → List ℤ → List ℤ
+keepWithin d n A k a kept = foldl (λ l a′. keepAcross d n A k a a′ l) kept (members a A)
 
-unfoldable pub keepAll : Similarity → ℕ → ℕ → ℕ → List ℤ → List ℤ
-keepAll d n A k kept = foldl (λ l a. keepBefore d n A k a l) kept (members n A)
+unfoldable pub keepQuartets : Similarity → ℕ → ℕ → ℕ → List ℤ → List ℤ
+keepQuartets d n A k kept = foldl (λ l a. keepWithin d n A k a l) kept (members n A)

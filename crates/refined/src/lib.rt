@@ -10,7 +10,7 @@ ghost use Rattle.clusters.specs.Refined.{quartet, doubledScore, refinedWeight};
 ghost use Rattle.interface.specs.Refusals.{wrongSide, weightRefusal};
 ghost use Rattle.interface.specs.Calls.{WeightCall};
 ghost use Rattle.links.specs.Table.{entry};
-ghost use Rattle.refined.specs.Kept.{Distances, keepBeside, keepAcross, keepBefore, keepAll};
+ghost use Rattle.refined.specs.Kept.{DistanceTable, keepBeside, keepAcross, keepWithin, keepQuartets};
 use answers::Weighed;
 
 // Beyond every doubled score.
@@ -44,7 +44,7 @@ fn weight_refusal(n: usize, pairs: &[i32], side: u32) -> usize
 
 // The doubled score of the quartet of a and a2 on one side, b and b2 on the other, by a table of the distances.
 fn doubled_score(t: &[i64; 1024], n: usize, a: usize, a2: usize, b: usize, b2: usize) -> i64
-    requires { ⌜ Distances n (now t) × (a < n) × (a2 < n) × (b < n) × (b2 < n) ⌝ }
+    requires { ⌜ DistanceTable n (now t) × (a < n) × (a2 < n) × (b < n) × (b2 < n) ⌝ }
     ensures { λ r. ⌜ r ≡ doubledScore (entry (now (t .entry))) (quartet (a, a2) (b, b2)) ⌝ }
 {
     let straight = integers::sum(links::get(t, a, b), links::get(t, a2, b2));
@@ -64,7 +64,7 @@ fn keep_beside(
     a2: usize,
     b: usize,
 )
-    requires { ⌜ Distances n (now t) × (a < n) × (a2 < n) × (b < n)
+    requires { ⌜ DistanceTable n (now t) × (a < n) × (a2 < n) × (b < n)
         × (k < length (now kept)) × Sorted (take k (now kept)) ⌝ }
     ensures { λ _. ⌜ take k (now (kept .exit)) ≡
         keepBeside (entry (now (t .entry))) side k a a2 b (take k (now (kept .entry))) ⌝ }
@@ -86,7 +86,7 @@ fn keep_across(
     a: usize,
     a2: usize,
 )
-    requires { ⌜ Distances n (now t) × (a < n) × (a2 < n)
+    requires { ⌜ DistanceTable n (now t) × (a < n) × (a2 < n)
         × (k < length (now kept)) × Sorted (take k (now kept)) ⌝ }
     ensures { λ _. ⌜ take k (now (kept .exit)) ≡
         keepAcross (entry (now (t .entry))) n side k a a2 (take k (now (kept .entry))) ⌝ }
@@ -99,10 +99,10 @@ fn keep_across(
 }
 
 // The same for each a2 of the side before a.
-fn keep_before(kept: &mut [i64], k: usize, t: &[i64; 1024], n: usize, side: u32, a: usize)
-    requires { ⌜ Distances n (now t) × (a < n) × (k < length (now kept)) × Sorted (take k (now kept)) ⌝ }
+fn keep_within(kept: &mut [i64], k: usize, t: &[i64; 1024], n: usize, side: u32, a: usize)
+    requires { ⌜ DistanceTable n (now t) × (a < n) × (k < length (now kept)) × Sorted (take k (now kept)) ⌝ }
     ensures { λ _. ⌜ take k (now (kept .exit)) ≡
-        keepBefore (entry (now (t .entry))) n side k a (take k (now (kept .entry))) ⌝ }
+        keepWithin (entry (now (t .entry))) n side k a (take k (now (kept .entry))) ⌝ }
 {
     for a2 in 0..a {
         if sets::has(side, a2) {
@@ -112,14 +112,14 @@ fn keep_before(kept: &mut [i64], k: usize, t: &[i64; 1024], n: usize, side: u32,
 }
 
 // The same for each a of the side.
-fn keep_all(kept: &mut [i64], k: usize, t: &[i64; 1024], n: usize, side: u32)
-    requires { ⌜ Distances n (now t) × (k < length (now kept)) × Sorted (take k (now kept)) ⌝ }
+fn keep_quartets(kept: &mut [i64], k: usize, t: &[i64; 1024], n: usize, side: u32)
+    requires { ⌜ DistanceTable n (now t) × (k < length (now kept)) × Sorted (take k (now kept)) ⌝ }
     ensures { λ _. ⌜ take k (now (kept .exit)) ≡
-        keepAll (entry (now (t .entry))) n side k (take k (now (kept .entry))) ⌝ }
+        keepQuartets (entry (now (t .entry))) n side k (take k (now (kept .entry))) ⌝ }
 {
     for a in 0..n {
         if sets::has(side, a) {
-            keep_before(kept, k, t, n, side, a);
+            keep_within(kept, k, t, n, side, a);
         }
     }
 }
@@ -134,7 +134,7 @@ fn weight_of(n: usize, pairs: &[i32], side: u32) -> i64
     let mut table = [0i64; 1024];
     links::fill(pairs, n, &mut table);
     let mut kept = [BEYOND; 32];
-    keep_all(&mut kept, k, &table, n, side);
+    keep_quartets(&mut kept, k, &table, n, side);
     smallest::total(&kept, k)
 }
 

@@ -17,7 +17,7 @@ returns c = let r = c .before .before .before in
     let f = r .before .before .before in
     let g = f .before .before in
     passed w64 (c .total .ok)
-    (c .total .ensures ∙ ap sum (r .keep-all .ensures) ∙ kept-weight (g .args .pairs .now) (f .fill .ensures .0) _ (g .pre .2) _ (g .pre .0) (g .pre .3) (g .pre .4) refl)
+    (c .total .ensures ∙ ap sum (r .keep-quartets .ensures) ∙ kept-weight (g .args .pairs .now) (f .fill .ensures .0) _ (g .pre .2) _ (g .pre .0) (g .pre .3) (g .pre .4) refl)
 
 sub-k : tie.Need-sub-k
 sub-k c = search needs
@@ -25,11 +25,11 @@ sub-k c = search needs
 fill-requires : tie.Need-fill-requires
 fill-requires c κs = (c .before .pre .0, c .before .pre .1, refl)
 
-slice-aggregate-keep-all : tie.Need-slice-aggregate-keep-all
-slice-aggregate-keep-all c = search needs
+slice-aggregate-keep-quartets : tie.Need-slice-aggregate-keep-quartets
+slice-aggregate-keep-quartets c = search needs
 
-keep-all-requires : tie.Need-keep-all-requires
-keep-all-requires c κs = let f = c .before .before in
+keep-quartets-requires : tie.Need-keep-quartets-requires
+keep-quartets-requires c κs = let f = c .before .before in
     let g = f .before .before in
     (filled-table (g .pre .0) (g .pre .2) (f .fill .ensures .0) (f .fill .ensures .1), omega arith, search (tops-sorted, needs))
 
@@ -40,7 +40,7 @@ total-requires : tie.Need-total-requires
 total-requires c κs = let r = c .before .before in
     let f = r .before .before .before in
     let g = f .before .before in
-    (omega arith, omega (arith, r .keep-all .kept .0), subst (Bounded (2 ^ 30)) (sym (r .keep-all .ensures)) (kept-within (g .args .pairs .now) (f .fill .ensures .0) _ (g .pre .2) _))
+    (omega arith, omega (arith, r .keep-quartets .kept .0), subst (Bounded (2 ^ 30)) (sym (r .keep-quartets .ensures)) (kept-within (g .args .pairs .now) (f .fill .ensures .0) _ (g .pre .2) _))
 
 pub weight-of-spec : {M : Type 1} → statement M
 weight-of-spec =
@@ -48,8 +48,8 @@ weight-of-spec =
     (tie.spec
     sub-k
     fill-requires
-    slice-aggregate-keep-all
-    keep-all-requires
+    slice-aggregate-keep-quartets
+    keep-quartets-requires
     slice-aggregate-total
     total-requires
     returns)

@@ -6,16 +6,16 @@ use borrow.Author.Needs.{needs}
 use Rattle.sets.specs.Sets.{has, members}
 use Rattle.smallest.proofs.Kept.{Kept, kept-start, kept-yes, kept-no, kept-sorted, kept-end}
 use Rattle.links.specs.Table.{entry}
-use Rattle.refined.specs.Kept.{keepBefore, keepAll}
-use Rattle.refined.proofs.Kept.{sorted-before}
-use Rattle.refined.proofs.keep_all.Statement.{statement}
-use Rattle.refined.proofs.keep_all.Tie as tie
+use Rattle.refined.specs.Kept.{keepAcross, keepWithin}
+use Rattle.refined.proofs.Kept.{sorted-across}
+use Rattle.refined.proofs.keep_within.Statement.{statement}
+use Rattle.refined.proofs.keep_within.Tie as tie
 
 abbrev Inv-loop : tie.InvT-loop
-Inv-loop kept₀ k t n side a₀ kept a = (a ≤ n) × Kept (λ l y. keepBefore (entry t) n side k y l) (has side) k kept₀ a kept
+Inv-loop kept₀ k t n side a a2₀ kept a2 = (a2 ≤ a) × Kept (λ l y. keepAcross (entry t) n side k a y l) (has side) k kept₀ a2 kept
 
 abbrev μ-loop : tie.MeasureT-loop
-μ-loop kept₀ k t n side a₀ kept a = n - a
+μ-loop kept₀ k t n side a a2₀ kept a2 = a - a2
 
 loop-again : tie.Need-loop-again Inv-loop μ-loop
 loop-again c = let s = c .before .before .before in
@@ -31,14 +31,14 @@ loop-holds c = (omega arith, kept-start)
 has-requires : tie.Need-has-requires Inv-loop μ-loop
 has-requires c κs = omega (arith, c .before .before .pre .0 .few)
 
-keep-before-requires : tie.Need-keep-before-requires Inv-loop μ-loop
-keep-before-requires c κs = let s = c .before .before .before .before in
+keep-across-requires : tie.Need-keep-across-requires Inv-loop μ-loop
+keep-across-requires c κs = let s = c .before .before .before .before in
     let g = s .before in
     let r = s .loop .inv .1 in
-    (g .pre .0, omega arith, omega (arith, r .long), kept-sorted r (sorted-before (entry (g .args .t .now)) (g .args .n) (g .args .side) (g .args .k)) (g .pre .2))
+    (g .pre .0, omega arith, omega arith, omega (arith, r .long), kept-sorted r (sorted-across (entry (g .args .t .now)) (g .args .n) (g .args .side) (g .args .k) (g .args .a)) (g .pre .3))
 
-add-a : tie.Need-add-a Inv-loop μ-loop
-add-a c = search needs
+add-a2 : tie.Need-add-a2 Inv-loop μ-loop
+add-a2 c = search needs
 
 loop-less : tie.Need-loop-less Inv-loop μ-loop
 loop-less c = search needs
@@ -47,19 +47,19 @@ same-length : tie.Need-same-length Inv-loop μ-loop
 same-length c = c .before .loop .inv .1 .long
 
 returns : tie.Need-returns Inv-loop μ-loop
-unfolding keepAll members
+unfolding keepWithin members
 returns c = kept-end (c .before .loop .inv .1) (omega arith)
 
-pub keep-all-spec : {M : Type 1} → statement M
-keep-all-spec =
+pub keep-within-spec : {M : Type 1} → statement M
+keep-within-spec =
     tie.close
     (tie.spec
     Inv-loop
     μ-loop
     loop-holds
     has-requires
-    keep-before-requires
-    add-a
+    keep-across-requires
+    add-a2
     loop-less
     loop-again
     same-length
