@@ -58,9 +58,9 @@
 
    REFUSALS
    A call that can be refused makes its checks in the order of this table, and the first that fails is the answer; farzhudyl_pool makes
-   those up to 11 on its first sheet, then on its second. A refused call has written nothing, but for the set that
-   farzhudyl_smallest_shared answers, which is then 0. No call asks anything of the values it is handed: any bytes and any numbers get
-   the answer described here.
+   those up to 11 on its first sheet, then on its second. A refused call has written nothing, but for the set of
+   farzhudyl_smallest_shared and the weight of farzhudyl_refined_weight, which are then 0. No call asks anything of the values it is
+   handed: any bytes and any numbers get the answer described here.
       1  kind is not 1, 2 or 3; in farzhudyl_smallest_shared, not 1 or 2
       2  the sheet has 0 bytes, or over 12,288
       3  a byte of the sheet is not A to Z, 0 to 9, minus, space or line feed
@@ -80,6 +80,7 @@
      17  the sets of names of the two sheets differ
      18  a sum of two scores is below -1,000,000 or above 1,000,000
      14  the listing or the pool has more bytes than the buffer
+     19  a side of a split has fewer than two entries, or a member numbered n or more
 
    WHAT THE CALLER OWES
    A pointer with a length points to that many bytes or slots; it may be null where the length is 0. A pointer without a length
@@ -148,6 +149,23 @@ int64_t farzhudyl_numbers(int32_t kind, size_t n, const int32_t *pairs, size_t p
    and *set is then the set of all n entries. Or answers minus the refusal's number, and *set is then 0. Checks 1 (kind 3 too), 6, 10,
    11, 16 (kind 2 only), 15 (a or b is n or more). */
 int64_t farzhudyl_smallest_shared(int32_t kind, size_t n, const int32_t *pairs, size_t pairs_len, size_t a, size_t b, uint32_t *set);
+
+/* The refined weight of a split, of the pair list of distances d of n entries: the refined Buneman index of Moulton and Steel, times
+   2(n - 3). side is one side of the split, as a set; the other entries are the other side. Either side may be handed over; each is to
+   have two entries or more.
+
+   A quartet is two different entries a and a' of one side and two different entries b and b' of the other, pairs unordered. Its score is
+   the smaller of d(a,b) + d(a',b') and d(a,b') + d(a',b), less d(a,a') + d(b,b'). The weight is the sum of the n - 3 smallest scores of
+   all quartets, equal ones counted each. It may be 0 or negative. Example, four entries with d(0,1) = d(2,3) = 2 and all other distances
+   4: a split has one quartet, so the weight of the side 0xc is 8 - 4 = 4, and that of the side 0x5 is 4 - 8 = -4.
+
+   Answers 0, and has then written the weight to *weight; or the refusal's number (not minus the number, as in farzhudyl_score), and
+   *weight is then 0. Nothing else is written. Checks 6, 10, 11, 16, 12, 19 (side, or the set of the other entries, has fewer than two,
+   as always with fewer than 4 entries; or side has a member numbered n or more).
+
+   Two splits of positive weight never cross: some side of one lies within a side of the other. A split that farzhudyl_numbers lists,
+   with two entries or more on each side, has a positive weight: n - 3 times its index or more. */
+int32_t farzhudyl_refined_weight(size_t n, const int32_t *pairs, size_t pairs_len, uint32_t side, int64_t *weight);
 
 /* A single linkage tree and an average linkage tree of the pair list of n entries, of scores: from the n single entries on, the two
    blocks whose link is the greatest are merged, until one is left. The link is the greatest score between the two blocks (single), or

@@ -37,7 +37,8 @@ expected() {
         printf -- '-rwxr-xr-x ./bin/farzhudyl-%s \n' "$name"
         printf 'lrwxrwxrwx ./share/man/man1/farzhudyl-%s.1 farzhudyl.1\n' "$name"
     done
-    for name in listing numbers smallest_shared single_linkage average_linkage anchored_scores distances_back pair_list name pool score; do
+    for name in listing numbers smallest_shared refined_weight single_linkage average_linkage anchored_scores distances_back pair_list \
+        name pool score; do
         printf 'lrwxrwxrwx ./share/man/man3/farzhudyl_%s.3 farzhudyl.3\n' "$name"
     done
 }
@@ -131,7 +132,7 @@ for section in 1 3; do
     grep -qF "version $(cat VERSION)." "$page" && ! grep -q '@[A-Z]*@' "$page"
     count $? "the version in farzhudyl.$section"
 done
-for page in farzhudyl_listing farzhudyl_score; do
+for page in farzhudyl_listing farzhudyl_refined_weight farzhudyl_score; do
     MANPATH=$prefix/share/man man 3 "$page" 2>/dev/null | grep -qF "FARZHUDYL_LISTING_MAX"
     count $? "man 3 $page"
 done
