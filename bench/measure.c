@@ -1,11 +1,12 @@
-/* Microseconds of three C calls, by the engine and by the plain engine, in turns
+/* Microseconds of four C calls, by the engine and by the plain engine, in turns
    on the same sheets.  Writes a line for each call, sort of sheets, kind and
-   number of entries, with tabs between: `listing`, `shared` or `pool`, the other
-   three, what is told of the sheets, and the best and the median of each engine.
-   Of a listing the bytes of a sheet are told, and the lines after the first; of
-   the smallest group that the first and the last entry share, the share of the
-   sheets that have one; of a pool, which has no kind, the bytes of its two sheets
-   and its own. */
+   number of entries, with tabs between: `listing`, `shared`, `pool` or `weight`,
+   the other three, what is told of the sheets, and the best and the median of
+   each engine.  Of a listing the bytes of a sheet are told, and the lines after
+   the first; of the smallest group that the first and the last entry share, the
+   share of the sheets that have one; of a pool, which has no kind, the bytes of
+   its two sheets and its own; of the refined weight of a split, where the side
+   stands in the place of the kind, the quartets of the split. */
 
 #define _POSIX_C_SOURCE 199309L
 
@@ -28,11 +29,15 @@ typedef int64_t SheetCall(int32_t kind, const uint8_t *sheet, size_t sheet_len,
 typedef int64_t PoolCall(const uint8_t *first, size_t first_len,
                          const uint8_t *second, size_t second_len, uint8_t *out,
                          size_t out_len);
+typedef int32_t WeightCall(size_t n, const int32_t *pairs, size_t pairs_len,
+                           uint32_t side, int64_t *weight);
 typedef void MakePairs(bool distances, int n, int32_t *pairs);
 
 static SheetCall *const engines[] = {farzhudyl_listing, plain_listing};
 enum { ENGINES = sizeof engines / sizeof engines[0] };
 static PoolCall *const pools[ENGINES] = {farzhudyl_pool, plain_pool};
+static WeightCall *const weights[ENGINES] = {farzhudyl_refined_weight,
+                                             plain_refined_weight};
 
 typedef struct {
     uint8_t text[MAX_SHEET + 1];
@@ -43,6 +48,7 @@ static size_t entries;
 static int32_t pairs[SHEETS][MAX_PAIRS];
 static Sheet sheets[SHEETS];
 static Sheet seconds[SHEETS]; /* of the same entries, to pool */
+static uint32_t sides[SHEETS]; /* of the splits to weigh */
 
 static void make_sheets(MakePairs *make, int32_t kind, int n)
 {
@@ -165,6 +171,61 @@ static double pool_bytes(void)
     return bytes;
 }
 
+/* How many quartets the split of a side has. */
+static int64_t quartets(uint32_t side)
+{
+    int64_t in = 0, out;
+    for (; side != 0; side &= side - 1)
+        in++;
+    out = (int64_t)entries - in;
+    return in * (in - 1) / 2 * (out * (out - 1) / 2);
+}
+
+/* The side of a split to weigh. */
+typedef uint32_t PickSide(int t);
+
+/* Of the listed splits one with the most quartets. */
+static uint32_t pick_listed(int t)
+{
+    uint32_t sets[FARZHUDYL_GROUPS_MAX], side = 0;
+    int64_t indices[FARZHUDYL_GROUPS_MAX];
+    int64_t count = farzhudyl_numbers(
+        FARZHUDYL_SPLITS, entries, pairs[t], FARZHUDYL_PAIRS(entries), sets,
+        FARZHUDYL_GROUPS_MAX, indices, FARZHUDYL_GROUPS_MAX);
+    for (int64_t i = 0; i < count; i++)
+        if (quartets(sets[i]) > quartets(side))
+            side = sets[i];
+    return side;
+}
+
+static uint32_t pick_half(int t)
+{
+    (void)t;
+    return UINT32_MAX >> (MAX_ENTRIES - entries / 2);
+}
+
+static int32_t weigh(int e, int t, int64_t *weight)
+{
+    return weights[e](entries, pairs[t], FARZHUDYL_PAIRS(entries), sides[t],
+                      weight);
+}
+
+/* Picks the sides; both engines find the same weights.  Answers the mean
+   quartets. */
+static double mean_quartets(PickSide *pick)
+{
+    double mean = 0;
+    for (int t = 0; t < SHEETS; t++) {
+        int64_t weight[ENGINES];
+        sides[t] = pick(t);
+        if (weigh(0, t, &weight[0]) != 0 || weigh(1, t, &weight[1]) != 0 ||
+            weight[0] != weight[1])
+            differ("weight", FARZHUDYL_SPLITS, t);
+        mean += (double)quartets(sides[t]) / SHEETS;
+    }
+    return mean;
+}
+
 /* A round through the sheets, by an engine. */
 typedef void Round(int e, int32_t kind);
 
@@ -188,6 +249,14 @@ static void pool_all(int e, int32_t kind)
     (void)kind;
     for (int t = 0; t < SHEETS; t++)
         pool(e, t, out);
+}
+
+static void weigh_all(int e, int32_t kind)
+{
+    int64_t weight;
+    (void)kind;
+    for (int t = 0; t < SHEETS; t++)
+        weigh(e, t, &weight);
 }
 
 /* The time that this process has had. */
@@ -278,5 +347,16 @@ int main(void)
                mean_bytes(sheets) + mean_bytes(seconds), pool_bytes());
         measure(pool_all, 0);
     }
+    const struct {
+        const char *name;
+        PickSide *pick;
+    } picks[] = {{"listed", pick_listed}, {"half", pick_half}};
+    for (size_t i = 0; i < sizeof picks / sizeof picks[0]; i++)
+        for (int n = 8; n <= MAX_ENTRIES; n *= 2) {
+            make_sheets(near_tree, FARZHUDYL_SPLITS, n);
+            printf("weight\tnear-tree\t%s\t%d\t%.0f", picks[i].name, n,
+                   mean_quartets(picks[i].pick));
+            measure(weigh_all, 0);
+        }
     return 0;
 }

@@ -1,5 +1,5 @@
-/* Isolated groups and splits of a score sheet, and the pool of two sheets, in
-   plain C. */
+/* Isolated groups and splits of a score sheet, the pool of two sheets, and the
+   refined weight of a split, in plain C. */
 #ifndef PLAIN_H
 #define PLAIN_H
 
@@ -26,5 +26,11 @@ int64_t plain_numbers(int32_t kind, int32_t n, const int32_t *pairs,
    nothing. */
 int64_t plain_pool(const uint8_t *first, size_t first_len, const uint8_t *second,
                    size_t second_len, uint8_t *out, size_t out_len);
+
+/* The refined weight of the split of which side is one side, of the pair list
+   of n entries; answers 0.  A refusal answers its number, and the weight is
+   0. */
+int32_t plain_refined_weight(size_t n, const int32_t *pairs, size_t pairs_len,
+                             uint32_t side, int64_t *weight);
 
 #endif

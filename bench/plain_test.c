@@ -1,5 +1,6 @@
 /* Tests of the plain engine: the bench cases, the refusals, a check of random
-   sheets against the definitions over all sets, reordering, and pools.
+   sheets against the definitions over all sets, reordering, pools, and refined
+   weights.
 
    cc -std=c11 -O2 -Wall -Wextra -Werror -pedantic plain.c plain_test.c */
 
@@ -833,6 +834,200 @@ static void test_altered_pools(int sheets)
     }
 }
 
+/* ---- refined weights ---- */
+
+/* A call on a list of exact length; the weight is written in any case, and
+   nothing beside it. */
+static int32_t call_weight(size_t n, const int32_t *pairs, size_t pairs_len,
+                           uint32_t side, int64_t *weight)
+{
+    uint8_t *lent = lend((const char *)pairs, pairs_len * sizeof *pairs);
+    const int64_t around = INT64_C(0x5A5A5A5A5A5A5A5A);
+    int64_t slots[3] = {around, around, around};
+    int32_t answer = plain_refined_weight(n, (const int32_t *)(void *)lent,
+                                          pairs_len, side, &slots[1]);
+    if (slots[0] != around || slots[2] != around)
+        fail("a slot beside the weight was written");
+    *weight = slots[1];
+    free(lent);
+    return answer;
+}
+
+static void expect_weight(const char *what, size_t n, const int32_t *pairs,
+                          uint32_t side, int64_t wanted)
+{
+    uint32_t whole = UINT32_MAX >> (MAX_N - n);
+    const uint32_t sides[] = {side, whole & ~side};
+    for (int i = 0; i < 2; i++) {
+        int64_t weight;
+        int32_t answer =
+            call_weight(n, pairs, n * (n + 1) / 2, sides[i], &weight);
+        if (answer != 0 || weight != wanted) {
+            printf("side %08" PRIx32 ": answer %" PRId32 ", weight %" PRId64
+                   ", expected 0 and %" PRId64 "\n",
+                   sides[i], answer, weight, wanted);
+            fail(what);
+        }
+    }
+}
+
+static void refuses_weight(size_t n, const int32_t *pairs, size_t pairs_len,
+                           uint32_t side, int32_t number)
+{
+    int64_t weight;
+    int32_t answer = call_weight(n, pairs, pairs_len, side, &weight);
+    if (answer != number || weight != 0) {
+        printf("side %08" PRIx32 " of %zu: answer %" PRId32 ", weight %" PRId64
+               ", expected %" PRId32 " and 0\n",
+               side, n, answer, weight, number);
+        fail("refusal of a weight");
+    }
+}
+
+/* All distances across and all within a side the same. */
+static void two_values(int n, uint32_t side, int32_t across, int32_t within,
+                       int32_t *pairs)
+{
+    for (int a = 0; a < n; a++) {
+        for (int b = 0; b < a; b++)
+            *pairs++ = holds(side, a) != holds(side, b) ? across : within;
+        *pairs++ = 0;
+    }
+}
+
+static void test_weight_cases(void)
+{
+    const int32_t copies[] = {0, 2, 0, 4, 4, 0, 4, 4, 2, 0};
+    expect_weight("four copies", 4, copies, 0xc, 4);
+    expect_weight("four copies", 4, copies, 0x5, -4);
+    expect_weight("four copies", 4, copies, 0x9, -4);
+    /* 01|23 has 10 - 4, 01|24 has 11 - 5, 01|34 has 12 - 3. */
+    const int32_t equal[] = {0, 1, 0, 5, 5, 0, 6, 5, 3, 0, 7, 6, 4, 2, 0};
+    expect_weight("equal scores", 5, equal, 0x3, 12);
+    /* 01|24 has 11 - 4. */
+    const int32_t different[] = {0, 1, 0, 5, 5, 0, 6, 5, 3, 0, 7, 6, 3, 2, 0};
+    expect_weight("different scores", 5, different, 0x3, 13);
+    /* The entry 0 twice against 2 and 3 would have 1. */
+    const int32_t twice[] = {0, 1, 0, 1, 9, 0, 1, 9, 1, 0};
+    expect_weight("no entry twice", 4, twice, 0x3, 8);
+
+    int32_t pairs[MAX_PAIRS];
+    const uint32_t odd = UINT32_C(0xaaaaaaaa);
+    two_values(MAX_N, odd, MAX_SCORE, 0, pairs);
+    expect_weight("the greatest weight", MAX_N, pairs, odd, 29 * 2 * MAX_SCORE);
+    two_values(MAX_N, odd, 0, MAX_SCORE, pairs);
+    expect_weight("the least weight", MAX_N, pairs, odd, -29 * 2 * MAX_SCORE);
+    two_values(MAX_N, odd, 7, 7, pairs);
+    for (int k = 2; k <= MAX_N - 2; k++)
+        expect_weight("all alike", MAX_N, pairs, UINT32_MAX >> (MAX_N - k), 0);
+}
+
+static void test_weight_refusals(void)
+{
+    int32_t pairs[34 * 35 / 2] = {0};
+    const size_t counts[] = {0, MAX_N + 1, 64, SIZE_MAX};
+    for (size_t i = 0; i < sizeof counts / sizeof counts[0]; i++)
+        refuses_weight(counts[i], pairs, 561, 3, 6);
+    for (size_t n = 1; n <= MAX_N; n++) {
+        const size_t length = n * (n + 1) / 2;
+        const uint32_t whole = UINT32_MAX >> (MAX_N - n);
+        refuses_weight(n, pairs, length - 1, 3, 10);
+        refuses_weight(n, pairs, length + 1, 3, 10);
+        const uint32_t sides[] = {0, 1, 1u << (n - 1), whole, whole & ~1u,
+                                  whole >> 1};
+        for (size_t i = 0; i < sizeof sides / sizeof sides[0]; i++)
+            refuses_weight(n, pairs, length, sides[i], 19);
+        for (uint32_t side = 0; n < 4 && side < 16; side++)
+            refuses_weight(n, pairs, length, side, 19);
+        for (size_t far = n; n >= 4 && far < MAX_N; far++)
+            refuses_weight(n, pairs, length, 3 | UINT32_C(1) << far, 19);
+    }
+
+    /* Four entries, one flaw more each time: 19, 12, 16, 11, 10, 6. */
+    refuses_weight(4, pairs, 10, 0x1f, 19);
+    pairs[3] = -1;
+    refuses_weight(4, pairs, 10, 0x1f, 12);
+    refuses_weight(4, pairs, 10, 3, 12);
+    pairs[3] = 0;
+    pairs[9] = 1;
+    refuses_weight(4, pairs, 10, 3, 12);
+    pairs[0] = UNSCORED;
+    refuses_weight(4, pairs, 10, 0x1f, 16);
+    pairs[1] = MAX_SCORE + 1;
+    refuses_weight(4, pairs, 10, 0x1f, 11);
+    pairs[1] = -MAX_SCORE - 1;
+    refuses_weight(4, pairs, 10, 3, 11);
+    refuses_weight(4, pairs, 9, 0x1f, 10);
+    refuses_weight(0, pairs, 9, 0x1f, 6);
+}
+
+/* All quartets in a list, sorted. */
+static int64_t defined_weight(int n, const int32_t *d, uint32_t side)
+{
+    static int64_t scores[120 * 120];
+    size_t count = 0;
+    int64_t sum = 0;
+    for (int a = 0; a < n; a++)
+        for (int a2 = 0; a2 < a; a2++)
+            for (int b = 0; b < n; b++)
+                for (int b2 = 0; b2 < b; b2++) {
+                    if (!holds(side, a) || !holds(side, a2) ||
+                        holds(side, b) || holds(side, b2))
+                        continue;
+                    int64_t one = score(d, a, b) + score(d, a2, b2);
+                    int64_t other = score(d, a, b2) + score(d, a2, b);
+                    scores[count++] = (one < other ? one : other) -
+                                      (score(d, a, a2) + score(d, b, b2));
+                }
+    qsort(scores, count, sizeof scores[0], compare_weights);
+    for (int i = 0; i < n - 3; i++)
+        sum += scores[i];
+    return sum;
+}
+
+static long weights_seen[3]; /* below 0, 0, above */
+
+static void test_weight(int n, const int32_t *pairs, uint32_t side)
+{
+    uint32_t whole = UINT32_MAX >> (MAX_N - n);
+    int inside = size_of(side & whole);
+    if (inside < 2 || inside > n - 2) {
+        refuses_weight((size_t)n, pairs, (size_t)n * (n + 1) / 2, side, 19);
+        return;
+    }
+    int64_t wanted = defined_weight(n, pairs, side);
+    expect_weight("weight and definition", (size_t)n, pairs, side, wanted);
+    weights_seen[wanted < 0 ? 0 : wanted == 0 ? 1 : 2]++;
+}
+
+/* Every side of a few entries; of more, the listed splits and some others. */
+static void test_weights(int lists)
+{
+    for (int round = 0; round < lists && failures == 0; round++) {
+        int32_t pairs[MAX_PAIRS];
+        int n = round % 10 == 0 ? 1 + random_below(MAX_N) : 1 + random_below(7);
+        uint32_t whole = UINT32_MAX >> (MAX_N - n), sets[2 * MAX_N + 1];
+        int64_t indices[2 * MAX_N + 1];
+        random_pairs(3, n, pairs);
+        if (n <= 7) {
+            for (uint32_t side = 0; side <= whole; side++)
+                test_weight(n, pairs, side);
+        } else {
+            int64_t count = plain_numbers(3, n, pairs, sets, indices);
+            for (int64_t t = 0; t < count; t++)
+                test_weight(n, pairs, sets[t]);
+            for (int t = 0; t < 8; t++)
+                test_weight(n, pairs,
+                            (uint32_t)random_below(INT32_MAX) << 1 & whole);
+        }
+        if (failures > 0)
+            show_sheet(3, n, pairs);
+    }
+    if (failures == 0 && (weights_seen[0] == 0 || weights_seen[1] == 0 ||
+                          weights_seen[2] == 0))
+        fail("weights below 0, 0 or above: none of a sort was met");
+}
+
 int main(int argc, char **argv)
 {
     int sheets = argc > 1 ? atoi(argv[1]) : 6000;
@@ -845,13 +1040,17 @@ int main(int argc, char **argv)
     test_pool_refusals();
     test_random_pools(sheets);
     test_altered_pools(sheets);
+    test_weight_cases();
+    test_weight_refusals();
+    test_weights(sheets / 10);
     if (failures > 0) {
         printf("%d differences\n", failures);
         return 1;
     }
     printf("no difference; lines checked: strong %ld, %ld of them with unscored "
-           "pairs, clean %ld, splits %ld; pools %ld, refused for a sum %ld\n",
+           "pairs, clean %ld, splits %ld; pools %ld, refused for a sum %ld; "
+           "weights below 0 %ld, 0 %ld, above %ld\n",
            lines_seen[1], unscored_seen, lines_seen[2], lines_seen[3], pools_seen,
-           sums_refused);
+           sums_refused, weights_seen[0], weights_seen[1], weights_seen[2]);
     return 0;
 }

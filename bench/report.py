@@ -36,12 +36,22 @@ Microseconds of `farzhudyl_pool` on two near-tree sheets of scores of the same e
 engine's. Both read and check the two sheets, find the names, add, and write the pool. Bytes are means: of the two sheets together, and of
 their pool."""
 
+WEIGHT = """\
+Microseconds of `farzhudyl_refined_weight` on near-tree lists of distances; beside it, the plain engine's. Both check the list and the side,
+and go through all quartets. Listed: of each list's own splits one with the most quartets. Half: the first half of the entries, in none of
+these lists a listed split, and of negative weight. Quartets are means."""
+
 # What is told of the sheets beside the times of a call.
-FACTS = {"listing": ["bytes", "lines"], "shared": ["in a group"], "pool": ["bytes read", "bytes written"]}
+FACTS = {
+    "listing": ["bytes", "lines"],
+    "shared": ["in a group"],
+    "pool": ["bytes read", "bytes written"],
+    "weight": ["quartets"],
+}
 
 
 class Cell(NamedTuple):
-    """The sheets of one sort, kind and number of entries; a pool's kind is empty."""
+    """The sheets of one sort, kind and number of entries; a pool's kind is empty, a weight's says which side."""
 
     facts: list[str]
     best: list[float]
@@ -77,7 +87,7 @@ def table(head, rows):
 
 def times_table(cells, call, sort):
     kinds = any(kind for _, kind, _ in cells)
-    head = [*["kind"] * kinds, "entries", *FACTS[call]]
+    head = [*["side" if call == "weight" else "kind"] * kinds, "entries", *FACTS[call]]
     head += [f"{engine}, {what}" for engine in ENGINES for what in ("best", "median")]
     rows = []
     for kind, n in [(kind, n) for of, kind, n in cells if of == sort]:
@@ -99,7 +109,7 @@ def growth_table(cells, sort):
 
 
 def results(cells, machine):
-    listing, shared, pool = (cells[call] for call in ("listing", "shared", "pool"))
+    listing, shared, pool, weight = (cells[call] for call in ("listing", "shared", "pool", "weight"))
     parts = ["# The engine beside plain C", METHOD, "![Times by number of entries](chart.svg)"]
     for sort, title in SORTS.items():
         parts += [f"## {title}", times_table(listing, "listing", sort), growth_table(listing, sort)]
@@ -107,6 +117,7 @@ def results(cells, machine):
     for sort in SORTS:
         parts += [f"{sort.capitalize()} lists:", times_table(shared, "shared", sort)]
     parts += ["## The pool of two sheets", POOL, times_table(pool, "pool", "near-tree")]
+    parts += ["## The refined weight of a split", WEIGHT, times_table(weight, "weight", "near-tree")]
     parts += ["## Measured on", "\n".join(f"- {fact}" for fact in machine)]
     return "\n\n".join(parts) + "\n"
 
