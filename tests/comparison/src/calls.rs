@@ -30,6 +30,13 @@ extern "C" {
         b: usize,
         set: *mut u32,
     ) -> i64;
+    pub fn farzhudyl_refined_weight(
+        n: usize,
+        pairs: *const i32,
+        pairs_len: usize,
+        side: u32,
+        weight: *mut i64,
+    ) -> i32;
     fn farzhudyl_single_linkage(
         n: usize,
         pairs: *const i32,

@@ -3,8 +3,9 @@
 //!
 //! * `sheet_call`: the call that reads a sheet and writes its listing.
 //! * `pool_call`: the call that pools two sheets.
-//! * `number_calls`: the calls on a pair list, all but the next.
+//! * `number_calls`: the calls on a pair list, all but the next two.
 //! * `shared_call`: the smallest group two entries share.
+//! * `weight_call`: the refined weight of a split.
 //! * `reader_calls`: the calls on a sheet that write no listing.
 //! * `unscored`: pairs never compared, and what follows where they are scored.
 
@@ -20,6 +21,7 @@ mod reader_calls;
 mod shared_call;
 mod sheet_call;
 mod unscored;
+mod weight_call;
 
 use parts::Parts;
 use std::process::ExitCode;
@@ -38,6 +40,7 @@ fn main() -> ExitCode {
     pool_call::run(cases, seed, &mut parts);
     number_calls::run(cases, seed, &mut parts);
     shared_call::run(cases / 75, seed, &mut parts);
+    weight_call::run(cases, seed, &mut parts);
     reader_calls::run(cases / 5, seed, &mut parts);
     unscored::run(cases / 30, seed, &mut parts);
     parts.end()

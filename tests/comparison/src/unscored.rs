@@ -8,9 +8,11 @@ use crate::number_calls::{
 };
 use crate::parts::{met, Parts};
 use crate::shared_call::Met;
+use crate::weight_call;
 use second_engine::engine::{Method, STRONG};
 use second_engine::generate::{self, Random, Share, SHARES};
 use second_engine::unscored::{check_scoring, check_tree, Groups};
+use second_engine::weighing;
 
 pub fn run(lists: usize, seed: u64, parts: &mut Parts) {
     let mut random = Random::new(seed);
@@ -48,6 +50,9 @@ fn every_call(random: &mut Random, share: Share, lists: usize) -> Result<(), Str
         let anchor = lists::entry(random, n);
         check_anchored(ANCHORED, &list, anchor, list.pairs.len())?;
         check_anchored(BACK, &list, anchor, list.pairs.len())?;
+        for side in [0, 0b11, weighing::any_set(random, n)] {
+            weight_call::check(&list, side)?;
+        }
         if n <= 5 {
             Met::default().check_all(&list)?;
         }

@@ -20,7 +20,7 @@ pub struct Tally {
 }
 
 /// The refusals have numbers below this.
-const NUMBERS: usize = 19;
+const NUMBERS: usize = 20;
 
 /// The refusals that the sheet call can give, in the order of its checks.
 pub const SHEET_REFUSALS: [usize; 13] = [1, 2, 3, 4, 5, 6, 7, 8, 9, 11, 16, 12, 14];

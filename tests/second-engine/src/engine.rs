@@ -148,7 +148,7 @@ impl<'a> Scores<'a> {
         Scores { n, pairs }
     }
 
-    fn at(self, a: usize, b: usize) -> i64 {
+    pub(crate) fn at(self, a: usize, b: usize) -> i64 {
         let (row, column) = (a.max(b), a.min(b));
         i64::from(self.pairs[pair_count(row) + column])
     }
@@ -578,12 +578,12 @@ fn check_kind(kind: i32) -> Result<(), Refusal> {
 }
 
 /// 6: n is 0 or over 32.
-fn check_entries(n: usize) -> Result<(), Refusal> {
+pub(crate) fn check_entries(n: usize) -> Result<(), Refusal> {
     refuse_if(n == 0 || n > MOST_ENTRIES, 6)
 }
 
 /// 10: the length is not n(n+1)/2.
-fn check_length(n: usize, pairs: &[i32]) -> Result<(), Refusal> {
+pub(crate) fn check_length(n: usize, pairs: &[i32]) -> Result<(), Refusal> {
     refuse_if(pairs.len() != pair_count(n), 10)
 }
 
@@ -607,7 +607,7 @@ fn check_distances(kind: i32, n: usize, pairs: &[i32]) -> Result<(), Refusal> {
 }
 
 /// What a kind asks of the values: 11, 16 unless it is kind 1, 12.
-fn check_values(kind: i32, n: usize, pairs: &[i32]) -> Result<(), Refusal> {
+pub(crate) fn check_values(kind: i32, n: usize, pairs: &[i32]) -> Result<(), Refusal> {
     check_range(pairs)?;
     if kind != STRONG {
         check_scored(pairs)?;

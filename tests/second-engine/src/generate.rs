@@ -218,7 +218,7 @@ fn add_noise(random: &mut Random, table: &mut Table, least: i64, own: bool) {
 
 /// Values of few kinds, so that many tie; negative ones; the whole range; the
 /// ends of the range.
-fn scattered(random: &mut Random, n: usize, distances: bool) -> Table {
+pub(crate) fn scattered(random: &mut Random, n: usize, distances: bool) -> Table {
     let ranges = [(0, 1), (0, 3), (0, 9), (5, 5), (0, 1_000_000)];
     let signed = [(-3, 3), (-9, -1), (-1_000_000, 1_000_000), (-40, 0)];
     let (least, most) = if distances || random.one_in(2) {

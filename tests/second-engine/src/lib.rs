@@ -3,11 +3,13 @@
 //!
 //! * `engine`: the calls, each by the definitions.
 //! * `pool`: the pool of two sheets, by the names.
+//! * `refined`: the refined weight of a split, by all quartets.
 //! * `generate`: sheets, good and damaged, from a seed.
 //! * `compare`: another engine's answers and bytes against these.
 //! * `reordering`: an engine's listings of one sheet in two orders.
 //! * `unscored`: an engine's groups of a list before and after pairs are scored.
 //! * `pooling`: an engine's pools against these, and the groups of a pool.
+//! * `weighing`: an engine's weights against these, and the weights of a list.
 //! * `selfcheck`: this engine against itself, by other routes.
 
 #![forbid(unsafe_code)]
@@ -17,6 +19,8 @@ pub mod engine;
 pub mod generate;
 pub mod pool;
 pub mod pooling;
+pub mod refined;
 pub mod reordering;
 pub mod selfcheck;
 pub mod unscored;
+pub mod weighing;

@@ -1,15 +1,18 @@
 //! This engine against itself: the two ways of finding sets, reorderings, the
 //! theorems of 003 that lead to the same listing by another route, what two
-//! entries share, unscored pairs by every filling, pools entry by entry, and
-//! refusals against sheets made to meet them.
+//! entries share, unscored pairs by every filling, pools entry by entry, weights
+//! by every choice of quartets, and refusals against sheets and lists made to meet
+//! them.
 
 use crate::compare::{Tally, SHEET_REFUSALS};
 use crate::engine::{self, Bounds, Method, Scores, Way, GREATEST, STRONG, UNSCORED};
 use crate::generate::{self, Random, Table, MARK, SHARES};
 use crate::pool::pool;
 use crate::pooling::{self, check_groups, MOST_BYTES};
+use crate::refined::weight;
 use crate::reordering::{self, read_listing, show, whole};
 use crate::unscored::{check_scoring, check_tree};
+use crate::weighing::{self, check_list, check_order, is_weighed, Found};
 use std::fmt;
 
 /// What a run went through.
@@ -40,6 +43,11 @@ pub struct Report {
     pub pools: u64,
     pub sums_refused: u64,
     pub strong_in_both: u64,
+    /// Weights by every choice of quartets, below 0, 0, and above; weights of more
+    /// entries, by the smallest one by one; what was found in all these lists.
+    pub chosen: [u64; 3],
+    pub one_by_one: u64,
+    pub weights: Found,
     pub reorderings: u64,
     pub tally: Tally,
 }
@@ -78,6 +86,11 @@ impl fmt::Display for Report {
             f,
             "pools: {}, refused for a sum: {}; groups strong in both sheets: {}",
             self.pools, self.sums_refused, self.strong_in_both,
+        )?;
+        writeln!(
+            f,
+            "weights by every choice, below 0, 0, above: {:?}; one by one: {}; {:?}",
+            self.chosen, self.one_by_one, self.weights,
         )?;
         writeln!(f, "reorderings: {}", self.reorderings)?;
         writeln!(
@@ -135,6 +148,12 @@ pub fn round(random: &mut Random, report: &mut Report) -> Result<(), String> {
         some_fillings(random, report)?;
         scored_later(random, report)?;
         pooled(random, report)?;
+    }
+    // With draws that all others make too, whatever the weights need.
+    let mut own = random.clone();
+    for _ in 0..8 {
+        every_choice(&mut own, report)?;
+        weighed(&mut own, report)?;
     }
     let n = 1 + random.below(32);
     let mut unscored = generate::scores(random, n);
@@ -451,6 +470,104 @@ fn summed(first: &Table, second: &Table) -> Option<Table> {
     Some(sum)
 }
 
+/// The scores of the quartets of a side, each by two entries of the side and two
+/// of the other.
+fn quartet_scores(n: usize, pairs: &[i32], side: u32) -> Vec<i64> {
+    let d = |a: usize, b: usize| i64::from(pairs[a.max(b) * (a.max(b) + 1) / 2 + a.min(b)]);
+    let two = |on| {
+        let entries: Vec<usize> = (0..n).filter(|a| side >> a & 1 == on).collect();
+        let all = entries
+            .iter()
+            .flat_map(|&a| entries.iter().map(move |&b| (a, b)));
+        all.filter(|(a, b)| a < b).collect::<Vec<_>>()
+    };
+    let others = two(0);
+    let scores = two(1).into_iter().flat_map(|(a, a2)| {
+        others.iter().map(move |&(b, b2)| {
+            let across = (d(a, b) + d(a2, b2)).min(d(a, b2) + d(a2, b));
+            across - (d(a, a2) + d(b, b2))
+        })
+    });
+    scores.collect()
+}
+
+/// The least sum of so many different ones of these, over every choice.
+fn least_sum(scores: &[i64], count: usize) -> Option<i64> {
+    if count == 0 {
+        return Some(0);
+    }
+    let choices = (0..scores.len()).filter_map(|first| {
+        let rest = least_sum(&scores[first + 1..], count - 1)?;
+        Some(scores[first] + rest)
+    });
+    choices.min()
+}
+
+/// Every side of a small list: its weight is the least sum of n - 3 different
+/// quartets.
+fn every_choice(random: &mut Random, report: &mut Report) -> Result<(), String> {
+    let n = 1 + random.below(6);
+    let table = generate::distances(random, n);
+    let pairs = table.pairs();
+    for side in 0..=whole(n) {
+        let wanted = match is_weighed(n, side) {
+            true => least_sum(&quartet_scores(n, &pairs, side), n - 3).ok_or(0),
+            false => Err(19),
+        };
+        let found = weight(n, &pairs, side);
+        demand(found == wanted, || {
+            format!(
+                "{side:x} has {found:?}, wanted {wanted:?}; {}",
+                show(3, &table)
+            )
+        })?;
+        if let Ok(weight) = found {
+            report.chosen[(weight.signum() + 1) as usize] += 1;
+        }
+    }
+    Ok(())
+}
+
+/// A side of a list of any size: the smallest scores are taken one by one. Then
+/// what is said of the weights of the list and of another order; and a call that
+/// is to be refused.
+fn weighed(random: &mut Random, report: &mut Report) -> Result<(), String> {
+    let n = generate::entries(random);
+    let table = generate::distances(random, n);
+    let pairs = table.pairs();
+    let weigh = |pairs: &[i32], side| {
+        weight(n, pairs, side).map_err(|number| format!("{side:x} is refused with {number}"))
+    };
+    let side = weighing::any_side(random, n, &weighing::listed(n, &pairs));
+    if is_weighed(n, side) {
+        let mut scores = quartet_scores(n, &pairs, side);
+        let mut sum = 0;
+        for _ in 0..n - 3 {
+            let least = (0..scores.len()).min_by_key(|&place| scores[place]);
+            sum += scores.swap_remove(least.expect("n - 3 quartets or more"));
+        }
+        let found = weight(n, &pairs, side);
+        demand(found == Ok(sum), || {
+            format!("{side:x} has {found:?}, wanted {sum}; {}", show(3, &table))
+        })?;
+        report.one_by_one += 1;
+        let p = generate::order(random, n);
+        check_order(weigh, &table, &p, side)?;
+    }
+    if n <= 16 {
+        let lines = read_listing(engine::listing, 3, &table)?;
+        let sides = weighing::splits(random, n, &lines);
+        let found = check_list(|side| weigh(&pairs, side), n, &lines, &sides)
+            .map_err(|message| format!("{message}; {}", show(3, &table)))?;
+        report.weights.add(found);
+    }
+    let (case, number) = weighing::flawed(random, None);
+    let found = weight(case.n, &case.pairs, case.side);
+    demand(found == Err(number), || {
+        format!("{found:?}, wanted {number}: {case:?}")
+    })
+}
+
 /// The blocks of a tree, ties broken at random, by size, then by set.
 fn blocks(
     random: &mut Random,
@@ -533,6 +650,9 @@ mod tests {
         assert!(report.pools > 250, "{report}");
         assert!(report.sums_refused > 5, "{report}");
         assert!(report.strong_in_both > 250, "{report}");
+        assert!(report.chosen.iter().all(|&count| count > 50), "{report}");
+        assert!(report.one_by_one > 200, "{report}");
+        assert!(report.weights.has_all(), "{report}");
         for number in SHEET_REFUSALS {
             assert!(report.tally.refusals[number] > 100, "{report}");
         }
