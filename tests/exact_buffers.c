@@ -11,6 +11,7 @@ int main(void)
     pools();
     numbers();
     shared();
+    weights();
     linkages();
     anchored();
     scores();

@@ -84,7 +84,8 @@ static uint32_t sets[FARZHUDYL_GROUPS_MAX];
 static int64_t indices[FARZHUDYL_GROUPS_MAX];
 static uint32_t blocks[FARZHUDYL_BLOCKS_MAX];
 static int32_t result[FARZHUDYL_PAIRS_MAX];
-static uint32_t set;
+static uint32_t set, side;
+static int64_t weight;
 static size_t start;
 static int64_t answer;
 
@@ -95,6 +96,7 @@ static void call_numbers(void)
     answer = farzhudyl_numbers(kind, n, pairs, pairs_len, sets, FARZHUDYL_GROUPS_MAX, indices, FARZHUDYL_GROUPS_MAX);
 }
 static void call_shared(void) { answer = farzhudyl_smallest_shared(kind, n, pairs, pairs_len, entry, 0, &set); }
+static void call_weight(void) { answer = farzhudyl_refined_weight(n, pairs, pairs_len, side, &weight); }
 static void call_single(void) { answer = farzhudyl_single_linkage(n, pairs, pairs_len, blocks, FARZHUDYL_BLOCKS_MAX); }
 static void call_average(void) { answer = farzhudyl_average_linkage(n, pairs, pairs_len, blocks, FARZHUDYL_BLOCKS_MAX); }
 static void call_anchored(void) { answer = farzhudyl_anchored_scores(n, entry, pairs, pairs_len, result, FARZHUDYL_PAIRS_MAX); }
@@ -128,6 +130,7 @@ static struct {
     {"farzhudyl_listing", call_listing, 0, {0, 0}},
     {"farzhudyl_numbers", call_numbers, 0, {0, 0}},
     {"farzhudyl_smallest_shared", call_shared, 0, {0, 0}},
+    {"farzhudyl_refined_weight", call_weight, 0, {0, 0}},
     {"farzhudyl_single_linkage", call_single, 0, {0, 0}},
     {"farzhudyl_average_linkage", call_average, 0, {0, 0}},
     {"farzhudyl_anchored_scores", call_anchored, 0, {0, 0}},
@@ -143,7 +146,9 @@ static size_t nothing, known;
 
 static bool refused(Call *call)
 {
-    return call == call_name ? answer == 0 : call == call_score ? answer != 0 : answer < 0;
+    if (call == call_name)
+        return answer == 0;
+    return call == call_score || call == call_weight ? answer != 0 : answer < 0;
 }
 
 /* Makes every call on the sheet and the list as they are. */
@@ -216,10 +221,12 @@ static void good(MakePairs *make, int entries)
         farzhudyl_anchored_scores(n, entry, pairs, pairs_len, anchored, FARZHUDYL_PAIRS_MAX);
         listing_len = sizeof listing;
         pool_len = sizeof pool;
+        side = UINT32_C(0x33333333) & UINT32_MAX >> (MAX_ENTRIES - n);
         measure();
         listing_len = 15;
         pool_len = 3;
         entry = n;
+        side = 1;
         measure();
     }
 }

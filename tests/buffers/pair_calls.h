@@ -1,5 +1,5 @@
-/* The calls on a pair list: numbers, the smallest group two entries share, the two linkages, anchored scores and the way back, the
-   score of two entries. */
+/* The calls on a pair list: numbers, the smallest group two entries share, the refined weight of a split, the two linkages, anchored
+   scores and the way back, the score of two entries. */
 #ifndef BUFFERS_PAIR_CALLS_H
 #define BUFFERS_PAIR_CALLS_H
 
@@ -294,6 +294,115 @@ static void shared(void)
     refused_shared(&large, 11);
     unscored_shared();
     refused_lists(refused_shared);
+}
+
+/* ---- the refined weight of a split ---- */
+
+/* One call; the weight is written to its slot in any case, on refusal as 0. */
+static void expect_weight(const List *list, uint32_t side, int32_t answer, int64_t weight)
+{
+    for (int pass = 0; pass < PASSES; pass++) {
+        int32_t *pairs = lend_list(list, pass);
+        int64_t *slot = (int64_t *)lend_room(sizeof *slot, pass);
+        int32_t given = farzhudyl_refined_weight(list->n, pairs, list->length, side, slot);
+        bool right = list_unchanged(pairs, list);
+        right = written_only(slot, sizeof *slot, &weight, sizeof weight, pass) && right;
+        report("refined weight", list->what, given, answer, right);
+    }
+}
+
+static void refused_weight(const List *list, int number)
+{
+    const uint32_t sides[] = {0, 1, 3, 0xffff, UINT32_MAX};
+    for (size_t i = 0; i < sizeof sides / sizeof sides[0]; i++)
+        expect_weight(list, sides[i], number, 0);
+}
+
+/* A split from either side. */
+static void weighed(const List *list, uint32_t side, int64_t weight)
+{
+    expect_weight(list, side, 0, weight);
+    expect_weight(list, first((int)list->n) & ~side, 0, weight);
+}
+
+/* Sides of a good list with fewer than two entries, on either side, and with a member beyond the list's entries. */
+static void wrong_sides(const List *list)
+{
+    const size_t n = list->n;
+    const uint32_t all = first((int)n);
+    expect_weight(list, 0, 19, 0);
+    expect_weight(list, all, 19, 0);
+    for (size_t a = 0; a < n; a++) {
+        expect_weight(list, UINT32_C(1) << a, 19, 0);
+        expect_weight(list, all & ~(UINT32_C(1) << a), 19, 0);
+    }
+    for (size_t a = n; a < ENTRIES; a++) {
+        expect_weight(list, UINT32_C(3) | UINT32_C(1) << a, 19, 0);
+        expect_weight(list, UINT32_MAX << a, 19, 0);
+    }
+}
+
+/* All of two values, across the split of even and odd entries, and within its sides. */
+static int far_across(int a, int b) { return (a + b) % 2 == 1 ? 1000000 : 0; }
+static int far_within(int a, int b) { return a != b && (a + b) % 2 == 0 ? 1000000 : 0; }
+
+static void weights_of_32(void)
+{
+    int32_t pairs[PAIRS];
+    const List large = {"32 entries", ENTRIES, pairs, PAIRS};
+    const int quartets = ENTRIES - 3;
+    const uint32_t odd = UINT32_C(0xaaaaaaaa);
+    /* A cut between two nodes of the ladder has at least so many quartets of 10, and none of less. */
+    put_pairs(pairs, ladder_distance);
+    for (int k = 2; k <= ENTRIES - 2; k++)
+        weighed(&large, first(k), quartets * 10);
+    wrong_sides(&large);
+    put_pairs(pairs, far_across);
+    weighed(&large, odd, quartets * INT64_C(2000000));
+    put_pairs(pairs, far_within);
+    weighed(&large, odd, quartets * INT64_C(-2000000));
+    put_pairs(pairs, zero);
+    weighed(&large, odd, 0);
+
+    ladder_but(pairs, ladder_distance, PAIRS - 2, 1000001);
+    refused_weight(&large, 11);
+    ladder_but(pairs, ladder_distance, 1, UNSCORED + 1);
+    refused_weight(&large, 11);
+    ladder_but(pairs, ladder_distance, PAIRS - 1, UNSCORED);
+    refused_weight(&large, 16);
+    ladder_but(pairs, ladder_distance, PAIRS - 2, -1);
+    refused_weight(&large, 12);
+    ladder_but(pairs, ladder_distance, PAIRS - 1, 1);
+    refused_weight(&large, 12);
+}
+
+static void weights(void)
+{
+    /* The header's example: d(0,1) = d(2,3) = 2, other distances 4. */
+    const int32_t copies[] = {0, 2, 0, 4, 4, 0, 4, 4, 2, 0};
+    const List four_copies = {"four copies", 4, copies, 10};
+    weighed(&four_copies, 0xc, 4);
+    weighed(&four_copies, 0x5, -4);
+    weighed(&four_copies, 0x9, -4);
+    wrong_sides(&four_copies);
+    /* The entry 0 twice against 2 and 3 would have 1. */
+    const int32_t twice[] = {0, 1, 0, 1, 9, 0, 1, 9, 1, 0};
+    const List no_entry_twice = {"no entry twice", 4, twice, 10};
+    weighed(&no_entry_twice, 0x3, 10 - 2);
+    /* 01|23 has 10 - 4, 01|24 has 11 - 4, 01|34 has 12 - 3. */
+    const int32_t different[] = {0, 1, 0, 5, 5, 0, 6, 5, 3, 0, 7, 6, 3, 2, 0};
+    const List two_of_three = {"two of three quartets", 5, different, 15};
+    weighed(&two_of_three, 0x3, 6 + 7);
+    for (size_t n = 1; n < 4; n++) {
+        const List fewer = {"fewer than four copies", n, copies, FARZHUDYL_PAIRS(n)};
+        wrong_sides(&fewer);
+    }
+    weights_of_32();
+    const List scores_of_four = {"worked example", 4, four_pairs, 10};
+    refused_weight(&scores_of_four, 12);
+    refused_weight(&apart_list, 16);
+    refused_weight(&unscored_one, 16);
+    refused_lists(refused_weight);
 }
 
 /* ---- linkage ---- */
