@@ -2,9 +2,10 @@
 # Compiles the header alone and every program of examples/, as C11 and as C++17. Runs each program on every sheet of examples/ and of
 # tests/examples/ under each kind, and compares what it writes with tests/examples/PROGRAM/SHEET.KIND, or with the file beside the sheet
 # (examples/SHEET.KIND for client, examples/SHEET.KIND.names for show). For shared each line of SHEET.KIND has two names and what is to be
-# written of them. pool, which takes no kind but two sheets, has cases of its own. Tries bad usage, refused sheets, input and output that
-# fail, for shared names that are not there, and for lines damaged listings. Runs the C builds under valgrind. The last line is
-# `N passed, M failed`; the exit status is 1 if anything failed.
+# written of them. pool, which takes no kind but two sheets, has cases of its own, and so has weights: tests/examples/weights/SHEET.listed
+# is what it writes of a sheet, and each line of SHEET.sides has a set and what is to be written of it. Tries bad usage, refused sheets,
+# input and output that fail, for shared names that are not there, and for lines damaged listings. Runs the C builds under valgrind. The
+# last line is `N passed, M failed`; the exit status is 1 if anything failed.
 # usage: tests/examples.sh [PREFIX]     PREFIX is where the library is installed; without it, this folder's header and library are taken
 set -u
 root=$(cd "$(dirname "$0")/.." && pwd) || exit 2
@@ -236,6 +237,57 @@ on_pool() { # FILE
     done
 }
 
+# The listed splits of a sheet, and single ones by a side.
+on_weights() { # SHEET-FILE COMMAND ..
+    local sheet=$1 files side line
+    shift
+    files=tests/examples/weights/$(basename "$sheet" .sheet)
+    expect_file "$*, $sheet" "$files.listed" weights "$@" <"$sheet"
+    if [ ! -s "$files.sides" ]; then count 1 "$files.sides has no line"; fi
+    while read -r side line; do
+        case $line in
+            refused*) echo "$line" ;;
+            *) echo "$side $line" ;;
+        esac >"$built/side"
+        expect_file "$* $side, $sheet" "$built/side" weights "$@" "$side" <"$sheet"
+    done <"$files.sides"
+}
+
+# A refused sheet to weigh, with a side and without; the sheet's checks come before the side's.
+on_refused_weights() { # NUMBER.WHAT COMMAND ..
+    local sheet=$built/refused/$1 number=${1%%.*}
+    shift
+    expect_refusal "$*, $sheet" "$number" weights "$@" <"$sheet"
+    expect_refusal "$* 00000003, $sheet" "$number" weights "$@" 00000003 <"$sheet"
+    expect_refusal "$* ffffffff, $sheet" "$number" weights "$@" ffffffff <"$sheet"
+}
+
+# All that weights is tried on.
+on_weighing() { # FILE
+    local file=$1 sheet argument way
+    local usage='usage: weights [SET] < SHEET'
+    for sheet in examples/*.sheet tests/examples/*.sheet; do on_weights "$sheet" "$file"; done
+    for sheet in "$built"/refused/*; do on_refused_weights "$(basename "$sheet")" "$file"; done
+    for argument in '' ' ' c 000000c 000000000c 0000000C 0x00000c 0000000g '0000000c ' ' 000000c' ' 0000000c' +000000c -000000c \
+        $'0000000c\n' 1ffffffff 10000000c fffffffffffffffff C D; do
+        expect "$file '$argument'" 2 /dev/null "$usage" "$file" "$argument" <examples/copies.sheet
+    done
+    expect "$file with two sets" 2 /dev/null "$usage" "$file" 0000000c 0000000c <examples/copies.sheet
+    for argument in '' 0000000c; do
+        for way in from_folder from_closed; do
+            # shellcheck disable=SC2086 # no word if it is empty
+            expect "$way $file $argument" 2 /dev/null 'weights: cannot read standard input' "$way" "$file" $argument
+        done
+        for way in to_full to_closed; do
+            for sheet in copies four; do # weights, and a refusal
+                # shellcheck disable=SC2086 # no word if it is empty
+                expect "$way $file $argument, $sheet" 2 /dev/null 'weights: cannot write standard output' "$way" "$file" $argument \
+                    <"examples/$sheet.sheet"
+            done
+        done
+    done
+}
+
 from_folder() { "$@" </; }
 from_closed() { "$@" <&-; }
 to_full() { "$@" >/dev/full; }
@@ -312,6 +364,10 @@ for language in c c++; do
             on_pool "$file"
             continue
         fi
+        if [ "$program" = weights ]; then
+            on_weighing "$file"
+            continue
+        fi
         for sheet in examples/*.sheet tests/examples/*.sheet; do
             for kind in 1 2 3; do on_sheet "$program" "$sheet" "$kind" "$file"; done
         done
@@ -340,6 +396,11 @@ for source in examples/*.c; do
         for sheet in 2.12289-bytes 9.mirrored 11.over; do on_refused_pool "$sheet" "${memory[@]}" "$file"; done
         continue
     fi
+    if [ "$program" = weights ]; then
+        for sheet in copies registers unscored; do on_weights "examples/$sheet.sheet" "${memory[@]}" "$file"; done
+        for sheet in 2.12289-bytes 9.mirrored 12.own; do on_refused_weights "$sheet" "${memory[@]}" "$file"; done
+        continue
+    fi
     set_names "$program"
     on_sheet "$program" examples/burials.sheet 1 "${memory[@]}" "$file"
     on_sheet "$program" examples/burials.sheet 2 "${memory[@]}" "$file"
@@ -351,11 +412,11 @@ done
 on_missing LONGNAMEX "${memory[@]}" "$built/c/shared"
 
 # What examples/README.md shows: each command, and the lines behind it.
-mkdir "$built/shown" && ln -s "$root/examples" "$built/c/"{shared,pool} "$built/shown" || exit 2
+mkdir "$built/shown" && ln -s "$root/examples" "$built/c/"{shared,pool,weights} "$built/shown" || exit 2
 sed -n 's/^    \$ \(\.\/.*\)/\1/p' examples/README.md >"$built/commands"
 sed -n '/^    \$ /,/^$/{/^    \$ /d;s/^    //p}' examples/README.md >"$built/wanted"
-grep -q '^\./shared ' "$built/commands" && grep -q '^\./pool ' "$built/commands" && [ -s "$built/wanted" ]
-count $? "examples/README.md shows what shared and pool write"
+[ "$(cut -d ' ' -f 1 "$built/commands" | sort -u | paste -sd ' ')" = './pool ./shared ./weights' ] && [ -s "$built/wanted" ]
+count $? "examples/README.md shows what shared, pool and weights write"
 expect "the commands of examples/README.md" 0 "$built/wanted" '' env -C "$built/shown" bash -e "$built/commands"
 
 # How lines reads a listing: each case is a listing, in which printf's escapes stand for bytes.
