@@ -274,14 +274,29 @@ wrote (in-lines {sheet} {ls = ls} l e) =
     (ap (map {B = ℕ × ℤ} (λ x. (x .set, x .index))) same ∙ lines-groups l, score-symm (pairs sheet))
 wrote (in-slots {l = l} c) = (slots-counted c .0, score-symm l)
 
--- what a call wrote is of a list that passes 11 and 16
-numbers-accepted : {kind : ℤ} {n count : ℕ} {l indices : List ℤ} {sets : List ℕ} → Counted kind n l count sets indices → Passed kind n l
-numbers-accepted {kind} {n} {l = l} (by-numbers-call {lentSets} {lentIndices = lentIndices} c z) = numbers-passed kind n l (length lentSets) (length lentIndices)
-    (not-refused (numbersRefusal kind n l (length lentSets) (length lentIndices)) (length (groupsFound kind n l)) (c .answered) z)
-numbers-accepted {kind} {n} {l = l} (by-numbers-in-C {lentSets} {lentIndices = lentIndices} c count e) =
+-- the numbers call did not refuse; so what a call wrote is of a list that passes 11 and 16
+pub record Taken (kind : ℤ) (n : ℕ) (l : List ℤ) : Type 0 where
+  pub setSlots : ℕ
+  pub indexSlots : ℕ
+  pub passed : numbersRefusal kind n l setSlots indexSlots ≡ 0
+
+pub numbers-taken : {kind : ℤ} {n count : ℕ} {l indices : List ℤ} {sets : List ℕ} → Counted kind n l count sets indices → Taken kind n l
+numbers-taken {kind} {n} {l = l} (by-numbers-call {lentSets} {lentIndices = lentIndices} c z) = record {
+  setSlots = length lentSets;
+  indexSlots = length lentIndices;
+  passed = not-refused (numbersRefusal kind n l (length lentSets) (length lentIndices)) (length (groupsFound kind n l)) (c .answered) z;
+}
+numbers-taken {kind} {n} {l = l} (by-numbers-in-C {lentSets} {lentIndices = lentIndices} c count e) =
     let k = numbersRefusal kind n l (length lentSets) (length lentIndices) in
     let (z, _) = not-refused-in-C c k (length (groupsFound kind n l)) (c .outcome .answered) e in
-    numbers-passed kind n l (length lentSets) (length lentIndices) (not-refused k (length (groupsFound kind n l)) (c .outcome .answered) z)
+    record {
+      setSlots = length lentSets;
+      indexSlots = length lentIndices;
+      passed = not-refused k (length (groupsFound kind n l)) (c .outcome .answered) z;
+    }
+
+numbers-accepted : {kind : ℤ} {n count : ℕ} {l indices : List ℤ} {sets : List ℕ} → Counted kind n l count sets indices → Passed kind n l
+numbers-accepted {kind} {n} {l = l} c = let t = numbers-taken c in numbers-passed kind n l (t .setSlots) (t .indexSlots) (t .passed)
 
 pub wrote-allowed : {kind : ℤ} {n : ℕ} {s : Similarity} {found : List (ℕ × ℤ)} → Wrote kind n s found → AllAllowed scoreLimit n s
 wrote-allowed {kind} (in-lines {sheet} l e) = let a = accepted l in passed-allowed (sheet-passed kind sheet (a .buffer) (a .passed))

@@ -10,7 +10,7 @@ use lib.Dec.{T, T-not, not-T, leb, le→leb, lit<}
 use lib.IntN.{ℤ, pos}
 use lib.ListN.{length}
 use Rattle.lists.specs.Lists.{_∈_, _lists_, all}
-use Rattle.lists.proofs.Tests.{T-true, T-false, false-T, or-first, or-second, T-or-right}
+use Rattle.lists.proofs.Tests.{or-false, T-true, T-false, false-T, or-first, or-second, T-or-right}
 use Rattle.integers.specs.Integers.{eqZ}
 use Rattle.integers.proofs.Linear.{eqZ-yes}
 use Rattle.clusters.specs.PairList.{Similarity, Symmetric, score}
@@ -53,34 +53,30 @@ use Rattle.interface.specs.Requests.{SharedAnswered, by-shared-call, by-
 use Rattle.interface.proofs.Refusals.{numbered, first-iff, passes, right-entries, Beside, beside}
 use Rattle.interface.proofs.Demands.{c-count, c-refused, wrote}
 
--- 2.1: the checks that this call and the numbers call both make, for a kind that is not 3
-unfoldable pub common : ℤ → ℕ → List ℤ → List Check
-common kind n l = check1 kind ∷ check6 n ∷ check10 n l ∷ check11 l ∷ check16Of kind l ∷ check12 kind n l ∷ []
+-- the checks of the numbers call before 13, which others make too
+unfoldable pub beforeSlots : ℤ → ℕ → List ℤ → List Check
+beforeSlots kind n l = check1 kind ∷ check6 n ∷ check10 n l ∷ check11 l ∷ check16Of kind l ∷ check12 kind n l ∷ []
 
-pub numbered-common : (kind : ℤ) (n : ℕ) (l : List ℤ) → T (numbered (common kind n l))
-unfolding common all
-numbered-common kind n l = tt
+pub numbered-before : (kind : ℤ) (n : ℕ) (l : List ℤ) → T (numbered (beforeSlots kind n l))
+unfolding beforeSlots all
+numbered-before kind n l = tt
 
-shared-common : (kind : ℤ) (n : ℕ) (l : List ℤ) (i j : ℕ) → kind ≢ pos 3 → sharedChecks kind n l i j ≡ common kind n l ++ (check15 (wrongEntries n i j) ∷ [])
-unfolding sharedChecks common wrongGroupKind
-shared-common kind n l i j d = rw (not-third, or-nothing (wrongKind kind))
+shared-before : (kind : ℤ) (n : ℕ) (l : List ℤ) (i j : ℕ) → kind ≢ pos 3 → sharedChecks kind n l i j ≡ beforeSlots kind n l ++ (check15 (wrongEntries n i j) ∷ [])
+unfolding sharedChecks beforeSlots wrongGroupKind
+shared-before kind n l i j d = rw (not-third, or-false (wrongKind kind))
   where
     not-third : eqZ kind (pos 3) ≡ false
     not-third = T-false {b = eqZ kind (pos 3)} (not-T (eqZ kind (pos 3)) (λ t. d (eqZ-yes kind (pos 3) t)))
 
-    or-nothing : (b : Bool) → b || false ≡ b
-    or-nothing true = refl
-    or-nothing false = refl
-
-pub numbers-common : (kind : ℤ) (n : ℕ) (l : List ℤ) (sets indices : ℕ) → numbersChecks kind n l sets indices ≡ common kind n l ++ (check13 n sets indices ∷ [])
-unfolding numbersChecks common
-numbers-common kind n l sets indices = refl
+pub numbers-before : (kind : ℤ) (n : ℕ) (l : List ℤ) (sets indices : ℕ) → numbersChecks kind n l sets indices ≡ beforeSlots kind n l ++ (check13 n sets indices ∷ [])
+unfolding numbersChecks beforeSlots
+numbers-before kind n l sets indices = refl
 
 third : (kind : ℤ) (n : ℕ) (l : List ℤ) (i j : ℕ) → kind ≡ pos 3 → sharedRefusal kind n l i j ≡ 1
 unfolding sharedRefusal sharedChecks firstOf wrongGroupKind wrongKind eqZ
 third kind n l i j e = ap (λ (k : ℤ). sharedRefusal k n l i j) e
 
--- behind the common checks stands 13 in the one table, 15 in the other
+-- behind the beforeSlots checks stands 13 in the one table, 15 in the other
 judged-after : {n i j numbers number : ℕ} → Beside (wrongEntries n i j) 15 numbers number → JudgedAfter n i j numbers number
 unfolding wrongEntries wrongAnchor
 judged-after {n} {i} {j} b = record {
@@ -239,10 +235,10 @@ request-2-1 kind = record {
   judged = λ d {n} {l} {i} {j} {number} c {lentSets} {sets} {lentIndices} {indices} {r} m room.
       let k = numbersRefusal kind n l (length lentSets) (length lentIndices) in
       let numbers : numberOf r ≡ k = ap numberOf (m .answered) ∙ number-answer k (length (groupsFound kind n l)) in
-      let first = numbers ∙ ap firstOf (numbers-common kind n l (length lentSets) (length lentIndices)) in
-      let second = answered c .is-number ∙ ap firstOf (shared-common kind n l i j d) in
+      let first = numbers ∙ ap firstOf (numbers-before kind n l (length lentSets) (length lentIndices)) in
+      let second = answered c .is-number ∙ ap firstOf (shared-before kind n l i j d) in
       judged-after (subst₂ (Beside (wrongEntries n i j) 15) (sym first) (sym second)
-      (beside (common kind n l) (numbered-common kind n l) 13 15 (fewSlots n (length lentSets) (length lentIndices)) (wrongEntries n i j) (lit< tt)
+      (beside (beforeSlots kind n l) (numbered-before kind n l) 13 15 (fewSlots n (length lentSets) (length lentIndices)) (wrongEntries n i j) (lit< tt)
       (λ e. room (first ∙ e))));
   smallest = λ {n} {l} {i} {j} {set} {line} c w.
       let a = found c in

@@ -1,9 +1,10 @@
 -- 2.5, the refined weight of a split, from the outcomes of the call and the theorems about quartets.
 use mathlib.Core.Path.{_≡_, refl, sym, ap, ap₂, _∙_, subst, subst₂}
 use mathlib.Core.Bool.{Bool, true, false, not, _||_}
-use mathlib.Core.Logic.{_⊎_}
+use mathlib.Core.Logic.{_⊎_, inl, inr, _≢_}
 use mathlib.Core.List.{List, [], _∷_, _++_}
 use Prim.Native.Nat.{ℕ, _+_, _-_, _^_, _<_, _≤_}
+use native.Mathlib.Decide.{decLt}
 use native.Mathlib.Omega.{arith}
 use borrow.Author.Tests.{lt-leb, le-ltb, ltb-false, leb-false, eq-eqb}
 use lib.Dec.{leb, ltb, lit<}
@@ -16,12 +17,12 @@ use Rattle.lists.proofs.Tests.{T-false, or-none, or-second, cond-elim}
 use Rattle.integers.specs.Integers.{eqZ, minZ, sumOf}
 use Rattle.integers.proofs.Linear.{zarith, +at, -at}
 use Rattle.integers.proofs.Least.{min-left, min-right, min-is}
-use Rattle.sets.specs.Sets.{has, size, complement}
-use Rattle.sets.proofs.Sets.{in-complement, size-complement, complement-lt}
+use Rattle.sets.specs.Sets.{has, _∋_, _∌_, size, complement}
+use Rattle.sets.proofs.Sets.{clash, in-complement, of-complement, size-complement, complement-lt}
 use Rattle.sets.proofs.Subsets.{fits-members, members-fit, two-size}
 use Rattle.clusters.specs.PairList.{score, rowStart, hasLength, scoresInRange, hasUnscored}
 use Rattle.clusters.specs.Groups.{splits, kindOf, index, listed, groups, writtenSet}
-use Rattle.clusters.specs.Refined.{quartets, doubledScore, refinedWeight}
+use Rattle.clusters.specs.Refined.{Quartet, quartets, doubledScore, refinedWeight, Across, Compatible}
 use Rattle.clusters.proofs.PairList.{score-symm, length-pairList}
 use Rattle.clusters.proofs.Groups.{in-groups}
 use Rattle.clusters.proofs.Quartets.{in-quartets, quartets-many}
@@ -47,10 +48,24 @@ use Rattle.interface.specs.Refusals.{
   weightChecks,
   weightRefusal,
 }
-use Rattle.interface.specs.Requests.{SideWeighed, by-weight-call, by-weight-in-C, TwoSides, WeighedAfter, Request-2-5}
+use Rattle.interface.specs.Demands.{Wrote, in-lines, in-slots}
+use Rattle.interface.specs.Requests.{
+  SideWeighed,
+  by-weight-call,
+  by-weight-in-C,
+  OnSides,
+  TwoSides,
+  SamePair,
+  Unordered,
+  WroteOf,
+  for-list,
+  for-sheet,
+  WeighedAfter,
+  Request-2-5,
+}
 use Rattle.interface.proofs.Refusals.{gives, first-no, no-more, first-iff, passes, Beside, beside}
-use Rattle.interface.proofs.Demands.{wrote, accepted}
-use Rattle.interface.proofs.Requests.{common, numbered-common, numbers-common}
+use Rattle.interface.proofs.Demands.{wrote, accepted, numbers-taken}
+use Rattle.interface.proofs.Requests.{beforeSlots, numbered-before, numbers-before}
 
 -- what was answered, by the checks and the definition
 record Answered (n : ℕ) (l : List ℤ) (A number : ℕ) (w : ℤ) : Type 0 where
@@ -96,23 +111,97 @@ right-side {n} {A} s =
     or-second (or-second (le-ltb (size n A) 2 (s .two)) (le-ltb (size n (complement n A)) 2 (omega (arith, s .rest, size-complement n A))))
     (lt-leb (2 ^ n) A (s .fits))
 
--- as the request says it
+-- as the request says it: by entries
+of-sides : (n A : ℕ) (q : Quartet) → Across n A q → OnSides n A (q .a) (q .a′) (q .b) (q .b′)
+of-sides n A q x =
+    let (ha, la, ka, ka′) = x .one-side in
+    let (hb, lb, kb, kb′) = x .other-side in
+    record { one-side = (ha, omega arith, ka, ka′, λ e. omega arith); other-side = (hb, omega arith, kb, kb′, λ e. omega arith) }
+
 two-sides : {n A : ℕ} → Sides n A → TwoSides n A
 two-sides {n} {A} s =
     let (q, m) = length-some (quartets n A) (omega (arith, quartets-many n A (s .two) (s .rest), s .two, s .rest)) in
-    record { members = fits-members n A (s .fits); some = q; across = in-quartets n A q .0 m }
+    record {
+      members = fits-members n A (s .fits);
+      a = q .a;
+      a′ = q .a′;
+      b = q .b;
+      b′ = q .b′;
+      entries = of-sides n A q (in-quartets n A q .0 m);
+    }
+
+two-members : (n A : ℕ) {i j : ℕ} → i < n → j < n → A ∋ i → A ∋ j → i ≢ j → 2 ≤ size n A
+two-members n A {i} {j} hi hj ki kj d = go (decLt i j)
+  where
+    go : Dec (i < j) → 2 ≤ size n A
+    go (yes l) = two-size n A hj l kj ki
+    go (no l) = two-size n A {i = i} {j = j} hi (omega arith) ki kj
 
 of-two-sides : {n A : ℕ} → TwoSides n A → Sides n A
 of-two-sides {n} {A} t =
-    let (ha, la, ka, ka′) = t .across .one-side in
-    let (hb, lb, kb, kb′) = t .across .other-side in
-    let others = two-size n (complement n A) hb lb (in-complement n A hb kb) (in-complement n A (omega arith) kb′) in
-    record { fits = members-fit n A (t .members); two = two-size n A ha la ka ka′; rest = omega (arith, others, size-complement n A) }
+    let (ha, ha′, ka, ka′, d) = t .entries .one-side in
+    let (hb, hb′, kb, kb′, e) = t .entries .other-side in
+    let others = two-members n (complement n A) hb hb′ (in-complement n A hb kb) (in-complement n A hb′ kb′) e in
+    record { fits = members-fit n A (t .members); two = two-members n A ha ha′ ka ka′ d; rest = omega (arith, others, size-complement n A) }
+
+-- two different numbers in falling order: there is one such order
+record Falling (i j : ℕ) : Type 0 where
+  high : ℕ
+  low : ℕ
+  falls : low < high
+  same : SamePair high low i j
+  only : (x y : ℕ) → y < x → SamePair x y i j → (x ≡ high) × (y ≡ low)
+
+falling : (i j : ℕ) → i ≢ j → Falling i j
+falling i j d = go (decLt j i)
+  where
+    go : Dec (j < i) → Falling i j
+    go (yes l) = record { high = i; low = j; falls = l; same = inl (refl, refl); only = one }
+      where
+        one : (x y : ℕ) → y < x → SamePair x y i j → (x ≡ i) × (y ≡ j)
+        one x y h (inl e) = e
+        one x y h (inr (p, q)) = absurd (omega arith)
+    go (no l) = record { high = j; low = i; falls = omega arith; same = inr (refl, refl); only = other }
+      where
+        other : (x y : ℕ) → y < x → SamePair x y i j → (x ≡ j) × (y ≡ i)
+        other x y h (inl (p, q)) = absurd (omega arith)
+        other x y h (inr e) = e
+
+-- what holds of two entries holds of them in either order
+either-order : (P : ℕ → Type 0) (x y i j : ℕ) → SamePair x y i j → P i → P j → P x × P y
+either-order P x y i j (inl (e, f)) p q = (subst P (sym e) p, subst P (sym f) q)
+either-order P x y i j (inr (e, f)) p q = (subst P (sym e) q, subst P (sym f) p)
+
+-- so different entries of either side are one quartet
+unordered : (n A a a′ b b′ : ℕ) → OnSides n A a a′ b b′ → (q : Quartet) × Unordered n A q a a′ b b′ × ((r : Quartet) → Unordered n A r a a′ b b′ → r ≡ q)
+unordered n A a a′ b b′ s =
+    let (ha, ha′, ka, ka′, d) = s .one-side in
+    let (hb, hb′, kb, kb′, e) = s .other-side in
+    let f = falling a a′ d in
+    let g = falling b b′ e in
+    let q : Quartet = record { a = f .high; a′ = f .low; b = g .high; b′ = g .low } in
+    let (hf, _) = either-order (λ i. i < n) (f .high) (f .low) a a′ (f .same) ha ha′ in
+    let (kf, kf′) = either-order (λ i. A ∋ i) (f .high) (f .low) a a′ (f .same) ka ka′ in
+    let (hg, _) = either-order (λ i. i < n) (g .high) (g .low) b b′ (g .same) hb hb′ in
+    let (kg, kg′) = either-order (λ i. A ∌ i) (g .high) (g .low) b b′ (g .same) kb kb′ in (
+      q,
+      record {
+        across = record { one-side = (hf, f .falls, kf, kf′); other-side = (hg, g .falls, kg, kg′) };
+        one-pair = f .same;
+        other-pair = g .same;
+      },
+      λ r u. equal r q
+          (f .only (r .a) (r .a′) (u .across .one-side .1) (u .one-pair))
+          (g .only (r .b) (r .b′) (u .across .other-side .1) (u .other-pair)),
+    )
+  where
+    equal : (r q : Quartet) → (r .a ≡ q .a) × (r .a′ ≡ q .a′) → (r .b ≡ q .b) × (r .b′ ≡ q .b′) → r ≡ q
+    equal r q (e, f) (g, h) = λ i. record { a = e i; a′ = f i; b = g i; b′ = h i }
 
 -- behind the checks that the numbers call makes for kind 3, 13 stands in its table, 19 here
-weight-common : (n : ℕ) (l : List ℤ) (A : ℕ) → weightRefusal n l A ≡ firstOf (common (pos 3) n l ++ (check19 n A ∷ []))
-unfolding weightRefusal weightChecks common firstOf wrongKind wrongUnscored eqZ
-weight-common n l A = refl
+weight-before : (n : ℕ) (l : List ℤ) (A : ℕ) → weightRefusal n l A ≡ firstOf (beforeSlots (pos 3) n l ++ (check19 n A ∷ []))
+unfolding weightRefusal weightChecks beforeSlots firstOf wrongKind wrongUnscored eqZ
+weight-before n l A = refl
 
 weighed-after : {n A numbers number : ℕ} → Beside (wrongSide n A) 19 numbers number → WeighedAfter n A numbers number
 weighed-after {n} {A} b = record {
@@ -125,7 +214,13 @@ weighed-after {n} {A} b = record {
     wrong true e f = e
     wrong false e f = absurd (f (two-sides (sides e)))
 
--- the checks of a sheet that is listed are those of its pair list
+-- a list that the numbers call takes for kind 3, and the list of a sheet that is listed
+list-left : (n : ℕ) (l : List ℤ) (i j A : ℕ) → numbersRefusal (pos 3) n l i j ≡ 0 → wrongSide n A ≡ false → weightRefusal n l A ≡ 0
+unfolding numbersRefusal
+list-left n l i j A z right =
+    let first = sym (ap firstOf (numbers-before (pos 3) n l i j)) ∙ z in
+    weight-before n l A ∙ beside (beforeSlots (pos 3) n l) (numbered-before (pos 3) n l) 13 19 (fewSlots n i j) (wrongSide n A) (lit< tt) (λ e. omega arith) .passed first right
+
 sheet-left : (sheet : List ℕ) (buffer : ℕ) (A : ℕ) → sheetRefusal (pos 3) sheet buffer ≡ 0 → wrongSide (entries sheet) A ≡ false
     → weightRefusal (entries sheet) (pairs sheet) A ≡ 0
 unfolding sheetRefusal sheetCallChecks weightRefusal weightChecks all pairs hasLength wrongUnscored eqZ
@@ -138,6 +233,14 @@ sheet-left sheet buffer A e right =
     (first-no (T-false {b = hasUnscored (pairs sheet)} (passes checks tt e 10 (lit< tt)))
     (first-no (T-false {b = check12 (pos 3) n (pairs sheet) .1} (passes checks tt e 11 (lit< tt)))
     (first-no right no-more)))))))
+
+taken : {n : ℕ} {l : List ℤ} {found : List (ℕ × ℤ)} → WroteOf (pos 3) n l found → (A : ℕ) → Sides n A → weightRefusal n l A ≡ 0
+taken (for-list {n} {l = l} c) A s = let t = numbers-taken c in list-left n l (t .setSlots) (t .indexSlots) A (t .passed) (right-side s)
+taken (for-sheet {sheet} l e) A s = let a = accepted l in sheet-left sheet (a .buffer) A (a .passed) (right-side s)
+
+wrote-of : {kind : ℤ} {n : ℕ} {l : List ℤ} {found : List (ℕ × ℤ)} → WroteOf kind n l found → Wrote kind n (score l) found
+wrote-of (for-list c) = in-slots c
+wrote-of (for-sheet l e) = in-lines l e
 
 -- an answer that is no refusal
 record Found (n : ℕ) (l : List ℤ) (A : ℕ) (w : ℤ) : Type 0 where
@@ -206,11 +309,24 @@ module _ (n : ℕ) (l : List ℤ) (A : ℕ) where
       )
 
 -- a difference, together with what was taken away
-back-again : (m w : ℤ) → m -ℤ w +ℤ w ≡ m
-back-again m w = omega (zarith, -at m w, +at (m -ℤ w) w)
+taken-back : (m w : ℤ) → m -ℤ w +ℤ w ≡ m
+taken-back m w = omega (zarith, -at m w, +at (m -ℤ w) w)
 
 smaller-of : (u v w : ℤ) → let s = minZ u v -ℤ w +ℤ w in (s ≤ℤ u) × (s ≤ℤ v) × ((s ≡ u) ⊎ (s ≡ v))
-smaller-of u v w = subst (λ s. (s ≤ℤ u) × (s ≤ℤ v) × ((s ≡ u) ⊎ (s ≡ v))) (sym (back-again (minZ u v) w)) (min-left u v, min-right u v, min-is u v)
+smaller-of u v w = subst (λ s. (s ≤ℤ u) × (s ≤ℤ v) × ((s ≡ u) ⊎ (s ≡ v))) (sym (taken-back (minZ u v) w)) (min-left u v, min-right u v, min-is u v)
+
+compatible : {n : ℕ} {l : List ℤ} {A C : ℕ} {w w′ : ℤ} → SideWeighed n l A 0 w → SideWeighed n l C 0 w′
+    → pos 1 ≤ℤ w → pos 1 ≤ℤ w′ → Compatible n A C
+compatible {n} {l} {A} {C} c c′ h h′ =
+    refined-never-cross n (score l) (score-symm l) A C (subst (λ w. pos 1 ≤ℤ w) (found c .weight) h) (subst (λ w. pos 1 ≤ℤ w) (found c′ .weight) h′)
+
+-- splits that do not cross
+apart : (n A C : ℕ) → Compatible n A C → (i j k m : ℕ) → i < n → j < n → k < n → m < n
+    → (A ∋ i) × (C ∋ i) → (A ∋ j) × (C ∌ j) → (A ∌ k) × (C ∋ k) → (A ∌ m) × (C ∌ m) → ⊥
+apart n A C (inl (inl s)) i j k m hi hj hk hm _ (p, q) _ _ = clash (s .all j hj p) q
+apart n A C (inl (inr s)) i j k m hi hj hk hm (p, q) _ _ _ = clash q (of-complement n C hi (s .all i hi p))
+apart n A C (inr (inl s)) i j k m hi hj hk hm _ _ _ (p, q) = clash (s .all m hm (in-complement n A hm p)) q
+apart n A C (inr (inr s)) i j k m hi hj hk hm _ _ (p, q) _ = clash q (of-complement n C hk (s .all k hk (in-complement n A hk p)))
 
 pub request-2-5 : Request-2-5
 unfolding weightRefusal numbersRefusal kindOf eqZ doubledScore
@@ -222,13 +338,13 @@ request-2-5 = record {
   judged = λ {n} {l} {A} c {lentSets} {sets} {lentIndices} {indices} {r} m room.
       let k = numbersRefusal (pos 3) n l (length lentSets) (length lentIndices) in
       let numbers : numberOf r ≡ k = ap numberOf (m .answered) ∙ number-answer k (length (groupsFound (pos 3) n l)) in
-      let first = numbers ∙ ap firstOf (numbers-common (pos 3) n l (length lentSets) (length lentIndices)) in
-      let second = answered c .is-number ∙ weight-common n l A in
+      let first = numbers ∙ ap firstOf (numbers-before (pos 3) n l (length lentSets) (length lentIndices)) in
+      let second = answered c .is-number ∙ weight-before n l A in
       weighed-after (subst₂ (Beside (wrongSide n A) 19) (sym first) (sym second)
-      (beside (common (pos 3) n l) (numbered-common (pos 3) n l) 13 19 (fewSlots n (length lentSets) (length lentIndices)) (wrongSide n A) (lit< tt)
+      (beside (beforeSlots (pos 3) n l) (numbered-before (pos 3) n l) 13 19 (fewSlots n (length lentSets) (length lentIndices)) (wrongSide n A) (lit< tt)
       (λ e. room (first ∙ e))));
-  of-sheet = λ {sheet} l {A} c t. let a = accepted l in
-      answered c .is-number ∙ sheet-left sheet (a .buffer) A (a .passed) (right-side (of-two-sides t));
+  unordered = unordered;
+  of-sides = of-sides;
   doubled = λ d q. smaller-of (d (q .a) (q .b) +ℤ d (q .a′) (q .b′)) (d (q .a) (q .b′) +ℤ d (q .a′) (q .b)) (d (q .a) (q .a′) +ℤ d (q .b) (q .b′));
   smallest = λ {n} {l} {A} c qs chosen. let f = found c in
       subst (λ w. w ≤ℤ sumOf qs (doubledScore (score l))) (sym (f .weight)) (refined-least n (score l) A qs chosen);
@@ -244,9 +360,12 @@ request-2-5 = record {
       );
   reordered = λ {n} {l} {l′} {A} p c c′ r.
       found c′ .weight ∙ refined-image n p (score l) (score l′) r (score-symm l) (score-symm l′) A ∙ sym (found c .weight);
-  never-cross = λ {n} {l} {A} {C} c c′ h h′.
-      refined-never-cross n (score l) (score-symm l) A C (subst (λ w. pos 1 ≤ℤ w) (found c .weight) h) (subst (λ w. pos 1 ≤ℤ w) (found c′ .weight) h′);
-  of-line = λ {n} {l} {A} {w} c {found = written} wr z m. let f = found c in
+  never-cross = λ c c′ h h′. compatible c c′ h h′;
+  not-all-four = λ {n} {l} {A} {C} c c′ h h′. apart n A C (compatible c c′ h h′);
+  taken = λ {n} {l} {A} c wr fits two rest. answered c .is-number ∙ taken wr A (record { fits = fits; two = two; rest = rest });
+  of-line = λ {n} {l} {A} {number} {w} c {found = written} wr fits two rest z m.
+      let s : Sides n A = record { fits = fits; two = two; rest = rest } in
+      let f = found (subst (λ (k : ℕ). SideWeighed n l A k w) (answered c .is-number ∙ taken wr A s) c) in
       subst (λ w. ((pos (n - 3) *ℤ z) ≤ℤ w) × (pos 1 ≤ℤ w)) (sym (f .weight))
-      (line-weight n l A (f .of-sides) z (subst (λ (g : List (ℕ × ℤ)). g lists (writtenSet splits n A, z)) (wrote wr .0) m));
+      (line-weight n l A s z (subst (λ (g : List (ℕ × ℤ)). g lists (writtenSet splits n A, z)) (wrote (wrote-of wr) .0) m));
 }

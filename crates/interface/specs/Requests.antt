@@ -2,13 +2,14 @@
 use mathlib.Core.Path.{_≡_}
 use mathlib.Core.Logic.{_⊎_, _≢_, _↔_}
 use mathlib.Core.List.{List, [], _∷_, _++_, map}
+use mathlib.Core.Option.{some}
 use Prim.Native.Nat.{ℕ, _+_, _-_, _*_, _/_, _^_, _<_, _≤_}
 use lib.IntN.{ℤ, pos, negℤ, _+ℤ_, _*ℤ_}
 use lib.Signed.{_≤ℤ_}
 use lib.Dec.{T}
 use lib.ListN.{length, getD, set, take, drop}
 use Rattle.lists.specs.Lists.{_∈_, _lists_}
-use Rattle.sets.specs.Sets.{_∋_, size, allEntries, complement, Subset}
+use Rattle.sets.specs.Sets.{_∋_, _∌_, size, allEntries, complement, Subset}
 use Rattle.integers.specs.Integers.{sumOf}
 use Rattle.integers.specs.Range.{Within}
 use Rattle.pairs.specs.declared.Carried.the-variants.{Scored, Unscored}
@@ -28,12 +29,13 @@ use Rattle.answers.specs.Shared.{sharedNumber, sharedSet, sharedLine}
 use Rattle.answers.specs.declared.Weighed.{Weighed}
 use Rattle.answers.specs.Weighed.{weighedNumber, weighedWeight}
 use Rattle.interface.specs.Sheet.{names, entries, value, pairs}
+use Rattle.interface.specs.Listing.{Line, listingRead}
 use Rattle.interface.specs.Refusals.{Check, none, Given, check1, check6, check10, check11, check1Groups}
 use Rattle.interface.specs.Refusals.{readerChecks, sharedChecks, sheetChecks, poolChecks, weightChecks}
 use Rattle.interface.specs.Calls.{InC, CCall, NumbersCall, LinkageCall, AnchoredCall}
 use Rattle.interface.specs.Calls.{BackCall, ReaderCall, ScoreInC, SharedCall, SharedInC, PoolCall}
-use Rattle.interface.specs.Calls.{WeightCall, WeightInC}
-use Rattle.interface.specs.Demands.{Listed, Wrote}
+use Rattle.interface.specs.Calls.{groupsOf, WeightCall, WeightInC}
+use Rattle.interface.specs.Demands.{Listed, Counted, Wrote}
 
 -- 2.1, the smallest group two entries share: the refusal's number, 0 for none, the set and the line that the call
 -- answers, here or in C
@@ -295,11 +297,36 @@ pub data SideWeighed (n : ℕ) (l : List ℤ) (A : ℕ) : (number : ℕ) (weight
   by-weight-in-C : {r weight : ℤ} → WeightInC n l A r weight
       → (number : ℕ) → r ≡ pos number → SideWeighed n l A number weight
 
--- "Both sides have at least two entries", so there is a quartet; and no member is numbered n or more
+-- "a, a' different on one side and b, b' different on the other"
+pub record OnSides (n A a a′ b b′ : ℕ) : Type 0 where
+  pub one-side : (a < n) × (a′ < n) × (A ∋ a) × (A ∋ a′) × (a ≢ a′)
+  pub other-side : (b < n) × (b′ < n) × (A ∌ b) × (A ∌ b′) × (b ≢ b′)
+
+-- "Both sides have at least two entries"; and no member is numbered n or more
 pub record TwoSides (n A : ℕ) : Type 0 where
   pub members : (i : ℕ) → A ∋ i → i < n
-  pub some : Quartet
-  pub across : Across n A some
+  pub a : ℕ
+  pub a′ : ℕ
+  pub b : ℕ
+  pub b′ : ℕ
+  pub entries : OnSides n A a a′ b b′
+
+-- the same two entries, in one order or the other
+abbrev pub SamePair : (x x′ y y′ : ℕ) → Type 0
+SamePair x x′ y y′ = ((x ≡ y) × (x′ ≡ y′)) ⊎ ((x ≡ y′) × (x′ ≡ y))
+
+-- a quartet of which only the order of its pairs is not told
+pub record Unordered (n A : ℕ) (q : Quartet) (a a′ b b′ : ℕ) : Type 0 where
+  pub across : Across n A q
+  pub one-pair : SamePair (q .a) (q .a′) a a′
+  pub other-pair : SamePair (q .b) (q .b′) b b′
+
+-- what a call wrote for the pair list l of n entries: for the list itself, or for a sheet with this list
+pub data WroteOf (kind : ℤ) : ℕ → List ℤ → List (ℕ × ℤ) → Type 0 where
+  for-list : {n count : ℕ} {l indices : List ℤ} {sets : List ℕ} → Counted kind n l count sets indices
+      → WroteOf kind n l (groupsOf count sets indices)
+  for-sheet : {sheet bytes : List ℕ} {ls : List Line} → Listed kind sheet bytes → listingRead bytes ≡ some ls
+      → WroteOf kind (entries sheet) (pairs sheet) (map (λ l. (l .set, l .index)) ls)
 
 -- "after 6, 10, 11, 16 and 12, judged as kind 3, a side with fewer than two, or a member numbered n or more, gives 19":
 -- the number given, beside that which the numbers call gives for kind 3
@@ -318,9 +345,11 @@ pub record Request-2-5 : Type 0 where
       → {lentSets sets : List ℕ} {lentIndices indices : List ℤ} {r : Answer}
       → NumbersCall (pos 3) n l lentSets lentIndices r sets indices → numberOf r ≢ 13
       → WeighedAfter n A (numberOf r) number
-  -- the pair list of a sheet whose splits were listed has a weight for each split with two entries on each side
-  pub of-sheet : {sheet bytes : List ℕ} → Listed (pos 3) sheet bytes → {A number : ℕ} {w : ℤ}
-      → SideWeighed (entries sheet) (pairs sheet) A number w → TwoSides (entries sheet) A → number ≡ 0
+  -- "all quartets aa'|bb' with a, a' different on one side and b, b' different on the other, pairs unordered": each
+  -- is one, and there is no other
+  pub unordered : (n A a a′ b b′ : ℕ) → OnSides n A a a′ b b′
+      → (q : Quartet) × Unordered n A q a a′ b b′ × ((r : Quartet) → Unordered n A r a a′ b b′ → r ≡ q)
+  pub of-sides : (n A : ℕ) (q : Quartet) → Across n A q → OnSides n A (q .a) (q .a′) (q .b) (q .b′)
   -- "A quartet's doubled score is the smaller of d(a,b) + d(a',b') and d(a,b') + d(a',b), less the sum d(a,a') +
   -- d(b,b')": together with that sum it is above neither of the two, and is one of them
   pub doubled : (d : Similarity) (q : Quartet) → let s = doubledScore d q +ℤ (d (q .a) (q .a′) +ℤ d (q .b) (q .b′)) in
@@ -338,10 +367,17 @@ pub record Request-2-5 : Type 0 where
   -- a reordering keeps the weight
   pub reordered : {n : ℕ} {l l′ : List ℤ} {A : ℕ} {w w′ : ℤ} (p : Permutation n)
       → SideWeighed n l A 0 w → SideWeighed n l′ (image n p A) 0 w′ → Reordered n p (score l) (score l′) → w′ ≡ w
-  -- "Two splits of positive weight never cross: some side of one lies within a side of the other."
+  -- "Two splits of positive weight never cross: some side of one lies within a side of the other." So each side of one
+  -- has no entry in common with some side of the other.
   pub never-cross : {n : ℕ} {l : List ℤ} {A C : ℕ} {w w′ : ℤ} → SideWeighed n l A 0 w → SideWeighed n l C 0 w′
       → pos 1 ≤ℤ w → pos 1 ≤ℤ w′ → Compatible n A C
+  pub not-all-four : {n : ℕ} {l : List ℤ} {A C : ℕ} {w w′ : ℤ} → SideWeighed n l A 0 w → SideWeighed n l C 0 w′
+      → pos 1 ≤ℤ w → pos 1 ≤ℤ w′ → (i j k m : ℕ) → i < n → j < n → k < n → m < n
+      → (A ∋ i) × (C ∋ i) → (A ∋ j) × (C ∌ j) → (A ∌ k) × (C ∋ k) → (A ∌ m) × (C ∌ m) → ⊥
+  -- what a call took for kind 3 has a weight for each split with two entries or more on each side
+  pub taken : {n : ℕ} {l : List ℤ} {A number : ℕ} {w : ℤ} → SideWeighed n l A number w
+      → {found : List (ℕ × ℤ)} → WroteOf (pos 3) n l found → A < 2 ^ n → 2 ≤ size n A → size n A + 2 ≤ n → number ≡ 0
   -- "And a kind 3 line with two or more on each side has positive weight": n − 3 times its index or more
-  pub of-line : {n : ℕ} {l : List ℤ} {A : ℕ} {w : ℤ} → SideWeighed n l A 0 w
-      → {found : List (ℕ × ℤ)} → Wrote (pos 3) n (score l) found → (z : ℤ) → found lists (writtenSet splits n A, z)
-      → ((pos (n - 3) *ℤ z) ≤ℤ w) × (pos 1 ≤ℤ w)
+  pub of-line : {n : ℕ} {l : List ℤ} {A number : ℕ} {w : ℤ} → SideWeighed n l A number w
+      → {found : List (ℕ × ℤ)} → WroteOf (pos 3) n l found → A < 2 ^ n → 2 ≤ size n A → size n A + 2 ≤ n
+      → (z : ℤ) → found lists (writtenSet splits n A, z) → ((pos (n - 3) *ℤ z) ≤ℤ w) × (pos 1 ≤ℤ w)

@@ -33,6 +33,10 @@ or-first b e = rw e
 pub or-second : {a b t : Bool} → a ≡ false → b ≡ t → a || b ≡ t
 or-second e q = rw e q
 
+pub or-false : (b : Bool) → b || false ≡ b
+or-false true = refl
+or-false false = refl
+
 pub or-T : (a b : Bool) → T (a || b) → T a ⊎ T b
 or-T true b t = inl tt
 or-T false b t = inr t

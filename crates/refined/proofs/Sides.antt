@@ -6,7 +6,7 @@ use native.Mathlib.Omega.{arith}
 use native.Mathlib.Decide.{decLt}
 use borrow.Author.Tests.{lt-ltb, le-ltb, lt-leb}
 use lib.Dec.{leb, ltb, le→leb}
-use Rattle.lists.proofs.Tests.{T-true, T-or-right}
+use Rattle.lists.proofs.Tests.{or-false, T-true, T-or-right}
 use Rattle.sets.specs.Sets.{size, complement, allEntries}
 use Rattle.sets.proofs.Sets.{size-complement}
 use Rattle.sets.proofs.Sizes.{size-wide}
@@ -26,15 +26,11 @@ by-size n A {m} few h e =
     let fits : A < 2 ^ n = omega (arith, all-entries-number n) in
     let is : m ≡ size n A = e ∙ size-wide n 32 A fits few in
     let rest = size-complement n A in
-    ap₂ _||_ (ap (λ (j : ℕ). ltb j 2) is) (others (decLt n (m + 2)) (omega arith)) ∙ sym (or-no (ltb (size n A) 2 || ltb (size n (complement n A)) 2) (lt-leb (2 ^ n) A fits))
+    ap₂ _||_ (ap (λ (j : ℕ). ltb j 2) is) (others (decLt n (m + 2)) (omega arith)) ∙ sym (none (ltb (size n A) 2 || ltb (size n (complement n A)) 2) (lt-leb (2 ^ n) A fits))
   where
     others : Dec (n < m + 2) → size n (complement n A) + m ≡ n → ltb n (m + 2) ≡ ltb (size n (complement n A)) 2
     others (yes h) q = lt-ltb n (m + 2) h ∙ sym (lt-ltb (size n (complement n A)) 2 (omega arith))
     others (no h) q = le-ltb n (m + 2) (omega arith) ∙ sym (le-ltb (size n (complement n A)) 2 (omega arith))
 
-    or-no : (b : Bool) {c : Bool} → c ≡ false → b || c ≡ b
-    or-no b e = rw e (go b)
-      where
-        go : (b : Bool) → b || false ≡ b
-        go true = refl
-        go false = refl
+    none : (b : Bool) {c : Bool} → c ≡ false → b || c ≡ b
+    none b e = rw e (or-false b)
