@@ -11,7 +11,7 @@ use Rattle.lists.specs.Lists.{each}
 use Rattle.lists.proofs.Lists.{length-each}
 use Rattle.integers.specs.Integers.{sumOf, sum}
 use Rattle.integers.proofs.Linear.{up, dn, zarith, +at}
-use Rattle.integers.proofs.Sums.{sum-cong, sum-each, sum-map, sum-swap, sum-nonneg}
+use Rattle.integers.proofs.Sums.{sum-cong, sum-each, sum-map, sum-swap, sum-nonneg, sums-opposed}
 use Rattle.integers.proofs.Smallest.{Among, among-positive}
 use Rattle.sets.specs.Sets.{members, size, complement, Disjoint}
 use Rattle.sets.proofs.Sets.{size-complement}
@@ -20,7 +20,6 @@ use Rattle.clusters.specs.PairList.{Similarity, Symmetric}
 use Rattle.clusters.specs.Indices.{pairsOf}
 use Rattle.clusters.specs.Refined.{quartet, quartets, doubledScore, refinedWeight, Compatible}
 use Rattle.clusters.proofs.Pairs.{pairs-sum, pairs-le}
-use Rattle.clusters.proofs.Stable.{sums-opposed}
 use Rattle.clusters.proofs.Quartets.{score-left, score-right, scores-opposed, quartetsOf, length-quartets, scores-sum, product-ge, split-sum}
 
 -- the pairs of an entry of P and one of Q

@@ -1,5 +1,5 @@
 -- The refined weight of a split: the least sum of n − 3 different quartets; from either side; under a reordering; beside the separation index;
--- its bounds.
+-- the bounds of its scores.
 use mathlib.Core.Path.{_≡_, sym, ap, ap₂, _∙_}
 use mathlib.Core.List.{List, map}
 use Prim.Native.Nat.{ℕ, _+_, _-_, _*_, _≤_, _<_}
@@ -16,7 +16,7 @@ use Rattle.integers.proofs.Least.{least-le}
 use Rattle.integers.proofs.Range.{within-grow, within-equal, within-sum, within-difference, within-min}
 use Rattle.integers.proofs.Running.{min-above}
 use Rattle.integers.proofs.Sums.{sum-cong, sum-swap}
-use Rattle.integers.proofs.Smallest.{smallest-same, smallest-ge, smallest-within}
+use Rattle.integers.proofs.Smallest.{smallest-same, smallest-ge}
 use Rattle.integers.proofs.Choices.{Choice, choice-least, choice-attained}
 use Rattle.sets.specs.Sets.{size, complement}
 use Rattle.clusters.specs.PairList.{Similarity, Symmetric}
@@ -167,7 +167,3 @@ module _ {k : ℕ} (d : Similarity) (b : (x y : ℕ) → Within k (d x y)) (n A 
       within-grow (omega arith) (within-equal e (within-difference
       (within-min (within-sum (b (q .a) (q .b)) (b (q .a′) (q .b′))) (within-sum (b (q .a) (q .b′)) (b (q .a′) (q .b))))
       (within-sum (b (q .a) (q .a′)) (b (q .b) (q .b′)))))
-
-  pub refined-within : Within ((n - 3) * (4 * k)) (refinedWeight n d A)
-  unfolding refinedWeight
-  refined-within = smallest-within (n - 3) (map (doubledScore d) (quartets n A)) quartets-within

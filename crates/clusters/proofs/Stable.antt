@@ -1,15 +1,14 @@
 -- Strong and clean groups are stable; two stable sets are nested or disjoint.
-use mathlib.Core.Path.{_≡_, sym, ap, ap₂, _∙_, subst, subst₂}
+use mathlib.Core.Path.{_≡_, sym, ap, ap₂, _∙_, subst}
 use mathlib.Core.Logic.{_⊎_, inl, inr}
-use mathlib.Core.List.{List}
 use Prim.Native.Nat.{ℕ, zero, suc, _+_, _-_, _*_, _^_, _≤_, _<_}
 use native.Mathlib.Omega.{arith}
 use lib.IntN.{ℤ, pos, _+ℤ_, _-ℤ_}
 use lib.Signed.{_≤ℤ_, _<ℤ_}
-use Rattle.integers.specs.Integers.{sumOf, maxZ}
+use Rattle.integers.specs.Integers.{maxZ}
 use Rattle.integers.proofs.Linear.{up, dn, zarith, +at, -at}
 use Rattle.integers.proofs.Least.{max-left, max-is}
-use Rattle.integers.proofs.Sums.{sum-cong, sum-mono, sum-add, sum-zero, sum-swap, sum-pos}
+use Rattle.integers.proofs.Sums.{sum-cong, sum-swap, sum-pos, sums-opposed}
 use Rattle.integers.proofs.Smallest.{among-positive}
 use Rattle.sets.specs.Sets.{_∋_, _∌_, members, size, _∪_, difference, Subset, Disjoint, Nested}
 use Rattle.sets.proofs.Sets.{
@@ -112,9 +111,6 @@ opposed s a b c =
     let x = maxZ (s a c) (s b c) in
     let y = maxZ (s a b) (s c b) in
     omega (zarith, max-left (s a c) (s b c), max-left (s a b) (s c b), -at (s a b) x, -at (s a c) y, +at (s a b -ℤ x) (s a c -ℤ y))
-
-pub sums-opposed : (l : List ℕ) (f g : ℕ → ℤ) → ((x : ℕ) → (f x +ℤ g x) ≤ℤ pos 0) → (sumOf l f +ℤ sumOf l g) ≤ℤ pos 0
-sums-opposed l f g h = subst₂ _≤ℤ_ (sum-add l f g) (sum-zero l) (sum-mono l (λ x. f x +ℤ g x) (λ x. pos 0) (λ x _. h x))
 
 tripleSums-opposed : (n : ℕ) (s : Similarity) (W U Z : ℕ) → (tripleSum n s W U Z +ℤ tripleSum n s W Z U) ≤ℤ pos 0
 tripleSums-opposed n s W U Z =

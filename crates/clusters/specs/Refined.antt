@@ -1,5 +1,6 @@
--- The refined weight of a split (document 02, 2.5): the refined Buneman index of Moulton and Steel (004, section 5),
--- times 2(n − 3). The split is that of a set A and the entries outside A.
+-- The refined weight of a split (document 02, 2.5). The refined Buneman index of Moulton and Steel (004, section 5) is
+-- the mean of the n − 3 smallest scores of quartets, each half of what is called the doubled score here; the weight is
+-- 2(n − 3) times that. The split is that of a set A and the entries outside A.
 use mathlib.Core.Path.{_≡_}
 use mathlib.Core.Logic.{_⊎_}
 use mathlib.Core.List.{List, map}

@@ -112,7 +112,7 @@ sum-erase U (C ∷ bs) f m = go (eqb C U) refl (sum-erase U bs f) (List·Memᴰ�
 -- of elements of any type: one summand taken out of its place; and distinct elements that are all in l, which have at most the sum of l, with no
 -- summand below 0
 module _ {ℓ} {X : Type ℓ} where
-  pub sum-rest : {x : X} {l : List X} (p : Place x l) (f : X → ℤ) → sumOf l f ≡ f x +ℤ sumOf (rest p) f
+  sum-rest : {x : X} {l : List X} (p : Place x l) (f : X → ℤ) → sumOf l f ≡ f x +ℤ sumOf (rest p) f
   unfolding sumOf
   sum-rest {x} {l} p f = end (f x) (sumOf (p .front) f) (sumOf (p .back) f) (sumOf (rest p) f) (sumOf l f)
       (ap (λ (k : List X). sumOf k f) (p .split) ∙ sum-append (p .front) (x ∷ p .back) f) (sum-append (p .front) (p .back) f)
@@ -167,3 +167,7 @@ sum-two U W bs f hu hw ne =
   where
     end : (u w r e b : ℤ) → b ≡ w +ℤ e → e ≡ u +ℤ r → b ≡ (u +ℤ w) +ℤ r
     end u w r e b p q = omega (zarith, +at w e, +at u r, +at u w, +at (u +ℤ w) r)
+
+-- two sums of which no two terms at the same place add up to more than 0
+pub sums-opposed : (l : List ℕ) (f g : ℕ → ℤ) → ((x : ℕ) → (f x +ℤ g x) ≤ℤ pos 0) → (sumOf l f +ℤ sumOf l g) ≤ℤ pos 0
+sums-opposed l f g h = subst₂ _≤ℤ_ (sum-add l f g) (sum-zero l) (sum-mono l (λ x. f x +ℤ g x) (λ x. pos 0) (λ x _. h x))

@@ -72,10 +72,10 @@ module _ {ℓ} {A : Type ℓ} where
   placed (z ∷ l) (List·Memᴰ·head e) = record { front = []; back = l; split = ap (λ (w : A). w ∷ l) (sym e) }
   placed (z ∷ l) (List·Memᴰ·tail h) = let p = placed l h in record { front = z ∷ p .front; back = p .back; split = ap (λ (m : List A). z ∷ m) (p .split) }
 
-  pub length-rest : {x : A} {l : List A} (p : Place x l) → suc (length (rest p)) ≡ length l
+  length-rest : {x : A} {l : List A} (p : Place x l) → suc (length (rest p)) ≡ length l
   length-rest {x} p = omega (arith, length-append (p .front) (p .back), length-append (p .front) (x ∷ p .back), ap length (p .split))
 
-  pub in-rest : {x : A} {l : List A} (p : Place x l) {y : A} → y ∈ l → (y ≡ x) ⊎ (y ∈ rest p)
+  in-rest : {x : A} {l : List A} (p : Place x l) {y : A} → y ∈ l → (y ≡ x) ⊎ (y ∈ rest p)
   in-rest {x} p {y} m = go (List·Memᴰ·append-cases (p .front) (subst (λ (k : List A). y ∈ k) (p .split) m))
     where
       behind : (y ≡ x) ⊎ (y ∈ p .back) → (y ≡ x) ⊎ (y ∈ rest p)
@@ -102,7 +102,7 @@ module _ {ℓ} {A : Type ℓ} where
       omega (arith, length-rest p, pigeonhole l (rest p) (d .1) (inside-rest d f p))
 
   -- lists of which no element stands twice: of two that share none, what a test keeps, the first ones
-  pub distinct-append : (l m : List A) → Distinct l → Distinct m → ((x : A) → x ∈ l → x ∈ m → ⊥) → Distinct (l ++ m)
+  distinct-append : (l m : List A) → Distinct l → Distinct m → ((x : A) → x ∈ l → x ∈ m → ⊥) → Distinct (l ++ m)
   distinct-append [] m d e f = e
   distinct-append (x ∷ l) m d e f = (λ h. go (List·Memᴰ·append-cases l h), distinct-append l m (d .1) e (λ y h k. f y (List·Memᴰ·tail h) k))
     where

@@ -27,11 +27,11 @@ unfoldable pub common : ℕ → ℕ → ℕ → ℕ
 common n A B = difference n A (difference n A B)
 
 module _ (n A B : ℕ) {i : ℕ} (h : i < n) where
-  pub in-common : A ∋ i → B ∋ i → common n A B ∋ i
+  in-common : A ∋ i → B ∋ i → common n A B ∋ i
   unfolding common
   in-common a b = in-difference n A (difference n A B) h a (not-difference n A B h b)
 
-  pub of-common : common n A B ∋ i → (A ∋ i) × (B ∋ i)
+  of-common : common n A B ∋ i → (A ∋ i) × (B ∋ i)
   unfolding common
   of-common k = let (a, d) = of-difference n A (difference n A B) h k in (a, out-difference n A B h a d)
 
