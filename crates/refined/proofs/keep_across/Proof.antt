@@ -36,7 +36,8 @@ keep-beside-requires : tie.Need-keep-beside-requires Inv-loop μ-loop
 keep-beside-requires c κs = let s = c .before .before .before .before in
     let g = s .before in
     let r = s .loop .inv .1 in
-    (g .pre .0, omega arith, omega arith, omega arith, omega (arith, r .long), kept-sorted r (sorted-beside (entry (g .args .t .now)) (g .args .n) (g .args .side) (g .args .k) (g .args .a) (g .args .a2)) (g .pre .4))
+    let rising = kept-sorted r (sorted-beside (entry (g .args .t .now)) (g .args .n) (g .args .side) (g .args .k) (g .args .a) (g .args .a2)) (g .pre .4) in
+    (g .pre .0, omega arith, omega arith, omega arith, omega (arith, r .long), rising)
 
 add-b : tie.Need-add-b Inv-loop μ-loop
 add-b c = search needs

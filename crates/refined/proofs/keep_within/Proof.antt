@@ -35,7 +35,8 @@ keep-across-requires : tie.Need-keep-across-requires Inv-loop μ-loop
 keep-across-requires c κs = let s = c .before .before .before .before in
     let g = s .before in
     let r = s .loop .inv .1 in
-    (g .pre .0, omega arith, omega arith, omega (arith, r .long), kept-sorted r (sorted-across (entry (g .args .t .now)) (g .args .n) (g .args .side) (g .args .k) (g .args .a)) (g .pre .3))
+    let rising = kept-sorted r (sorted-across (entry (g .args .t .now)) (g .args .n) (g .args .side) (g .args .k) (g .args .a)) (g .pre .3) in
+    (g .pre .0, omega arith, omega arith, omega (arith, r .long), rising)
 
 add-a2 : tie.Need-add-a2 Inv-loop μ-loop
 add-a2 c = search needs

@@ -17,7 +17,8 @@ returns c = let r = c .before .before .before in
     let f = r .before .before .before in
     let g = f .before .before in
     passed w64 (c .total .ok)
-    (c .total .ensures ∙ ap sum (r .keep-quartets .ensures) ∙ kept-weight (g .args .pairs .now) (f .fill .ensures .0) _ (g .pre .2) _ (g .pre .0) (g .pre .3) (g .pre .4) refl)
+    (c .total .ensures ∙ ap sum (r .keep-quartets .ensures)
+    ∙ kept-weight (g .args .pairs .now) (f .fill .ensures .0) _ (g .pre .2) _ (g .pre .0) (g .pre .3) (g .pre .4) refl)
 
 sub-k : tie.Need-sub-k
 sub-k c = search needs
@@ -40,7 +41,8 @@ total-requires : tie.Need-total-requires
 total-requires c κs = let r = c .before .before in
     let f = r .before .before .before in
     let g = f .before .before in
-    (omega arith, omega (arith, r .keep-quartets .kept .0), subst (Bounded (2 ^ 30)) (sym (r .keep-quartets .ensures)) (kept-within (g .args .pairs .now) (f .fill .ensures .0) _ (g .pre .2) _))
+    let small = kept-within (g .args .pairs .now) (f .fill .ensures .0) _ (g .pre .2) _ in
+    (omega arith, omega (arith, r .keep-quartets .kept .0), subst (Bounded (2 ^ 30)) (sym (r .keep-quartets .ensures)) small)
 
 pub weight-of-spec : {M : Type 1} → statement M
 weight-of-spec =
