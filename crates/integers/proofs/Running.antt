@@ -1,11 +1,14 @@
 -- A loop over the numbers below n that pass a test, as a fold; the running least and greatest.
 use mathlib.Core.Path.{_≡_, refl, sym, ap, _∙_}
 use mathlib.Core.Bool.{Bool, true, false}
-use mathlib.Core.List.{List, [], _∷_, map, foldl, foldl-append, foldl-map}
-use Prim.Native.Nat.{ℕ, _+_, _^_, _<_}
+use mathlib.Core.List.{List, [], _∷_, map, foldl, foldl-append, foldl-map, List·Memᴰ·head, List·Memᴰ·tail}
+use Prim.Native.Nat.{ℕ, zero, suc, _+_, _^_, _≤_, _<_}
+use native.Mathlib.Omega.{arith}
 use native.Mathlib.Numerals.{add-one}
 use lib.IntN.{ℤ}
 use lib.Signed.{_≤ℤ_, leZ, mag}
+use lib.ListN.{length, take, getD}
+use lib.Seq.{take-suc}
 use mir.Syntax.{w64}
 use mir.Val.{ofZ, toZ, hbits}
 use Rattle.lists.specs.Lists.{_∈_, below, each, keep}
@@ -41,10 +44,22 @@ unfolding each
 foldl-each op f z [] = refl
 foldl-each op f z (x ∷ l) = foldl-append op z (f x) (each l f) ∙ foldl-each op f (foldl op z (f x)) l
 
--- two folds that take the same steps
+-- two folds that take the same steps, on the list or on every element
+pub foldl-same : {S X : Type 0} (f g : S → X → S) (l : List X) → ((s : S) (x : X) → x ∈ l → f s x ≡ g s x) → (s : S) → foldl f s l ≡ foldl g s l
+foldl-same f g [] h s = refl
+foldl-same {S} f g (x ∷ l) h s = ap (λ (s : S). foldl f s l) (h s x (List·Memᴰ·head refl)) ∙ foldl-same f g l (λ s y m. h s y (List·Memᴰ·tail m)) (g s x)
+
 pub foldl-cong : {S X : Type 0} (f g : S → X → S) → ((s : S) (x : X) → f s x ≡ g s x) → (s : S) (l : List X) → foldl f s l ≡ foldl g s l
-foldl-cong f g h s [] = refl
-foldl-cong {S} f g h s (x ∷ l) = ap (λ (s : S). foldl f s l) (h s x) ∙ foldl-cong f g h (g s x) l
+foldl-cong f g h s l = foldl-same f g l (λ s x _. h s x) s
+
+-- a fold by places
+pub foldl-at : {S : Type 0} (f : S → ℕ → S) (l : List ℕ) (z : S) (i : ℕ) → i ≤ length l → foldl (λ z j. f z (getD l j 0)) z (below i) ≡ foldl f z (take i l)
+unfolding below
+foldl-at f l z zero h = refl
+foldl-at {S} f l z (suc i) h =
+    foldl-append (λ z j. f z (getD l j 0)) z (below i) (i ∷ [])
+    ∙ ap (λ (s : S). f s (getD l i 0)) (foldl-at f l z i (omega arith))
+    ∙ sym (ap (foldl f z) (take-suc l i 0 h) ∙ foldl-append f z (take i l) (getD l i 0 ∷ []))
 
 pub min-above : {a b c : ℤ} → c ≤ℤ a → c ≤ℤ b → c ≤ℤ minZ a b
 unfolding minZ

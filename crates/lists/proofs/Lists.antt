@@ -23,12 +23,12 @@ use mathlib.Core.List.{
 }
 use Prim.Native.Nat.{ℕ, zero, suc, _<_, _*_}
 use native.Mathlib.Omega.{arith}
-use native.Mathlib.Decide.{ℕ-discrete}
+use native.Mathlib.Decide.{ℕ-discrete, decLt}
 use lib.Dec.{T, eqb, eqb→eq, not-T}
 use lib.ListN.{length, length-append, length-map, take, getD, List·getD-append}
-use lib.Seq.{getD-at}
+use lib.Seq.{getD-at, take-append-seam, take-append-le}
 use Rattle.lists.specs.Lists.{_∈_, below, each, keep, all}
-use Rattle.lists.proofs.Tests.{and-T, T-and, eqb-yes}
+use Rattle.lists.proofs.Tests.{T-or-not, and-T, T-and, eqb-yes}
 
 pub below-lt : (n : ℕ) {i : ℕ} → i ∈ below n → i < n
 unfolding below
@@ -269,3 +269,40 @@ keep-one (suc n) c h = keep-append is (below n) (n ∷ []) ∙ go (keep-one n c)
     go : (c < n → keep is (below n) ≡ c ∷ []) → Dec (n ≡ c) → keep is (below n) ++ keep is (n ∷ []) ≡ c ∷ []
     go ih (yes e) = ap₂ _++_ (none e) (keep-yes is n [] (eqb-yes n c e)) ∙ ap (λ (x : ℕ). x ∷ []) e
     go ih (no d) = ap₂ _++_ (ih (omega arith)) (keep-no is n [] (not-T (eqb n c) (λ t. d (eqb→eq n c t))))
+
+-- the numbers below n that pass a test, one by one
+module _ (p : ℕ → Bool) (n : ℕ) where
+  pub keep-more : T (p n) → keep p (below (suc n)) ≡ keep p (below n) ++ (n ∷ [])
+  unfolding below keep
+  keep-more t = keep-append p (below n) (n ∷ []) ∙ ap (λ (l : List ℕ). keep p (below n) ++ l) (keep-yes p n [] t)
+
+  pub keep-same : T (not (p n)) → keep p (below (suc n)) ≡ keep p (below n)
+  unfolding below keep
+  keep-same t = keep-append p (below n) (n ∷ []) ∙ ap (λ (l : List ℕ). keep p (below n) ++ l) (keep-no p n [] t) ∙ append-nil (keep p (below n))
+
+pub keep-true : (l : List ℕ) → keep (λ _. true) l ≡ l
+unfolding keep
+keep-true [] = refl
+keep-true (x ∷ l) = ap (λ (m : List ℕ). x ∷ m) (keep-true l)
+
+-- those before the i-th of them are the first i
+pub keep-at : (p : ℕ → Bool) (n i : ℕ) → i < length (keep p (below n)) → keep p (below (getD (keep p (below n)) i 0)) ≡ take i (keep p (below n))
+unfolding below keep
+keep-at p zero i h = absurd (omega arith)
+keep-at p (suc n) i h = go (T-or-not (p n)) (keep-at p n i)
+  where
+    l : List ℕ
+    l = keep p (below n)
+
+    at-end : length l ≡ i → keep p (below (getD (l ++ (n ∷ [])) i 0)) ≡ take i (l ++ (n ∷ []))
+    at-end e = rw (getD-at l n [] 0 i e) (sym (ap (λ (j : ℕ). take j (l ++ (n ∷ []))) (sym e) ∙ take-append-seam l (n ∷ [])))
+
+    inner : Dec (i < length l) → i < length (l ++ (n ∷ [])) → (i < length l → keep p (below (getD l i 0)) ≡ take i l)
+        → keep p (below (getD (l ++ (n ∷ [])) i 0)) ≡ take i (l ++ (n ∷ []))
+    inner (yes k) _ ih = rw (List·getD-append l (n ∷ []) 0 i k) (ih k ∙ sym (take-append-le i l (n ∷ []) (omega arith)))
+    inner (no k) m _ = at-end (omega (arith, length-append l (n ∷ [])))
+
+    go : T (p n) ⊎ T (not (p n)) → (i < length l → keep p (below (getD l i 0)) ≡ take i l)
+        → keep p (below (getD (keep p (below (suc n))) i 0)) ≡ take i (keep p (below (suc n)))
+    go (inl t) ih = rw (keep-more p n t) (inner (decLt i (length l)) (rw (← keep-more p n t) h) ih)
+    go (inr t) ih = rw (keep-same p n t) (ih (rw (← keep-same p n t) h))

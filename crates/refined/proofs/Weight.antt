@@ -12,7 +12,7 @@ use Rattle.lists.proofs.Lists.{map-cong}
 use Rattle.integers.specs.Integers.{minZ, sum, sumOfSmallest}
 use Rattle.integers.specs.Range.{Within, Bounded}
 use Rattle.integers.proofs.Range.{within-grow, within-equal, zero-within}
-use Rattle.sets.specs.Sets.{_∋_, _∌_, size}
+use Rattle.sets.specs.Sets.{_∋_, _∌_, others, size}
 use Rattle.sets.proofs.Sets.{clash}
 use Rattle.smallest.specs.Smallest.{keepSmallest}
 use Rattle.smallest.proofs.Tops.{tops, tops-within, tops-kept}
@@ -22,12 +22,13 @@ use Rattle.clusters.proofs.Quartets.{in-quartets, quartets-fold, quartets-many}
 use Rattle.clusters.proofs.Refined.{quartets-within}
 use Rattle.matrix.proofs.Scores.{score-within}
 use Rattle.links.specs.Table.{entry, Holds, OwnKept}
-use Rattle.refined.specs.Kept.{DistanceTable, keepBeside, keepAcross, keepWithin, keepQuartets}
+use Rattle.refined.specs.Kept.{DistanceTable, keepQuartets}
+use Rattle.refined.proofs.Outside.{loops}
 
 -- the loops take the quartets in their order
-quartets-kept : (d : Similarity) (n A k : ℕ) (l : List ℤ) → keepQuartets d n A k l ≡ foldl (keepSmallest k) l (map (doubledScore d) (quartets n A))
-unfolding keepQuartets keepWithin keepAcross keepBeside
-quartets-kept d n A k l = sym (foldl-map (doubledScore d) (keepSmallest k) (quartets n A) l ∙ quartets-fold n A (λ l q. keepSmallest k l (doubledScore d q)) l)
+quartets-kept : (d : Similarity) (n A k : ℕ) (l : List ℤ) → keepQuartets d n A k (others n A) l ≡ foldl (keepSmallest k) l (map (doubledScore d) (quartets n A))
+quartets-kept d n A k l = loops d n A k l
+    ∙ sym (foldl-map (doubledScore d) (keepSmallest k) (quartets n A) l ∙ quartets-fold n A (λ l q. keepSmallest k l (doubledScore d q)) l)
 
 -- a table with the scores of any two different entries has the doubled score of any quartet
 module _ {n : ℕ} (l : List ℤ) {t : List ℤ} (h : Holds n (score l) t) (A : ℕ) where
@@ -49,7 +50,7 @@ module _ {n : ℕ} (l : List ℤ) {t : List ℤ} (h : Holds n (score l) t) (A : 
   same-scores : map (doubledScore (entry t)) (quartets n A) ≡ map (doubledScore (score l)) (quartets n A)
   same-scores = map-cong (doubledScore (entry t)) (doubledScore (score l)) (quartets n A) (λ q m. same-score q (in-quartets n A q .0 m))
 
-  module _ (s : Bounded (2 ^ 22) l) (k : ℕ) where
+  module _ (s : Bounded (2 ^ 22) l) (k : ℕ) {outside : List ℕ} (o : outside ≡ others n A) where
     scores : List ℤ
     scores = map (doubledScore (score l)) (quartets n A)
 
@@ -57,14 +58,15 @@ module _ {n : ℕ} (l : List ℤ) {t : List ℤ} (h : Holds n (score l) t) (A : 
     unfolding scores
     small z m = within-grow (lit≤ tt) (quartets-within (score l) (score-within s) n A z m)
 
-    kept-are : keepQuartets (entry t) n A k (tops k) ≡ foldl (keepSmallest k) (tops k) scores
+    kept-are : keepQuartets (entry t) n A k outside (tops k) ≡ foldl (keepSmallest k) (tops k) scores
     unfolding scores
-    kept-are = quartets-kept (entry t) n A k (tops k) ∙ ap (foldl (keepSmallest k) (tops k)) same-scores
+    kept-are = ap (λ (m : List ℕ). keepQuartets (entry t) n A k m (tops k)) o ∙ quartets-kept (entry t) n A k (tops k)
+        ∙ ap (foldl (keepSmallest k) (tops k)) same-scores
 
-    pub kept-within : Bounded (2 ^ 30) (keepQuartets (entry t) n A k (tops k))
+    pub kept-within : Bounded (2 ^ 30) (keepQuartets (entry t) n A k outside (tops k))
     kept-within = subst (Bounded (2 ^ 30)) (sym kept-are) (tops-within scores small k)
 
-    pub kept-weight : n ≤ 32 → 2 ≤ size n A → size n A + 2 ≤ n → k ≡ n - 3 → sum (keepQuartets (entry t) n A k (tops k)) ≡ refinedWeight n (score l) A
+    pub kept-weight : n ≤ 32 → 2 ≤ size n A → size n A + 2 ≤ n → k ≡ n - 3 → sum (keepQuartets (entry t) n A k outside (tops k)) ≡ refinedWeight n (score l) A
     unfolding refinedWeight scores
     kept-weight few two rest e =
         let many = quartets-many n A two rest in

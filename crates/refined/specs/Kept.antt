@@ -4,9 +4,10 @@ use mathlib.Core.Path.{_≡_}
 use mathlib.Core.List.{List, foldl}
 use Prim.Native.Nat.{ℕ, _^_, _≤_, _<_}
 use lib.IntN.{ℤ}
-use lib.ListN.{length}
+use lib.ListN.{length, getD}
+use Rattle.lists.specs.Lists.{below}
 use Rattle.integers.specs.Range.{Within}
-use Rattle.sets.specs.Sets.{members, others}
+use Rattle.sets.specs.Sets.{members}
 use Rattle.smallest.specs.Smallest.{keepSmallest}
 use Rattle.clusters.specs.PairList.{Similarity}
 use Rattle.clusters.specs.Refined.{quartet, doubledScore}
@@ -18,17 +19,21 @@ pub record DistanceTable (n : ℕ) (t : List ℤ) : Type 0 where
   pub size : length t ≡ 1024
   pub small : (a b : ℕ) → a < n → b < n → Within (2 ^ 22) (entry t a b)
 
--- the k smallest of the numbers kept and the doubled scores of the quartets aa'|bb': b' outside A before b; b outside
--- A; a' in A before a; a in A
-unfoldable pub keepBeside : Similarity → ℕ → ℕ → ℕ → ℕ → ℕ → List ℤ → List ℤ
-keepBeside d A k a a′ b kept =
-    foldl (λ l b′. keepSmallest k l (doubledScore d (quartet (a, a′) (b, b′)))) kept (others b A)
+-- a list of entries
+abbrev pub Below : ℕ → List ℕ → Type 0
+Below n l = (i : ℕ) → i < length l → getD l i 0 < n
 
-unfoldable pub keepAcross : Similarity → ℕ → ℕ → ℕ → ℕ → ℕ → List ℤ → List ℤ
-keepAcross d n A k a a′ kept = foldl (λ l b. keepBeside d A k a a′ b l) kept (others n A)
+-- the k smallest of the numbers kept and the doubled scores of the quartets aa'|bb', with the entries outside A in a
+-- list: b' before b, which is the i-th; b any of them; a' in A before a; a in A
+unfoldable pub keepBeside : Similarity → ℕ → ℕ → ℕ → List ℕ → ℕ → List ℤ → List ℤ
+keepBeside d k a a′ outside i kept =
+    foldl (λ l j. keepSmallest k l (doubledScore d (quartet (a, a′) (getD outside i 0, getD outside j 0)))) kept (below i)
 
-unfoldable pub keepWithin : Similarity → ℕ → ℕ → ℕ → ℕ → List ℤ → List ℤ
-keepWithin d n A k a kept = foldl (λ l a′. keepAcross d n A k a a′ l) kept (members a A)
+unfoldable pub keepAcross : Similarity → ℕ → ℕ → ℕ → List ℕ → List ℤ → List ℤ
+keepAcross d k a a′ outside kept = foldl (λ l i. keepBeside d k a a′ outside i l) kept (below (length outside))
 
-unfoldable pub keepQuartets : Similarity → ℕ → ℕ → ℕ → List ℤ → List ℤ
-keepQuartets d n A k kept = foldl (λ l a. keepWithin d n A k a l) kept (members n A)
+unfoldable pub keepWithin : Similarity → ℕ → ℕ → List ℕ → ℕ → List ℤ → List ℤ
+keepWithin d A k outside a kept = foldl (λ l a′. keepAcross d k a a′ outside l) kept (members a A)
+
+unfoldable pub keepQuartets : Similarity → ℕ → ℕ → ℕ → List ℕ → List ℤ → List ℤ
+keepQuartets d n A k outside kept = foldl (λ l a. keepWithin d A k outside a l) kept (members n A)

@@ -4,13 +4,13 @@ ghost use Prim.Native.Nat.{_+_, _^_, _<_, _≤_};
 ghost use lib.ListN.{length, take};
 ghost use Rattle.integers.specs.Integers.{Sorted};
 ghost use Rattle.integers.specs.Range.{Bounded};
-ghost use Rattle.sets.specs.Sets.{size};
+ghost use Rattle.sets.specs.Sets.{others, size};
 ghost use Rattle.clusters.specs.PairList.{rowStart, score};
 ghost use Rattle.clusters.specs.Refined.{quartet, doubledScore, refinedWeight};
 ghost use Rattle.interface.specs.Refusals.{wrongSide, weightRefusal};
 ghost use Rattle.interface.specs.Calls.{WeightCall};
 ghost use Rattle.links.specs.Table.{entry};
-ghost use Rattle.refined.specs.Kept.{DistanceTable, keepBeside, keepAcross, keepWithin, keepQuartets};
+ghost use Rattle.refined.specs.Kept.{DistanceTable, Below, keepBeside, keepAcross, keepWithin, keepQuartets};
 use answers::Weighed;
 
 // Beyond every doubled score.
@@ -53,73 +53,112 @@ fn doubled_score(t: &[i64; 1024], n: usize, a: usize, a2: usize, b: usize, b2: u
     integers::difference(integers::smaller(straight, crossed), within)
 }
 
-// Keeps the k smallest, with the doubled scores of the quartets of a, a2, b and each entry outside the side before b.
+// Entries, rising: the first `count` of the list.
+pub struct Entries {
+    pub list: [usize; 32],
+    pub count: usize,
+}
+
+// The entries outside the side.
+fn outside_of(n: usize, side: u32) -> Entries
+    requires { ⌜ n ≤ 32 ⌝ }
+    ensures { λ r. ⌜ (r .count ≡ length (others n side)) × (take (r .count) (r .list) ≡ others n side) ⌝ }
+{
+    let mut list = [0usize; 32];
+    let mut count = 0;
+    for b in 0..n {
+        if sets::has(side, b) {
+            continue;
+        }
+        list[count] = b;
+        count += 1;
+    }
+    Entries { list, count }
+}
+
+// Keeps the k smallest, with the doubled scores of the quartets of a, a2, the i-th entry outside the side and each of
+// those before it.
 fn keep_beside(
     kept: &mut [i64],
     k: usize,
     t: &[i64; 1024],
     n: usize,
-    side: u32,
+    outside: &[usize],
     a: usize,
     a2: usize,
-    b: usize,
+    i: usize,
 )
-    requires { ⌜ DistanceTable n (now t) × (a < n) × (a2 < n) × (b < n)
+    requires { ⌜ DistanceTable n (now t) × (a < n) × (a2 < n) × Below n (now outside) × (i < length (now outside))
         × (k < length (now kept)) × Sorted (take k (now kept)) ⌝ }
     ensures { λ _. ⌜ take k (now (kept .exit)) ≡
-        keepBeside (entry (now (t .entry))) side k a a2 b (take k (now (kept .entry))) ⌝ }
+        keepBeside (entry (now (t .entry))) k a a2 (now (outside .entry)) i (take k (now (kept .entry))) ⌝ }
 {
-    for b2 in 0..b {
-        if !sets::has(side, b2) {
-            smallest::keep_smallest(kept, k, doubled_score(t, n, a, a2, b, b2));
-        }
+    let b = outside[i];
+    for j in 0..i {
+        let b2 = outside[j];
+        smallest::keep_smallest(kept, k, doubled_score(t, n, a, a2, b, b2));
     }
 }
 
-// The same for each b outside the side.
+// The same for each entry outside the side.
 fn keep_across(
     kept: &mut [i64],
     k: usize,
     t: &[i64; 1024],
     n: usize,
-    side: u32,
+    outside: &[usize],
     a: usize,
     a2: usize,
 )
-    requires { ⌜ DistanceTable n (now t) × (a < n) × (a2 < n)
+    requires { ⌜ DistanceTable n (now t) × (a < n) × (a2 < n) × Below n (now outside)
         × (k < length (now kept)) × Sorted (take k (now kept)) ⌝ }
     ensures { λ _. ⌜ take k (now (kept .exit)) ≡
-        keepAcross (entry (now (t .entry))) n side k a a2 (take k (now (kept .entry))) ⌝ }
+        keepAcross (entry (now (t .entry))) k a a2 (now (outside .entry)) (take k (now (kept .entry))) ⌝ }
 {
-    for b in 0..n {
-        if !sets::has(side, b) {
-            keep_beside(kept, k, t, n, side, a, a2, b);
-        }
+    for i in 0..outside.len() {
+        keep_beside(kept, k, t, n, outside, a, a2, i);
     }
 }
 
 // The same for each a2 of the side before a.
-fn keep_within(kept: &mut [i64], k: usize, t: &[i64; 1024], n: usize, side: u32, a: usize)
-    requires { ⌜ DistanceTable n (now t) × (a < n) × (k < length (now kept)) × Sorted (take k (now kept)) ⌝ }
+fn keep_within(
+    kept: &mut [i64],
+    k: usize,
+    t: &[i64; 1024],
+    n: usize,
+    side: u32,
+    outside: &[usize],
+    a: usize,
+)
+    requires { ⌜ DistanceTable n (now t) × (a < n) × Below n (now outside)
+        × (k < length (now kept)) × Sorted (take k (now kept)) ⌝ }
     ensures { λ _. ⌜ take k (now (kept .exit)) ≡
-        keepWithin (entry (now (t .entry))) n side k a (take k (now (kept .entry))) ⌝ }
+        keepWithin (entry (now (t .entry))) side k (now (outside .entry)) a (take k (now (kept .entry))) ⌝ }
 {
     for a2 in 0..a {
         if sets::has(side, a2) {
-            keep_across(kept, k, t, n, side, a, a2);
+            keep_across(kept, k, t, n, outside, a, a2);
         }
     }
 }
 
 // The same for each a of the side.
-fn keep_quartets(kept: &mut [i64], k: usize, t: &[i64; 1024], n: usize, side: u32)
-    requires { ⌜ DistanceTable n (now t) × (k < length (now kept)) × Sorted (take k (now kept)) ⌝ }
+fn keep_quartets(
+    kept: &mut [i64],
+    k: usize,
+    t: &[i64; 1024],
+    n: usize,
+    side: u32,
+    outside: &[usize],
+)
+    requires { ⌜ DistanceTable n (now t) × Below n (now outside)
+        × (k < length (now kept)) × Sorted (take k (now kept)) ⌝ }
     ensures { λ _. ⌜ take k (now (kept .exit)) ≡
-        keepQuartets (entry (now (t .entry))) n side k (take k (now (kept .entry))) ⌝ }
+        keepQuartets (entry (now (t .entry))) n side k (now (outside .entry)) (take k (now (kept .entry))) ⌝ }
 {
     for a in 0..n {
         if sets::has(side, a) {
-            keep_within(kept, k, t, n, side, a);
+            keep_within(kept, k, t, n, side, outside, a);
         }
     }
 }
@@ -133,8 +172,11 @@ fn weight_of(n: usize, pairs: &[i32], side: u32) -> i64
     let k = n - 3;
     let mut table = [0i64; 1024];
     links::fill(pairs, n, &mut table);
+    let found = outside_of(n, side);
+    let count = found.count;
+    let list = found.list;
     let mut kept = [BEYOND; 32];
-    keep_quartets(&mut kept, k, &table, n, side);
+    keep_quartets(&mut kept, k, &table, n, side, &list[..count]);
     smallest::total(&kept, k)
 }
 

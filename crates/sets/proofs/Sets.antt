@@ -2,7 +2,7 @@
 use mathlib.Core.Path.{_≡_, refl, sym, ap, _∙_, subst}
 use mathlib.Core.Bool.{Bool, true, false, not, cond, _&&_, Bool·not-not}
 use mathlib.Core.Logic.{_⊎_, inl, inr, _≢_}
-use mathlib.Core.List.{[], _∷_, _++_, append-nil}
+use mathlib.Core.List.{[], _∷_, _++_}
 use Prim.Native.Nat.{ℕ, zero, suc, _+_, _*_, _/_, _%_, _^_, _≤_, _<_, max, min}
 use native.Mathlib.Nat.{div-one, div-self, zero-div, div-div-eq-div-mul, pow-succ'}
 use native.Mathlib.Decide.{ℕ-discrete}
@@ -13,7 +13,7 @@ use lib.Dec.{T, eqb, eqb→eq, T-not}
 use lib.ListN.{length, length-append}
 use Rattle.lists.specs.Lists.{_∈_, below, keep, Distinct}
 use Rattle.lists.proofs.Tests.{and-T, T-and}
-use Rattle.lists.proofs.Lists.{below-lt, lt-below, in-keep, of-keep, keep-yes, keep-no, keep-append, keep-cong, some-length, length-some}
+use Rattle.lists.proofs.Lists.{keep-more, keep-same, below-lt, lt-below, in-keep, of-keep, keep-yes, keep-no, keep-append, keep-cong, some-length, length-some}
 use Rattle.lists.proofs.Distinct.{distinct-keep, distinct-below}
 use Rattle.sets.specs.Sets.{has, _∋_, _∌_, members, others, size, _∪_, mask, complement, difference, Subset}
 
@@ -323,12 +323,12 @@ size-single n i = at n .0
 
 -- the members below n + 1, with n in A and without
 pub members-with : (n A : ℕ) → A ∋ n → members (suc n) A ≡ members n A ++ (n ∷ [])
-unfolding members below keep
-members-with n A k = keep-append (has A) (below n) (n ∷ []) ∙ ap (λ l. members n A ++ l) (keep-yes (has A) n [] (yes-has A n k))
+unfolding members
+members-with n A k = keep-more (has A) n (yes-has A n k)
 
 pub members-without : (n A : ℕ) → A ∌ n → members (suc n) A ≡ members n A
-unfolding members below keep
-members-without n A k = keep-append (has A) (below n) (n ∷ []) ∙ ap (λ l. members n A ++ l) (keep-no (has A) n [] (no-has A n k)) ∙ append-nil (members n A)
+unfolding members
+members-without n A k = keep-same (has A) n (no-has A n k)
 
 pub subset-antisymm : (n A B : ℕ) → A < 2 ^ n → B < 2 ^ n → Subset n A B → Subset n B A → A ≡ B
 subset-antisymm n A B ha hb p q = go (ℕ-discrete A B)

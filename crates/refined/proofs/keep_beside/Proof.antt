@@ -1,14 +1,16 @@
-use mathlib.Core.Path.{sym, ap, _∙_}
-use mathlib.Core.Bool.{not}
-use mathlib.Core.Logic.{⊎-elim}
+use mathlib.Core.Path.{refl, ap, _∙_}
+use mathlib.Core.Bool.{true}
+use mathlib.Core.List.{foldl}
 use Prim.Native.Nat.{_-_, _≤_}
 use native.Mathlib.Omega.{arith}
 use borrow.Author.Needs.{needs}
+use lib.ListN.{getD}
 use mir.Syntax.{w64}
+use Rattle.lists.specs.Lists.{below}
+use Rattle.lists.proofs.Lists.{keep-true}
 use Rattle.integers.proofs.Held.{passed}
-use Rattle.sets.specs.Sets.{has, others}
 use Rattle.smallest.specs.Smallest.{keepSmallest}
-use Rattle.smallest.proofs.Kept.{Kept, kept-start, kept-yes, kept-no, kept-sorted, kept-end}
+use Rattle.smallest.proofs.Kept.{Kept, kept-start, kept-yes, kept-sorted, kept-end}
 use Rattle.smallest.proofs.Rising.{sorted-kept}
 use Rattle.clusters.specs.Refined.{quartet, doubledScore}
 use Rattle.links.specs.Table.{entry}
@@ -17,41 +19,44 @@ use Rattle.refined.proofs.keep_beside.Statement.{statement}
 use Rattle.refined.proofs.keep_beside.Tie as tie
 
 abbrev Inv-loop : tie.InvT-loop
-Inv-loop kept₀ k t n side a a2 b b2₀ kept b2 = (b2 ≤ b)
-    × Kept (λ l y. keepSmallest k l (doubledScore (entry t) (quartet (a, a2) (b, y)))) (λ y. not (has side y)) k kept₀ b2 kept
+Inv-loop kept₀ k t n outside a a2 i b j₀ kept j = (j ≤ i)
+    × Kept (λ l j. keepSmallest k l (doubledScore (entry t) (quartet (a, a2) (getD outside i 0, getD outside j 0)))) (λ _. true) k kept₀ j kept
 
 abbrev μ-loop : tie.MeasureT-loop
-μ-loop kept₀ k t n side a a2 b b2₀ kept b2 = b - b2
+μ-loop kept₀ k t n outside a a2 i b j₀ kept j = i - j
 
 loop-again : tie.Need-loop-again Inv-loop μ-loop
-loop-again c = let s = c .before .before .before in
-    let t = ap not (c .before .has .ensures) in
-    ⊎-elim
-    (λ w. (
-      omega arith,
-      kept-yes (s .loop .inv .1) (sym t ∙ w .0 .taken) (w .5) (w .3 .kept .0) (w .3 .ensures ∙ ap (keepSmallest _ _) (passed w64 (w .2 .ok) (w .2 .ensures))),
-    ))
-    (λ w. (omega arith, kept-no (s .loop .inv .1) (sym t ∙ w .0 .left) (w .1)))
-    (c .if1 .came)
+loop-again c = let p = c .before in let d = p .before in let s = d .before .before .before .before in
+    (omega arith, kept-yes (s .loop .inv .1) refl refl (p .keep-smallest .kept .0) (p .keep-smallest .ensures ∙ ap (keepSmallest _ _) (passed w64 (d .doubled-score .ok) (d .doubled-score .ensures))))
+
+mul-b : tie.Need-mul-b Inv-loop μ-loop
+mul-b c = search needs
+
+shared-slice-read-b : tie.Need-shared-slice-read-b Inv-loop μ-loop
+shared-slice-read-b c = search needs
 
 loop-holds : tie.Need-loop-holds Inv-loop μ-loop
 loop-holds c = (omega arith, kept-start)
 
-has-requires : tie.Need-has-requires Inv-loop μ-loop
-has-requires c κs = omega (arith, c .before .before .pre .0 .few)
+mul-b2 : tie.Need-mul-b2 Inv-loop μ-loop
+mul-b2 c = search needs
+
+shared-slice-read-b2 : tie.Need-shared-slice-read-b2 Inv-loop μ-loop
+shared-slice-read-b2 c = omega arith
 
 doubled-score-requires : tie.Need-doubled-score-requires Inv-loop μ-loop
-doubled-score-requires c κs = let g = c .before .before .before .before .before in
-    (g .pre .0, omega arith, omega arith, omega arith, omega arith)
+doubled-score-requires c κs = let s = c .before .before .before in
+    let g = s .before .before .before in
+    (g .pre .0, g .pre .1, g .pre .2, g .pre .3 (g .args .i) (g .pre .4), g .pre .3 (s .loop .j) (omega arith))
 
 keep-smallest-requires : tie.Need-keep-smallest-requires Inv-loop μ-loop
-keep-smallest-requires c κs = let s = c .before .before .before .before .before in
-    let g = s .before in
+keep-smallest-requires c κs = let s = c .before .before .before .before in
+    let g = s .before .before .before in
     let r = s .loop .inv .1 in
-    (omega (arith, r .long), kept-sorted r (λ l y. sorted-kept (g .args .k) l _) (g .pre .5))
+    (omega (arith, r .long, g .pre .5), kept-sorted r (λ l y. sorted-kept (g .args .k) l _) (g .pre .6))
 
-add-b2 : tie.Need-add-b2 Inv-loop μ-loop
-add-b2 c = search needs
+add-j : tie.Need-add-j Inv-loop μ-loop
+add-j c = search needs
 
 loop-less : tie.Need-loop-less Inv-loop μ-loop
 loop-less c = search needs
@@ -60,8 +65,9 @@ same-length : tie.Need-same-length Inv-loop μ-loop
 same-length c = c .before .loop .inv .1 .long
 
 returns : tie.Need-returns Inv-loop μ-loop
-unfolding keepBeside others
-returns c = kept-end (c .before .loop .inv .1) (omega arith)
+unfolding keepBeside
+returns c = let s = c .before in let a = s .before .before .before .args in
+    kept-end (s .loop .inv .1) (omega arith) ∙ ap (foldl _ _) (keep-true (below (a .i)))
 
 pub keep-beside-spec : {M : Type 1} → statement M
 keep-beside-spec =
@@ -69,11 +75,14 @@ keep-beside-spec =
     (tie.spec
     Inv-loop
     μ-loop
+    mul-b
+    shared-slice-read-b
     loop-holds
-    has-requires
+    mul-b2
+    shared-slice-read-b2
     doubled-score-requires
     keep-smallest-requires
-    add-b2
+    add-j
     loop-less
     loop-again
     same-length

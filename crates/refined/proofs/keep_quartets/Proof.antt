@@ -12,10 +12,10 @@ use Rattle.refined.proofs.keep_quartets.Statement.{statement}
 use Rattle.refined.proofs.keep_quartets.Tie as tie
 
 abbrev Inv-loop : tie.InvT-loop
-Inv-loop kept₀ k t n side a₀ kept a = (a ≤ n) × Kept (λ l y. keepWithin (entry t) n side k y l) (has side) k kept₀ a kept
+Inv-loop kept₀ k t n side outside a₀ kept a = (a ≤ n) × Kept (λ l y. keepWithin (entry t) side k outside y l) (has side) k kept₀ a kept
 
 abbrev μ-loop : tie.MeasureT-loop
-μ-loop kept₀ k t n side a₀ kept a = n - a
+μ-loop kept₀ k t n side outside a₀ kept a = n - a
 
 loop-again : tie.Need-loop-again Inv-loop μ-loop
 loop-again c = let s = c .before .before .before in
@@ -29,13 +29,13 @@ loop-holds : tie.Need-loop-holds Inv-loop μ-loop
 loop-holds c = (omega arith, kept-start)
 
 has-requires : tie.Need-has-requires Inv-loop μ-loop
-has-requires c κs = omega (arith, c .before .before .pre .0 .few)
+has-requires c κs = omega (arith, c .before .before .before .pre .0 .few)
 
 keep-within-requires : tie.Need-keep-within-requires Inv-loop μ-loop
 keep-within-requires c κs = let s = c .before .before .before .before in
-    let g = s .before in
+    let g = s .before .before in
     let r = s .loop .inv .1 in
-    (g .pre .0, omega arith, omega (arith, r .long), kept-sorted r (sorted-within (entry (g .args .t .now)) (g .args .n) (g .args .side) (g .args .k)) (g .pre .2))
+    (g .pre .0, omega arith, g .pre .1, omega (arith, r .long, g .pre .2), kept-sorted r (sorted-within (entry (g .args .t .now)) (g .args .k) (g .args .outside .now) (g .args .side)) (g .pre .3))
 
 add-a : tie.Need-add-a Inv-loop μ-loop
 add-a c = search needs

@@ -12,10 +12,10 @@ use Rattle.refined.proofs.keep_within.Statement.{statement}
 use Rattle.refined.proofs.keep_within.Tie as tie
 
 abbrev Inv-loop : tie.InvT-loop
-Inv-loop kept₀ k t n side a a2₀ kept a2 = (a2 ≤ a) × Kept (λ l y. keepAcross (entry t) n side k a y l) (has side) k kept₀ a2 kept
+Inv-loop kept₀ k t n side outside a a2₀ kept a2 = (a2 ≤ a) × Kept (λ l y. keepAcross (entry t) k a y outside l) (has side) k kept₀ a2 kept
 
 abbrev μ-loop : tie.MeasureT-loop
-μ-loop kept₀ k t n side a a2₀ kept a2 = a - a2
+μ-loop kept₀ k t n side outside a a2₀ kept a2 = a - a2
 
 loop-again : tie.Need-loop-again Inv-loop μ-loop
 loop-again c = let s = c .before .before .before in
@@ -29,14 +29,14 @@ loop-holds : tie.Need-loop-holds Inv-loop μ-loop
 loop-holds c = (omega arith, kept-start)
 
 has-requires : tie.Need-has-requires Inv-loop μ-loop
-has-requires c κs = omega (arith, c .before .before .pre .0 .few)
+has-requires c κs = omega (arith, c .before .before .before .pre .0 .few)
 
 keep-across-requires : tie.Need-keep-across-requires Inv-loop μ-loop
 keep-across-requires c κs = let s = c .before .before .before .before in
-    let g = s .before in
+    let g = s .before .before in
     let r = s .loop .inv .1 in
-    let rising = kept-sorted r (sorted-across (entry (g .args .t .now)) (g .args .n) (g .args .side) (g .args .k) (g .args .a)) (g .pre .3) in
-    (g .pre .0, omega arith, omega arith, omega (arith, r .long), rising)
+    let rising = kept-sorted r (sorted-across (entry (g .args .t .now)) (g .args .k) (g .args .outside .now) (g .args .a)) (g .pre .4) in
+    (g .pre .0, omega arith, omega arith, g .pre .2, omega (arith, r .long, g .pre .3), rising)
 
 add-a2 : tie.Need-add-a2 Inv-loop μ-loop
 add-a2 c = search needs
