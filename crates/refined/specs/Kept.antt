@@ -27,7 +27,8 @@ Below n l = (i : ℕ) → i < length l → getD l i 0 < n
 -- list: b' before b, which is the i-th; b any of them; a' in A before a; a in A
 unfoldable pub keepBeside : Similarity → ℕ → ℕ → ℕ → List ℕ → ℕ → List ℤ → List ℤ
 keepBeside d k a a′ outside i kept =
-    foldl (λ l j. keepSmallest k l (doubledScore d (quartet (a, a′) (getD outside i 0, getD outside j 0)))) kept (below i)
+    foldl (λ l j. keepSmallest k l (doubledScore d (quartet (a, a′) (getD outside i 0, getD outside j 0)))) kept
+    (below i)
 
 unfoldable pub keepAcross : Similarity → ℕ → ℕ → ℕ → List ℕ → List ℤ → List ℤ
 keepAcross d k a a′ outside kept = foldl (λ l i. keepBeside d k a a′ outside i l) kept (below (length outside))
