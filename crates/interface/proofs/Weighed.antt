@@ -335,6 +335,7 @@ request-2-5 = record {
       (λ q. f .0 (sym e ∙ q), λ g. e ∙ f .1 g);
   refused = λ {n} {l} {A} c d. let a = answered c in
       a .is-weight ∙ weighed-nothing (refinedWeight n (score l) A) (weightRefusal n l A) (λ z. d (a .is-number ∙ z));
+  in-C = λ c. (weighedNumber (c .given), c .answered);
   judged = λ {n} {l} {A} c {lentSets} {sets} {lentIndices} {indices} {r} m room.
       let k = numbersRefusal (pos 3) n l (length lentSets) (length lentIndices) in
       let numbers : numberOf r ≡ k = ap numberOf (m .answered) ∙ number-answer k (length (groupsFound (pos 3) n l)) in

@@ -341,6 +341,8 @@ pub record Request-2-5 : Type 0 where
       → (k : ℕ) → 0 < k → (number ≡ k) ↔ Given (weightChecks n l A) k
   pub refused : {n : ℕ} {l : List ℤ} {A number : ℕ} {w : ℤ} → SideWeighed n l A number w
       → number ≢ 0 → w ≡ pos 0
+  -- every answer in C is such a number
+  pub in-C : {n : ℕ} {l : List ℤ} {A : ℕ} {r w : ℤ} → WeightInC n l A r w → (number : ℕ) × (r ≡ pos number)
   pub judged : {n : ℕ} {l : List ℤ} {A number : ℕ} {w : ℤ} → SideWeighed n l A number w
       → {lentSets sets : List ℕ} {lentIndices indices : List ℤ} {r : Answer}
       → NumbersCall (pos 3) n l lentSets lentIndices r sets indices → numberOf r ≢ 13
