@@ -17,7 +17,7 @@ use Rattle.pairs.specs.declared.Carried.{Carried}
 use Rattle.pairs.specs.declared.Carried.the-variants.{Scored, Unscored}
 use Rattle.pairs.specs.Pairs.{mark, numberFor, carried, isScored}
 use Rattle.pairs.proofs.Pairs.{Cases, carried-cases, scored-is, is-scored}
-use Rattle.clusters.specs.PairList.{Similarity, Symmetric, scoreLimit, isAllowedPair}
+use Rattle.clusters.specs.PairList.{Similarity, Symmetric, onePoint, pointLimit, scoreLimit, isAllowedPair}
 use Rattle.clusters.specs.Indices.{strongValues, strongIndex}
 use Rattle.clusters.specs.Touched.{untouched}
 use Rattle.clusters.specs.Groups.{strong, index, listed}
@@ -44,7 +44,7 @@ either-unscored Unscored d (inr e) = refl
 
 -- the sum of two scores in range is not the mark: the one law that knows both numbers
 sum-scored : {y z : ℤ} → Within scoreLimit y → Within scoreLimit z → carried (y +ℤ z) ≡ Scored (y +ℤ z)
-unfolding scoreLimit mark up dn
+unfolding scoreLimit onePoint pointLimit mark up dn
 sum-scored {y} {z} h k = go (carried-cases (y +ℤ z))
   where
     go : Cases (y +ℤ z) → carried (y +ℤ z) ≡ Scored (y +ℤ z)

@@ -11,3 +11,4 @@ pub mod Bench
 pub mod Nesting
 pub mod Pooling
 pub mod Refined
+pub mod Doubled

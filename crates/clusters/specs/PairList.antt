@@ -38,10 +38,18 @@ score l a b = getD l (place a b) (pos 0)
 unfoldable pub pairList : ℕ → Similarity → List ℤ
 pairList n s = each (below n) λ a. map (s a) (below (suc a))
 
--- what checks 10, 11, 16 and 12 pass (Where a call is turned away); the range of 11 is from −scoreLimit to scoreLimit,
--- and no theorem knows the number
+-- The unit. "The value reader now answers in half points" (document 02, 2.6): a point is 2 of the list's unit. Sheets
+-- and listings are written in points.
+unfoldable pub onePoint : ℕ
+onePoint = 2
+
+-- what checks 10, 11, 16 and 12 pass (Where a call is turned away); the range of 11, "the same in points", is from
+-- −pointLimit to pointLimit, in the list's unit from −scoreLimit to scoreLimit, and no theorem knows the number
+unfoldable pub pointLimit : ℕ
+pointLimit = 1000000
+
 unfoldable pub scoreLimit : ℕ
-scoreLimit = 1000000
+scoreLimit = onePoint * pointLimit
 
 unfoldable pub hasLength : ℕ → List ℤ → Bool
 hasLength n l = eqb (length l) (rowStart n)
