@@ -4,5 +4,6 @@ pub mod SheetText
 pub mod Pool
 pub mod Refusals
 pub mod Calls
+pub mod WholePoints
 pub mod Demands
 pub mod Requests

@@ -8,9 +8,10 @@ use lib.Dec.{eqb, leb, ltb}
 use lib.ListN.{length, getD, take, drop}
 use Rattle.lists.specs.Lists.{each, all}
 use Rattle.sets.specs.Sets.{size}
-use Rattle.clusters.specs.PairList.{score}
+use Rattle.clusters.specs.PairList.{onePoint, score}
 use Rattle.clusters.specs.Groups.{kindOf, groups}
 use Rattle.interface.specs.Sheet.{lineFeed, space, minus, isDigit, numberFrom, cut}
+use Rattle.interface.specs.Sheet.{wholePart, halfText, isWholeOrHalf, halfPoints}
 use Rattle.interface.specs.Sheet.{lines, entries, pairs, sameBytes}
 
 -- a line says "the set ..; the number of members; the index"
@@ -48,9 +49,14 @@ decimalFrom (suc k) n =
 unfoldable pub decimal : ℕ → List ℕ
 decimal n = decimalFrom (suc n) n
 
-unfoldable pub signedDecimal : ℤ → List ℕ
-signedDecimal (pos n) = decimal n
-signedDecimal (negsuc n) = minus ∷ decimal (suc n)
+-- "Indices are written in points, with `.5` where needed" (document 02, 2.6): a number of half points, without a sign
+-- and with one
+unfoldable pub pointsText : ℕ → List ℕ
+pointsText k = decimal (k / onePoint) ++ cond (eqb (k % onePoint) 0) [] halfText
+
+unfoldable pub signedPoints : ℤ → List ℕ
+signedPoints (pos k) = pointsText k
+signedPoints (negsuc k) = minus ∷ pointsText (suc k)
 
 -- "First line `set size index`."
 unfoldable pub firstText : List ℕ
@@ -58,7 +64,7 @@ firstText = 115 ∷ 101 ∷ 116 ∷ 32 ∷ 115 ∷ 105 ∷ 122 ∷ 101 ∷ 32 �
 
 -- "Then a line per group: the set ..; the number of members; the index; both decimal, single spaces"
 unfoldable pub lineText : Line → List ℕ
-lineText l = hexadecimal (l .set) ++ (space ∷ []) ++ decimal (l .size) ++ (space ∷ []) ++ signedDecimal (l .index)
+lineText l = hexadecimal (l .set) ++ (space ∷ []) ++ decimal (l .size) ++ (space ∷ []) ++ signedPoints (l .index)
 
 -- "a line feed after each"
 unfoldable pub firstLine : List ℕ
@@ -91,16 +97,19 @@ unfoldable pub isDecimal : List ℕ → Bool
 isDecimal [] = false
 isDecimal (b ∷ w) = all isDigit (b ∷ w) && (not (eqb b 48) || eqb (length w) 0)
 
--- a line by its words: is it of the form, and what does it say? An index that is listed is 1 or more, so it has no
--- sign.
+-- an index, "in points, with `.5` where needed". One that is listed is half a point or more, so it has no sign.
+unfoldable pub isIndex : List ℕ → Bool
+isIndex w = isDecimal (wholePart w) && isWholeOrHalf w
+
+-- a line by its words: is it of the form, and what does it say, the index in half points?
 unfoldable pub isLine : List (List ℕ) → Bool
-isLine ws = eqb (length ws) 3 && isSet (getD ws 0 []) && isDecimal (getD ws 1 []) && isDecimal (getD ws 2 [])
+isLine ws = eqb (length ws) 3 && isSet (getD ws 0 []) && isDecimal (getD ws 1 []) && isIndex (getD ws 2 [])
 
 unfoldable pub lineRead : List (List ℕ) → Line
 lineRead ws = record {
   set = numberFrom 16 0 (getD ws 0 []);
   size = numberFrom 10 0 (getD ws 1 []);
-  index = pos (numberFrom 10 0 (getD ws 2 []));
+  index = pos (halfPoints (getD ws 2 []));
 }
 
 -- "First line `set size index`.", by its words

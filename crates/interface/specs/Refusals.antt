@@ -16,6 +16,7 @@ use Rattle.interface.specs.Sheet.{
   lineFeed,
   space,
   minus,
+  point,
   isUpper,
   isDigit,
   isName,
@@ -81,9 +82,10 @@ wrongLength s = eqb (length s) 0 || ltb mostBytes (length s)
 abbrev pub check2 : List ℕ → Check
 check2 s = (2, wrongLength s)
 
--- whole sheet | 3 | "a byte that is not A to Z, 0 to 9, minus, space or line feed"
+-- whole sheet | 3 | "a byte that is not A to Z, 0 to 9, minus, space or line feed"; "the point joins the bytes that
+-- check 3 allows" (document 02, 2.6)
 unfoldable pub isAllowed : ℕ → Bool
-isAllowed b = isUpper b || isDigit b || eqb b minus || eqb b space || eqb b lineFeed
+isAllowed b = isUpper b || isDigit b || eqb b minus || eqb b point || eqb b space || eqb b lineFeed
 
 unfoldable pub wrongByte : List ℕ → Bool
 wrongByte s = not (all isAllowed s)
@@ -140,7 +142,7 @@ check9 s = (9, not (mirrored (entries s) (value s)))
 abbrev pub check10 : ℕ → List ℤ → Check
 check10 n l = (10, not (hasLength n l))
 
--- pair list | 11 | "a value below −1,000,000 or above 1,000,000", from which the mark is exempt
+-- pair list | 11 | "a value below −1,000,000 or above 1,000,000", in points; the mark is exempt
 abbrev pub check11 : List ℤ → Check
 check11 l = (11, not (scoresInRange l))
 

@@ -12,6 +12,7 @@ use Rattle.lists.specs.Lists.{_∈_, _lists_}
 use Rattle.sets.specs.Sets.{_∋_, _∌_, size, allEntries, complement, Subset}
 use Rattle.integers.specs.Integers.{sumOf}
 use Rattle.integers.specs.Range.{Within}
+use Rattle.pairs.specs.declared.Carried.{Carried}
 use Rattle.pairs.specs.declared.Carried.the-variants.{Scored, Unscored}
 use Rattle.pairs.specs.Pairs.{mark, carried, isScored}
 use Rattle.clusters.specs.PairList.{Similarity, place, score, scoreLimit, hasLength}
@@ -22,19 +23,21 @@ use Rattle.clusters.specs.Groups.{splits, kindOf, plainSets, plainGroups, writt
 use Rattle.clusters.specs.Reordering.{Permutation, Reordered, image}
 use Rattle.clusters.specs.Nesting.{smallestOfAll, OnLine}
 use Rattle.clusters.specs.Refined.{Quartet, doubledScore, Across, Chosen, Compatible}
+use Rattle.clusters.specs.Doubled.{Doubles, doubledGroup}
 use Rattle.answers.specs.declared.Answer.{Answer}
 use Rattle.answers.specs.Answers.{numberOf, countOf}
 use Rattle.answers.specs.declared.Shared.{Shared}
 use Rattle.answers.specs.Shared.{sharedNumber, sharedSet, sharedLine}
 use Rattle.answers.specs.declared.Weighed.{Weighed}
 use Rattle.answers.specs.Weighed.{weighedNumber, weighedWeight}
-use Rattle.interface.specs.Sheet.{names, entries, value, pairs}
-use Rattle.interface.specs.Listing.{Line, listingRead}
+use Rattle.interface.specs.Sheet.{point, isValue, hasHalf, names, entries, words, value, pairs}
+use Rattle.interface.specs.Listing.{Line, decimal, lineWords, listingRead}
 use Rattle.interface.specs.Refusals.{Check, none, Given, check1, check6, check10, check11, check1Groups}
 use Rattle.interface.specs.Refusals.{readerChecks, sharedChecks, sheetChecks, poolChecks, weightChecks}
 use Rattle.interface.specs.Calls.{InC, CCall, NumbersCall, LinkageCall, AnchoredCall}
 use Rattle.interface.specs.Calls.{BackCall, ReaderCall, ScoreInC, SharedCall, SharedInC, PoolCall}
 use Rattle.interface.specs.Calls.{groupsOf, WeightCall, WeightInC}
+use Rattle.interface.specs.WholePoints.{signedDecimal, wholeListing, WholeCall}
 use Rattle.interface.specs.Demands.{Listed, Counted, Wrote}
 
 -- 2.1, the smallest group two entries share: the refusal's number, 0 for none, the set and the line that the call
@@ -383,3 +386,67 @@ pub record Request-2-5 : Type 0 where
   pub of-line : {n : ℕ} {l : List ℤ} {A number : ℕ} {w : ℤ} → SideWeighed n l A number w
       → {found : List (ℕ × ℤ)} → WroteOf (pos 3) n l found → A < 2 ^ n → 2 ≤ size n A → size n A + 2 ≤ n
       → (z : ℤ) → found lists (writtenSet splits n A, z) → ((pos (n - 3) *ℤ z) ≤ℤ w) × (pos 1 ≤ℤ w)
+
+-- 2.6, half points: what the bytes of a value or an index say, counted in half points. "A value may end in `.5`"
+pub data InPoints : (bytes : List ℕ) → (halves : ℤ) → Type 0 where
+  whole : (y : ℤ) → InPoints (signedDecimal y) (y +ℤ y)
+  half : (k : ℕ) → InPoints (decimal k ++ (46 ∷ 53 ∷ [])) (pos (k + k + 1))
+  minus-half : (k : ℕ) → InPoints (45 ∷ (decimal k ++ (46 ∷ 53 ∷ []))) (negℤ (pos (k + k + 1)))
+
+-- row i, column j of a sheet's values, as it is written
+abbrev pub wordAt : (sheet : List ℕ) → (i j : ℕ) → List ℕ
+wordAt sheet i j = getD (words sheet i) j []
+
+-- what stands there: half points, with at most 7 digits before the point, or the mark, which "is unchanged"
+pub data CellSays : (bytes : List ℕ) → Carried → Type 0 where
+  points : {w : List ℕ} {z : ℤ} → InPoints w z → Within 19999999 z → CellSays w (Scored z)
+  lone-minus : CellSays (45 ∷ []) Unscored
+
+-- "the range of 11 is the same in points": a value is below −1,000,000 or above 1,000,000 points
+pub record PointsOut (sheet : List ℕ) : Type 0 where
+  pub i : ℕ
+  pub j : ℕ
+  pub here : (i < entries sheet) × (j < entries sheet)
+  pub z : ℤ
+  pub says : InPoints (wordAt sheet i j) z
+  pub out : Within (2 * 1000000) z → ⊥
+
+pub record Request-2-6 : Type 0 where
+  -- "A value may end in `.5` .. and `-0.5` is well formed": what is well formed says half points, and every number of
+  -- half points that needs at most 7 digits before the point is said by what is well formed
+  pub well-formed : (w : List ℕ) → T (isValue w) ↔ ((z : ℤ) × InPoints w z × Within 19999999 z)
+  pub every-number : (z : ℤ) → (w : List ℕ) × InPoints w z
+  -- in one way, and no other number
+  pub one-text : {v w : List ℕ} {z : ℤ} → InPoints v z → InPoints w z → v ≡ w
+  pub one-number : {w : List ℕ} {y z : ℤ} → InPoints w y → InPoints w z → y ≡ z
+  -- "The value reader now answers in half points, and all that use it follow: the pair list": of every sheet that
+  -- passes 2 to 9, and of what the reader writes, here and in C
+  pub cells : (sheet : List ℕ) → T (none (readerChecks sheet)) → (i j : ℕ) → i < entries sheet → j < entries sheet
+      → CellSays (wordAt sheet i j) (carried (value sheet i j))
+  pub read : {sheet : List ℕ} {lent after : List ℤ} {r : Answer} → ReaderCall sheet lent r after → numberOf r ≡ 0
+      → (i j : ℕ) → i < countOf r → j ≤ i
+      → CellSays (wordAt sheet i j) (carried (getD after (i * (i + 1) / 2 + j) (pos 0)))
+  pub read-in-C : {sheet : List ℕ} {lent after : List ℤ} {r : ℤ} → InC (λ a. ReaderCall sheet lent a after) r
+      → (count : ℕ) → r ≡ pos count → (i j : ℕ) → i < count → j ≤ i
+      → CellSays (wordAt sheet i j) (carried (getD after (i * (i + 1) / 2 + j) (pos 0)))
+  -- "the range of 11 is the same in points", of a sheet and of a pair list
+  pub range : scoreLimit ≡ 2 * 1000000
+  pub eleven : {kind r : ℤ} {sheet lent after : List ℕ} → CCall kind sheet lent r after
+      → (r ≡ negℤ (pos 11)) ↔ (T (none (check1 kind ∷ readerChecks sheet)) × PointsOut sheet)
+  -- "Indices are written in points, with `.5` where needed": each index read back from a listing; and the pool's scores
+  pub indices-in-points : {bytes : List ℕ} {ls : List Line} → listingRead bytes ≡ some ls → (i : ℕ) → i < length ls
+      → InPoints (getD (getD (lineWords bytes) i []) 2 []) (getD (map (λ l. l .index) ls) i (pos 0))
+  pub pool-in-points : {first second bytes : List ℕ} → Pooled first second bytes
+      → (i j : ℕ) → i < entries first → j < entries first → CellSays (wordAt bytes i j) (carried (value bytes i j))
+  -- "A sheet of whole points gives the listing it gave before": a sheet without a point gets the same answer and bytes,
+  -- on refusal too; and a sheet that is listed, with no value that ends in `.5`, the same bytes
+  pub whole-points : {kind r : ℤ} {sheet lent after : List ℕ} → CCall kind sheet lent r after → (point ∈ sheet → ⊥)
+      → WholeCall kind sheet lent r after
+  pub whole-values : {kind : ℤ} {sheet bytes : List ℕ} → Listed kind sheet bytes
+      → ((i j : ℕ) → i < entries sheet → j < entries sheet → T (hasHalf (wordAt sheet i j)) → ⊥)
+      → bytes ≡ wholeListing kind sheet
+  -- every index of doubled scores is twice the index, and so is every weight
+  pub doubled : {kind : ℤ} {n : ℕ} {s t : Similarity} {found found′ : List (ℕ × ℤ)}
+      → Wrote kind n s found → Wrote kind n t found′ → Doubles n s t → found′ ≡ map doubledGroup found
+  pub weight-doubled : {n : ℕ} {l l′ : List ℤ} {A : ℕ} {w w′ : ℤ} → SideWeighed n l A 0 w → SideWeighed n l′ A 0 w′
+      → Doubles n (score l) (score l′) → w′ ≡ w +ℤ w

@@ -10,7 +10,7 @@ use Rattle.integers.specs.Integers.{eqZ}
 use Rattle.pairs.specs.declared.Carried.the-variants.{Scored, Unscored}
 use Rattle.pairs.specs.declared.Pair.{Pair}
 use Rattle.pairs.specs.Pairs.{listNumber}
-use Rattle.clusters.specs.PairList.{Similarity, pairList}
+use Rattle.clusters.specs.PairList.{Similarity, onePoint, pairList}
 
 abbrev pub lineFeed : ℕ
 lineFeed = 10
@@ -20,6 +20,16 @@ space = 32
 
 abbrev pub minus : ℕ
 minus = 45
+
+abbrev pub point : ℕ
+point = 46
+
+-- two equal byte lists
+unfoldable pub sameBytes : List ℕ → List ℕ → Bool
+sameBytes [] [] = true
+sameBytes [] (y ∷ t) = false
+sameBytes (x ∷ s) [] = false
+sameBytes (x ∷ s) (y ∷ t) = eqb x y && sameBytes s t
 
 -- "A to Z"; "0 to 9"
 unfoldable pub isUpper : ℕ → Bool
@@ -38,10 +48,33 @@ unfoldable pub isNumeral : List ℕ → Bool
 isNumeral [] = false
 isNumeral (b ∷ w) = all isDigit (b ∷ w) && leb (length w) 6 && (not (eqb b 48) || eqb (length w) 0)
 
+-- "A value may end in `.5`" (document 02, 2.6): a word up to its first point, and from there on; it ends in `.5`; it
+-- has no point, or ends so
+unfoldable pub wholePart : List ℕ → List ℕ
+wholePart [] = []
+wholePart (b ∷ w) = cond (eqb b point) [] (b ∷ wholePart w)
+
+unfoldable pub fraction : List ℕ → List ℕ
+fraction [] = []
+fraction (b ∷ w) = cond (eqb b point) (b ∷ w) (fraction w)
+
+unfoldable pub halfText : List ℕ
+halfText = point ∷ 53 ∷ []
+
+unfoldable pub hasHalf : List ℕ → Bool
+hasHalf w = sameBytes (fraction w) halfText
+
+unfoldable pub isWholeOrHalf : List ℕ → Bool
+isWholeOrHalf w = eqb (length (fraction w)) 0 || hasHalf w
+
+-- a value without its sign
+unfoldable pub isPoints : List ℕ → Bool
+isPoints w = isNumeral (wholePart w) && isWholeOrHalf w
+
 -- "A value is an optional minus and .. digits ..; `-0` is ill-formed."
 unfoldable pub isValue : List ℕ → Bool
 isValue [] = false
-isValue (b ∷ w) = cond (eqb b minus) (isNumeral w && not (eqb (getD w 0 0) 48)) (isNumeral (b ∷ w))
+isValue (b ∷ w) = cond (eqb b minus) (isPoints w && not (sameBytes w (48 ∷ []))) (isPoints (b ∷ w))
 
 -- "On the sheet the mark is a lone minus" (document 02, 2.2)
 unfoldable pub isLoneMinus : List ℕ → Bool
@@ -60,10 +93,13 @@ unfoldable pub numberFrom : ℕ → ℕ → List ℕ → ℕ
 numberFrom base k [] = k
 numberFrom base k (b ∷ w) = numberFrom base (k * base + digitValue b) w
 
--- the value that a word stands for
+-- the value that a word stands for, "in half points" (document 02, 2.6): `.5` is one of them
+unfoldable pub halfPoints : List ℕ → ℕ
+halfPoints w = numberFrom 10 0 (wholePart w) * onePoint + cond (hasHalf w) 1 0
+
 unfoldable pub valueOf : List ℕ → ℤ
 valueOf [] = pos 0
-valueOf (b ∷ w) = cond (eqb b minus) (negℤ (pos (numberFrom 10 0 w))) (pos (numberFrom 10 0 (b ∷ w)))
+valueOf (b ∷ w) = cond (eqb b minus) (negℤ (pos (halfPoints w))) (pos (halfPoints (b ∷ w)))
 
 -- the pair that a word stands for
 unfoldable pub pairSaid : List ℕ → Pair
@@ -105,13 +141,7 @@ mirrored n v = all (λ i. all (λ j. eqZ (v i j) (v j i)) (below n)) (below n)
 unfoldable pub pairs : List ℕ → List ℤ
 pairs s = pairList (entries s) (value s)
 
--- two equal byte lists; a byte list among others; two equal ones among byte lists
-unfoldable pub sameBytes : List ℕ → List ℕ → Bool
-sameBytes [] [] = true
-sameBytes [] (y ∷ t) = false
-sameBytes (x ∷ s) [] = false
-sameBytes (x ∷ s) (y ∷ t) = eqb x y && sameBytes s t
-
+-- a byte list among others; two equal ones among byte lists
 unfoldable pub isAmong : List ℕ → List (List ℕ) → Bool
 isAmong w [] = false
 isAmong w (x ∷ l) = sameBytes w x || isAmong w l

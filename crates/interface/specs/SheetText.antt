@@ -8,12 +8,12 @@ use Rattle.pairs.specs.declared.Carried.the-variants.{Scored, Unscored}
 use Rattle.pairs.specs.Pairs.{carried}
 use Rattle.clusters.specs.PairList.{Similarity}
 use Rattle.interface.specs.Sheet.{lineFeed, space, minus}
-use Rattle.interface.specs.Listing.{signedDecimal}
+use Rattle.interface.specs.Listing.{signedPoints}
 
--- "A value is an optional minus and .. decimal digits, without a leading zero unless it is `0`"; "the mark is a lone
--- minus" (document 02, 2.2)
+-- "A value is an optional minus and .. decimal digits, without a leading zero unless it is `0`"; it "may end in `.5`"
+-- (document 02, 2.6); "the mark is a lone minus" (2.2)
 unfoldable pub pairText : Carried → List ℕ
-pairText (Scored z) = signedDecimal z
+pairText (Scored z) = signedPoints z
 pairText Unscored = minus ∷ []
 
 -- pieces with the byte c between any two
