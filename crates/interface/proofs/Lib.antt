@@ -3,6 +3,7 @@ pub mod Pieces
 pub mod Names
 pub mod Digits
 pub mod Numerals
+pub mod Points
 pub mod Lines
 pub mod Values
 pub mod SheetTexts

@@ -1,16 +1,17 @@
--- Digits read back: a number written in a base is the number that its digits stand for.
-use mathlib.Core.Path.{_≡_, refl, sym, ap, _∙_, subst}
+-- Digits read back: a number written in a base is the number that its digits stand for; and digits of the written form are those of the
+-- number that they stand for.
+use mathlib.Core.Path.{_≡_, refl, sym, ap, ap₂, _∙_, subst}
 use mathlib.Core.Bool.{Bool, true, false, not, cond, _&&_, _||_}
-use mathlib.Core.List.{List, [], _∷_, _++_}
-use mathlib.Core.Logic.{_⊎_, inl, inr}
+use mathlib.Core.List.{List, [], _∷_, _++_, append-assoc, append-nil}
+use mathlib.Core.Logic.{_⊎_, inl, inr, _≢_}
 use Prim.Native.Nat.{ℕ, zero, suc, _+_, _-_, _*_, _/_, _%_, _^_, _<_, _≤_}
-use native.Mathlib.Nat.{mod-lt, div-add-mod', div-lt-iff-lt-mul, pow-zero, pow-suc, zero-mul, zero-add}
+use native.Mathlib.Nat.{mod-lt, mod-eq-of-lt, div-eq-of-lt, mul-add-div-right, mul-add-mod-self-right, div-add-mod', div-lt-iff-lt-mul, pow-zero, pow-suc, zero-mul, zero-add}
 use native.Mathlib.Omega.{arith}
 use borrow.Author.Tests.{le-leb, lt-leb, lt-ltb, le-ltb}
-use lib.Dec.{T, eqb, leb, eqb→eq, not-T, lit<}
+use lib.Dec.{T, eqb, leb, leb→le, eqb→eq, not-T, lit<}
 use lib.ListN.{length, getD}
 use Rattle.lists.specs.Lists.{all}
-use Rattle.lists.proofs.Tests.{T-and, T-true, true-T, or-first, eqb-yes}
+use Rattle.lists.proofs.Tests.{and-T, T-and, T-true, true-T, T-false, T-or-not, or-first, eqb-yes, eqb-no}
 use Rattle.interface.specs.Sheet.{isDigit, digitValue, numberFrom}
 use Rattle.interface.specs.Listing.{digit, digits, hexadecimal, decimal, isHexDigit, isSet, isDecimal}
 use Rattle.interface.proofs.Pieces.{all-append}
@@ -161,3 +162,101 @@ read-below (suc k) n h = go (ten n) (read-below k (n / 10))
 
 pub read-decimal : (n : ℕ) → numberFrom 10 0 (decimal n) ≡ n
 read-decimal n = read-below (suc n) n (omega arith)
+
+-- the digit of a digit's value
+value-low : (b : ℕ) → T (isDigit b) → digitValue b ≡ b - 48
+unfolding digitValue
+value-low b t = rw (T-true {b = isDigit b} t)
+
+value-high : (b : ℕ) → T (not (isDigit b)) → digitValue b ≡ b - 87
+unfolding digitValue
+value-high b t = rw (T-false {b = isDigit b} t)
+
+digit-back : (b : ℕ) → T (isDigit b) → (digitValue b < 10) × (digit (digitValue b) ≡ b)
+unfolding isDigit
+digit-back b t =
+    let (low, high) = and-T (leb 48 b) (leb b 57) t in
+    let e = value-low b t in
+    let h : digitValue b < 10 = omega (arith, leb→le 48 b low, leb→le b 57 high) in
+    (h, low-digit (digitValue b) h ∙ omega (arith, leb→le 48 b low))
+
+hex-back : (b : ℕ) → T (isHexDigit b) → (digitValue b < 16) × (digit (digitValue b) ≡ b)
+unfolding isHexDigit
+hex-back b t = go (T-or-not (isDigit b))
+  where
+    go : T (isDigit b) ⊎ T (not (isDigit b)) → (digitValue b < 16) × (digit (digitValue b) ≡ b)
+    go (inl d) = let (h, e) = digit-back b d in (omega arith, e)
+    go (inr d) =
+        let (low, high) = and-T (leb 97 b) (leb b 102) (subst (λ (x : Bool). T (x || leb 97 b && leb b 102)) (T-false {b = isDigit b} d) t) in
+        let e = value-high b d in
+        let h : 10 ≤ digitValue b = omega (arith, leb→le 97 b low) in
+        (omega (arith, leb→le b 102 high), high-digit (digitValue b) h ∙ omega (arith, leb→le 97 b low))
+
+-- a digit more in front of what follows: the quotient and the remainder
+front : (base k v : ℕ) → v < base → ((k * base + v) / base ≡ k) × ((k * base + v) % base ≡ v)
+front base k v h =
+    let more : 0 < base = omega arith in
+    (mul-add-div-right more k v ∙ omega (arith, div-eq-of-lt h), mul-add-mod-self-right k base v ∙ mod-eq-of-lt h)
+
+-- digits that were read on are the last ones of the number
+digits-back : (w : List ℕ) (j k : ℕ) → T (all isHexDigit w) → digits 16 (j + length w) (numberFrom 16 k w) ≡ digits 16 j k ++ w
+unfolding digits numberFrom all
+digits-back [] j k t = let e : j + 0 ≡ j = omega arith in rw e (sym (append-nil (digits 16 j k)))
+digits-back (b ∷ w) j k t =
+    let (tb, tw) = and-T (isHexDigit b) (all isHexDigit w) t in
+    let (h, e) = hex-back b tb in
+    let (q, r) = front 16 k (digitValue b) h in
+    let s : j + suc (length w) ≡ suc j + length w = omega arith in
+    rw s (digits-back w (suc j) (k * 16 + digitValue b) tw ∙ rw (q, r, e) (append-assoc (digits 16 j k) (b ∷ []) w))
+
+pub set-back : (w : List ℕ) → T (isSet w) → hexadecimal (numberFrom 16 0 w) ≡ w
+unfolding isSet hexadecimal digits
+set-back w t =
+    let (eight, run) = and-T (eqb (length w) 8) (all isHexDigit w) t in
+    let e : 0 + length w ≡ 8 = omega (arith, eqb→eq (length w) 8 eight) in
+    ap (λ (k : ℕ). digits 16 k (numberFrom 16 0 w)) (sym e) ∙ digits-back w 0 0 run
+
+-- a numeral that was read on from a number of some digits
+decimal-on : (w : List ℕ) (k : ℕ) → 0 < k → T (all isDigit w) → decimal (numberFrom 10 k w) ≡ decimal k ++ w
+unfolding numberFrom all
+decimal-on [] k more t = sym (append-nil (decimal k))
+decimal-on (b ∷ w) k more t =
+    let (tb, tw) = and-T (isDigit b) (all isDigit w) t in
+    let (h, e) = digit-back b tb in
+    let (q, r) = front 10 k (digitValue b) h in
+    let next = k * 10 + digitValue b in
+    decimal-on w next (omega arith) tw
+    ∙ ap (λ (l : List ℕ). l ++ w) (decimal-more next (omega arith) ∙ ap₂ (λ (i d : ℕ). decimal i ++ (d ∷ [])) q (ap digit r ∙ e))
+    ∙ append-assoc (decimal k) (b ∷ []) w
+
+decimal-parts : (b : ℕ) (w : List ℕ) → T (isDecimal (b ∷ w)) → T (isDigit b) × T (all isDigit w) × T (not (eqb b 48) || eqb (length w) 0)
+unfolding isDecimal all
+decimal-parts b w t =
+    let (run, lead) = and-T (isDigit b && all isDigit w) (not (eqb b 48) || eqb (length w) 0) t in
+    let (tb, tw) = and-T (isDigit b) (all isDigit w) run in
+    (tb, tw, lead)
+
+leading : (b n : ℕ) → T (isDigit b) → T (not (eqb b 48) || eqb (suc n) 0) → 0 < digitValue b
+unfolding isDigit
+leading b n t lead = go (T-or-not (eqb b 48))
+  where
+    go : T (eqb b 48) ⊎ T (not (eqb b 48)) → 0 < digitValue b
+    go (inl e) = absurd (omega (arith, eqb→eq (suc n) 0 (subst (λ (x : Bool). T (not x || eqb (suc n) 0)) (T-true {b = eqb b 48} e) lead)))
+    go (inr e) = let d : b ≢ 48 = eqb-no b 48 e in omega (arith, value-low b t, leb→le 48 b (and-T (leb 48 b) (leb b 57) t .0))
+
+pub decimal-back : (w : List ℕ) → T (isDecimal w) → decimal (numberFrom 10 0 w) ≡ w
+unfolding isDecimal numberFrom
+decimal-back [] t = absurd t
+decimal-back (b ∷ []) t =
+    let (tb, _, _) = decimal-parts b [] t in
+    let (h, e) = digit-back b tb in
+    let z : 0 * 10 + digitValue b ≡ digitValue b = omega arith in
+    ap decimal z ∙ decimal-one (digitValue b) h ∙ ap (λ (d : ℕ). d ∷ []) e
+decimal-back (b ∷ c ∷ w) t =
+    let (tb, tw, lead) = decimal-parts b (c ∷ w) t in
+    let (h, e) = digit-back b tb in
+    let z : 0 * 10 + digitValue b ≡ digitValue b = omega arith in
+    let more : 0 < digitValue b = leading b (length w) tb lead in
+    ap (λ (k : ℕ). decimal (numberFrom 10 k (c ∷ w))) z
+    ∙ decimal-on (c ∷ w) (digitValue b) more tw
+    ∙ ap (λ (l : List ℕ). l ++ (c ∷ w)) (decimal-one (digitValue b) h ∙ ap (λ (d : ℕ). d ∷ []) e)

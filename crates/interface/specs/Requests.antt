@@ -434,7 +434,7 @@ pub record Request-2-6 : Type 0 where
   pub eleven : {kind r : ℤ} {sheet lent after : List ℕ} → CCall kind sheet lent r after
       → (r ≡ negℤ (pos 11)) ↔ (T (none (check1 kind ∷ readerChecks sheet)) × PointsOut sheet)
   -- "Indices are written in points, with `.5` where needed": each index read back from a listing; and the pool's scores
-  pub indices-in-points : {bytes : List ℕ} {ls : List Line} → listingRead bytes ≡ some ls → (i : ℕ) → i < length ls
+  pub indices-in-points : (bytes : List ℕ) {ls : List Line} → listingRead bytes ≡ some ls → (i : ℕ) → i < length ls
       → InPoints (getD (getD (lineWords bytes) i []) 2 []) (getD (map (λ l. l .index) ls) i (pos 0))
   pub pool-in-points : {first second bytes : List ℕ} → Pooled first second bytes
       → (i j : ℕ) → i < entries first → j < entries first → CellSays (wordAt bytes i j) (carried (value bytes i j))
