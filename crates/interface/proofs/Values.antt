@@ -1,15 +1,16 @@
 -- What is written for a name and for a pair: its bytes, its length, its form, and the pair read back.
-use mathlib.Core.Path.{_≡_, refl, ap, _∙_}
-use mathlib.Core.Bool.{Bool, false, not, _&&_, _||_}
-use mathlib.Core.List.{List, [], _∷_}
-use Prim.Native.Nat.{ℕ, suc, _≤_, _<_}
+use mathlib.Core.Path.{_≡_, refl, sym, ap, _∙_, subst}
+use mathlib.Core.Bool.{Bool, true, false, not, _&&_, _||_}
+use mathlib.Core.Logic.{_⊎_, inl, inr}
+use mathlib.Core.List.{List, [], _∷_, _++_}
+use Prim.Native.Nat.{ℕ, suc, _+_, _/_, _%_, _≤_, _<_}
 use native.Mathlib.Omega.{arith}
 use borrow.Author.Tests.{ne-eqb}
-use lib.Dec.{T, eqb, leb, leb→le, le→leb}
+use lib.Dec.{T, eqb, leb, leb→le, le→leb, not-T}
 use lib.IntN.{ℤ, pos, negsuc, negℤ}
-use lib.ListN.{length, getD}
+use lib.ListN.{length, length-append, getD}
 use Rattle.lists.specs.Lists.{all}
-use Rattle.lists.proofs.Tests.{and-T, T-and, T-true, true-T, T-or-left, T-or-right}
+use Rattle.lists.proofs.Tests.{and-T, T-and, T-true, true-T, T-false, T-or-left, T-or-right, T-or-not, eqb-no}
 use Rattle.lists.proofs.Lists.{in-all, all-in}
 use Rattle.integers.specs.Range.{Within}
 use Rattle.integers.proofs.Linear.{up, dn}
@@ -18,38 +19,48 @@ use Rattle.pairs.specs.declared.Carried.{Carried}
 use Rattle.pairs.specs.declared.Carried.the-variants.{Scored, Unscored}
 use Rattle.pairs.specs.Pairs.{numberFor, listNumber, carried}
 use Rattle.pairs.proofs.Pairs.{number-carried}
-use Rattle.clusters.specs.PairList.{isAllowedPair}
+use Rattle.clusters.specs.PairList.{onePoint, isAllowedPair}
 use Rattle.clusters.proofs.Scored.{allowed-within}
 use Rattle.interface.specs.Sheet.{
   lineFeed,
   space,
   minus,
+  point,
   isUpper,
   isDigit,
   isName,
   isNumeral,
+  wholePart,
+  fraction,
+  halfText,
+  hasHalf,
+  isPoints,
   isValue,
   isLoneMinus,
   isCell,
+  digitValue,
   numberFrom,
+  halfPoints,
   valueOf,
   pairSaid,
+  sameBytes,
 }
-use Rattle.interface.specs.Listing.{decimal, signedDecimal, isDecimal}
+use Rattle.interface.specs.Listing.{decimal, pointsText, signedPoints, isDecimal}
 use Rattle.interface.specs.SheetText.{pairText}
 use Rattle.interface.specs.Refusals.{isAllowed}
-use Rattle.interface.proofs.Pieces.{free, all-free}
-use Rattle.interface.proofs.Digits.{length-decimal}
-use Rattle.interface.proofs.Numerals.{Leads, decimal-leads, decimal-run, decimal-form, read-decimal}
+use Rattle.interface.proofs.Pieces.{free, all-free, all-append, same-bytes}
+use Rattle.interface.proofs.Digits.{length-decimal, decimal-some}
+use Rattle.interface.proofs.Numerals.{decimal-run, decimal-form}
+use Rattle.interface.proofs.Points.{ending, odd, points-parts, read-points, points-form}
 
 -- a byte of a name or of a pair: those of check 3 but the space and the line feed
 isPlain : ℕ → Bool
-isPlain b = isUpper b || isDigit b || eqb b minus
+isPlain b = isUpper b || isDigit b || eqb b minus || eqb b point
 
--- at most 8 such bytes
+-- at most 9 such bytes
 pub record Word (w : List ℕ) : Type 0 where
   plain : T (all isPlain w)
-  pub short : length w ≤ 8
+  pub short : length w ≤ 9
 
 module _ {w : List ℕ} (is : Word w) where
   -- check 3 allows its bytes, and none is a space or a line feed
@@ -67,6 +78,10 @@ module _ {w : List ℕ} (is : Word w) where
   word-no-feed = all-free isPlain lineFeed tt w (is .plain)
 
 -- a well-formed name
+name-plain : (b : ℕ) → T (isUpper b || isDigit b) → T (isPlain b)
+unfolding isPlain
+name-plain b t = T-or-left (isUpper b || isDigit b || eqb b minus) (eqb b point) (T-or-left (isUpper b || isDigit b) (eqb b minus) t)
+
 pub name-word : (w : List ℕ) → T (isName w) → Word w
 unfolding isName isPlain all
 name-word [] t = absurd t
@@ -75,19 +90,18 @@ name-word (b ∷ w) t =
     let (front, few) = and-T (isUpper b && all test w) (leb (length w) 7) t in
     let (u, r) = and-T (isUpper b) (all test w) front in
     record {
-      plain = T-and (isPlain b) (all isPlain w) (T-or-left (isUpper b || isDigit b) (eqb b minus) (T-or-left (isUpper b) (isDigit b) u))
-          (in-all isPlain w (λ c m. T-or-left (isUpper c || isDigit c) (eqb c minus) (all-in test w r m)));
+      plain = T-and (isPlain b) (all isPlain w) (name-plain b (T-or-left (isUpper b) (isDigit b) u)) (in-all isPlain w (λ c m. name-plain c (all-in test w r m)));
       short = omega (arith, leb→le (length w) 7 few);
     }
 
 -- a text that does not start with a minus: its form, what it stands for, and that it is not the mark
-pub plain-test : (w : List ℕ) → eqb (getD w 0 0) minus ≡ false → isValue w ≡ isNumeral w
-unfolding isValue isNumeral
+pub plain-test : (w : List ℕ) → eqb (getD w 0 0) minus ≡ false → isValue w ≡ isPoints w
+unfolding isValue isPoints wholePart isNumeral
 plain-test [] e = refl
 plain-test (b ∷ w) e = rw e
 
-pub plain-value : (w : List ℕ) → eqb (getD w 0 0) minus ≡ false → valueOf w ≡ pos (numberFrom 10 0 w)
-unfolding valueOf numberFrom
+pub plain-value : (w : List ℕ) → eqb (getD w 0 0) minus ≡ false → valueOf w ≡ pos (halfPoints w)
+unfolding valueOf halfPoints wholePart hasHalf fraction halfText sameBytes numberFrom onePoint
 plain-value [] e = refl
 plain-value (b ∷ w) e = rw e
 
@@ -96,32 +110,32 @@ unfolding isLoneMinus
 plain-lone [] e = refl
 plain-lone (b ∷ w) e = rw e
 
--- a number in decimal is such a text
-digits-first : (w : List ℕ) → T (all isDigit w) → eqb (getD w 0 0) minus ≡ false
+-- a number in points is such a text
+digits-first : (w v : List ℕ) → 0 < length w → T (all isDigit w) → eqb (getD (w ++ v) 0 0) minus ≡ false
 unfolding all isDigit
-digits-first [] t = refl
-digits-first (b ∷ w) t =
+digits-first [] v h t = absurd (omega arith)
+digits-first (b ∷ w) v h t =
     let low = and-T (leb 48 b) (leb b 57) (and-T (isDigit b) (all isDigit w) t .0) .0 in
     ne-eqb b minus (λ e. omega (arith, leb→le 48 b low))
 
-decimal-first : (n : ℕ) → eqb (getD (decimal n) 0 0) minus ≡ false
-decimal-first n = digits-first (decimal n) (decimal-run n)
+points-first : (k : ℕ) → eqb (getD (pointsText k) 0 0) minus ≡ false
+points-first k =
+    let n = k / onePoint in
+    ap (λ (w : List ℕ). eqb (getD w 0 0) minus) (points-parts k) ∙ digits-first (decimal n) (ending (odd k)) (decimal-some n) (decimal-run n)
 
-decimal-some : (w : List ℕ) → T (isDecimal w) → 0 < length w
-unfolding isDecimal
-decimal-some [] t = absurd t
-decimal-some (b ∷ w) t = omega arith
+points-some : (k : ℕ) → 0 < length (pointsText k)
+points-some k = let n = k / onePoint in omega (arith, ap length (points-parts k), length-append (decimal n) (ending (odd k)), decimal-some n)
 
--- a number in decimal with its sign is not the mark, and is read back
-pub signed-lone : (z : ℤ) → isLoneMinus (signedDecimal z) ≡ false
-unfolding isLoneMinus signedDecimal
-signed-lone (pos n) = plain-lone (decimal n) (decimal-first n)
-signed-lone (negsuc n) = let w = decimal (suc n) in ne-eqb (length w) 0 (λ e. omega (arith, decimal-some w (decimal-form (suc n))))
+-- a number in points with its sign is not the mark, and is read back
+pub signed-lone : (z : ℤ) → isLoneMinus (signedPoints z) ≡ false
+unfolding isLoneMinus signedPoints
+signed-lone (pos k) = plain-lone (pointsText k) (points-first k)
+signed-lone (negsuc k) = ne-eqb (length (pointsText (suc k))) 0 (λ e. omega (arith, points-some (suc k)))
 
-pub read-signed : (z : ℤ) → valueOf (signedDecimal z) ≡ z
-unfolding valueOf signedDecimal
-read-signed (pos n) = plain-value (decimal n) (decimal-first n) ∙ ap pos (read-decimal n)
-read-signed (negsuc n) = ap (λ (m : ℕ). negℤ (pos m)) (read-decimal (suc n))
+pub read-signed : (z : ℤ) → valueOf (signedPoints z) ≡ z
+unfolding valueOf signedPoints
+read-signed (pos k) = plain-value (pointsText k) (points-first k) ∙ ap pos (read-points k)
+read-signed (negsuc k) = ap (λ (m : ℕ). negℤ (pos m)) (read-points (suc k))
 
 -- what is written for a pair is read back
 pub read-pair : (c : Carried) → pairSaid (pairText c) .carries ≡ c
@@ -143,42 +157,58 @@ short-decimal (b ∷ w) t h =
     let (r, l) = and-T run lead t in
     T-and (run && leb (length w) 6) lead (T-and run (leb (length w) 6) r (le→leb (length w) 6 (omega arith))) l
 
-leads-first : (w : List ℕ) → Leads w → T (not (eqb (getD w 0 0) 48))
-leads-first [] l = absurd (l .first)
-leads-first (b ∷ w) l = l .first
+decimal-numeral : (n : ℕ) → n < 10000000 → T (isNumeral (decimal n))
+decimal-numeral n h = short-decimal (decimal n) (decimal-form n) (length-decimal 6 n h)
 
-module _ (n : ℕ) (h : n < 10000000) where
-  seven-digits : length (decimal n) ≤ 7
-  seven-digits = length-decimal 6 n h
+-- at most 19,999,999 half points have at most 7 digits before the point
+points-value : (k : ℕ) → k < 20000000 → T (isPoints (pointsText k))
+unfolding onePoint
+points-value k h = points-form k (decimal-numeral (k / 2) (omega arith))
 
-  decimal-numeral : T (isNumeral (decimal n))
-  decimal-numeral = short-decimal (decimal n) (decimal-form n) seven-digits
+-- only nothing is written `0`
+points-zero : (k : ℕ) → 0 < k → T (not (sameBytes (pointsText k) (48 ∷ [])))
+unfolding halfPoints wholePart hasHalf fraction halfText sameBytes numberFrom digitValue isDigit onePoint
+points-zero k h = not-T (sameBytes (pointsText k) (48 ∷ [])) λ t.
+    let e : k ≡ 0 = sym (read-points k) ∙ ap halfPoints (same-bytes (pointsText k) (48 ∷ []) t) in omega (arith, e)
 
-pub value-form : {k : ℕ} (z : ℤ) → k < 10000000 → Within k z → T (isValue (signedDecimal z))
-unfolding isValue signedDecimal up dn
-value-form (pos n) h i = true-T (plain-test (decimal n) (decimal-first n) ∙ T-true {b = isNumeral (decimal n)} (decimal-numeral n (omega (arith, up-le i))))
-value-form (negsuc n) h i =
-    let w = decimal (suc n) in
-    T-and (isNumeral w) (not (eqb (getD w 0 0) 48)) (decimal-numeral (suc n) (omega (arith, dn-le i))) (leads-first w (decimal-leads (suc n) (omega arith)))
+pub value-form : {k : ℕ} (z : ℤ) → k < 20000000 → Within k z → T (isValue (signedPoints z))
+unfolding isValue signedPoints up dn
+value-form (pos k) h i = true-T (plain-test (pointsText k) (points-first k) ∙ T-true {b = isPoints (pointsText k)} (points-value k (omega (arith, up-le i))))
+value-form (negsuc k) h i =
+    let w = pointsText (suc k) in
+    T-and (isPoints w) (not (sameBytes w (48 ∷ []))) (points-value (suc k) (omega (arith, dn-le i))) (points-zero (suc k) (omega arith))
 
-pub pair-form : {k : ℕ} (c : Carried) → k < 10000000 → T (isAllowedPair k c) → T (isCell (pairText c))
+pub pair-form : {k : ℕ} (c : Carried) → k < 20000000 → T (isAllowedPair k c) → T (isCell (pairText c))
 unfolding isCell isLoneMinus pairText
-pair-form (Scored z) h t = let w = signedDecimal z in T-or-right (isLoneMinus w) (isValue w) (value-form z h (allowed-within t))
+pair-form (Scored z) h t = let w = signedPoints z in T-or-right (isLoneMinus w) (isValue w) (value-form z h (allowed-within t))
 pair-form Unscored h t = tt
 
--- its bytes, and how many
-digits-plain : (w : List ℕ) → T (all isDigit w) → T (all isPlain w)
-unfolding isPlain
-digits-plain w t = in-all isPlain w λ b m. T-or-left (isUpper b || isDigit b) (eqb b minus) (T-or-right (isUpper b) (isDigit b) (all-in isDigit w t m))
+-- its bytes, and how many: 1,000,000 points have 7 digits, a half less has 6 and `.5`
+ending-plain : (h : Bool) → T (all isPlain (ending h))
+unfolding isPlain isUpper isDigit all halfText
+ending-plain true = tt
+ending-plain false = tt
 
-signed-word : {k : ℕ} (z : ℤ) → k < 10000000 → Within k z → Word (signedDecimal z)
-unfolding signedDecimal all isPlain isUpper isDigit up dn
-signed-word (pos n) h i =
-    record { plain = digits-plain (decimal n) (decimal-run n); short = omega (arith, seven-digits n (omega (arith, up-le i))) }
-signed-word (negsuc n) h i =
-    record { plain = digits-plain (decimal (suc n)) (decimal-run (suc n)); short = omega (arith, seven-digits (suc n) (omega (arith, dn-le i))) }
+points-plain : (k : ℕ) → T (all isPlain (pointsText k))
+points-plain k =
+    let w = decimal (k / onePoint) in
+    subst (λ (w : List ℕ). T (all isPlain w)) (sym (points-parts k)) (all-append isPlain w (ending (odd k))
+    (in-all isPlain w (λ b m. name-plain b (T-or-right (isUpper b) (isDigit b) (all-in isDigit w (decimal-run (k / onePoint)) m)))) (ending-plain (odd k)))
 
-pub pair-word : {k : ℕ} (c : Carried) → k < 10000000 → T (isAllowedPair k c) → Word (pairText c)
+points-short : (k : ℕ) → k ≤ 2000000 → length (pointsText k) ≤ 8
+unfolding onePoint halfText
+points-short k h = omega (arith, ap length (points-parts k), length-append (decimal (k / 2)) (ending (odd k)), go (T-or-not (eqb (k % 2) 0)))
+  where
+    go : T (eqb (k % 2) 0) ⊎ T (not (eqb (k % 2) 0)) → length (decimal (k / 2)) + length (ending (not (eqb (k % 2) 0))) ≤ 8
+    go (inl e) = rw (T-true {b = eqb (k % 2) 0} e) (omega (arith, length-decimal 6 (k / 2) (omega arith)))
+    go (inr e) = let f = eqb-no (k % 2) 0 e in rw (T-false {b = eqb (k % 2) 0} e) (omega (arith, length-decimal 5 (k / 2) (omega (arith, f))))
+
+signed-word : {k : ℕ} (z : ℤ) → k ≤ 2000000 → Within k z → Word (signedPoints z)
+unfolding signedPoints all isPlain isUpper isDigit up dn
+signed-word (pos k) h i = record { plain = points-plain k; short = omega (arith, points-short k (omega (arith, up-le i))) }
+signed-word (negsuc k) h i = record { plain = points-plain (suc k); short = omega (arith, points-short (suc k) (omega (arith, dn-le i))) }
+
+pub pair-word : {k : ℕ} (c : Carried) → k ≤ 2000000 → T (isAllowedPair k c) → Word (pairText c)
 unfolding pairText all isPlain isUpper isDigit
 pair-word (Scored z) h t = signed-word z h (allowed-within t)
 pair-word Unscored h t = record { plain = tt; short = omega arith }
