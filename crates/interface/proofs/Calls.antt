@@ -11,7 +11,7 @@ use Rattle.sets.specs.Sets.{has, members, others, size}
 use Rattle.pairs.specs.declared.Carried.the-variants.{Scored, Unscored}
 use Rattle.pairs.specs.declared.Pair.{Pair}
 use Rattle.pairs.specs.Pairs.{mark, numberFor, listNumber, carried, pairOf, isScored}
-use Rattle.clusters.specs.PairList.{rowStart, place, score, pairList, scoreLimit, hasLength, isInRange, inRange, isAllowedPair, scoresInRange}
+use Rattle.clusters.specs.PairList.{rowStart, place, score, pairList, onePoint, pointLimit, scoreLimit, hasLength, isInRange, inRange, isAllowedPair, scoresInRange}
 use Rattle.clusters.specs.PairList.{hasUnscored, areDistances}
 use Rattle.clusters.specs.Indices.{strongValues, strongIndex}
 use Rattle.clusters.specs.Fillings.{low, high, worst, filledIndex}
@@ -68,8 +68,8 @@ pub record Examples : Type 0 where
       numbersRefusal (pos 0) 3 own 6 6
       ∷ numbersRefusal (pos 1) 0 [] 6 6
       ∷ numbersRefusal (pos 1) 2 own 6 6
-      ∷ numbersRefusal (pos 1) 1 (pos 1000001 ∷ []) 2 2
-      ∷ numbersRefusal (pos 1) 2 (mark ∷ pos 1000001 ∷ mark ∷ []) 4 4
+      ∷ numbersRefusal (pos 1) 1 (pos 2000001 ∷ []) 2 2
+      ∷ numbersRefusal (pos 1) 2 (mark ∷ pos 2000001 ∷ mark ∷ []) 4 4
       ∷ numbersRefusal (pos 2) 1 (mark ∷ []) 1 1
       ∷ numbersRefusal (pos 3) 1 (mark ∷ []) 2 2
       ∷ numbersRefusal (pos 1) 1 (mark ∷ []) 2 2
@@ -81,7 +81,7 @@ pub record Examples : Type 0 where
   pub linkage :
       linkageRefusal 0 [] 0
       ∷ linkageRefusal 2 own 2
-      ∷ linkageRefusal 1 (negsuc 1000000 ∷ []) 0
+      ∷ linkageRefusal 1 (negsuc 2000000 ∷ []) 0
       ∷ linkageRefusal 2 (pos 1 ∷ mark ∷ pos 1 ∷ []) 0
       ∷ linkageRefusal 3 own 1
       ∷ linkageRefusal 3 own 2
@@ -90,7 +90,7 @@ pub record Examples : Type 0 where
   pub anchored :
       anchoredRefusal 0 0 [] 0
       ∷ anchoredRefusal 2 0 own 6
-      ∷ anchoredRefusal 1 0 (pos 1000001 ∷ []) 1
+      ∷ anchoredRefusal 1 0 (pos 2000001 ∷ []) 1
       ∷ anchoredRefusal 2 0 (pos 1 ∷ mark ∷ pos 0 ∷ []) 0
       ∷ anchoredRefusal 1 0 (pos 1 ∷ []) 1
       ∷ anchoredRefusal 1 1 (pos 0 ∷ []) 1
@@ -126,7 +126,7 @@ pub record Examples : Type 0 where
       ∷ sharedRefusal (pos 3) 1 (pos 0 ∷ []) 0 0
       ∷ sharedRefusal (pos 1) 0 [] 0 0
       ∷ sharedRefusal (pos 1) 2 own 2 2
-      ∷ sharedRefusal (pos 2) 1 (pos 1000001 ∷ []) 1 1
+      ∷ sharedRefusal (pos 2) 1 (pos 2000001 ∷ []) 1 1
       ∷ sharedRefusal (pos 2) 1 (mark ∷ []) 1 1
       ∷ sharedRefusal (pos 1) 1 (mark ∷ []) 0 0
       ∷ sharedRefusal (pos 1) 3 own 3 0
@@ -137,7 +137,7 @@ pub record Examples : Type 0 where
       ≡ 1 ∷ 1 ∷ 6 ∷ 10 ∷ 11 ∷ 16 ∷ 0 ∷ 15 ∷ 15 ∷ 0 ∷ 0 ∷ []
 
 pub examples : Examples
-unfolding own below each keep all minZ maxZ eqZ least half even has members others size rowStart place score pairList scoreLimit hasLength inRange
+unfolding own below each keep all minZ maxZ eqZ least half even has members others size rowStart place score pairList onePoint pointLimit scoreLimit hasLength inRange
     areDistances strongValues strongIndex unfarris distancesBack isAnchored kindOf index proper speaksOf listed sets groupSets groups groupsFound firstOf
     mostEntries wrongKind wrongCount wrongDistances fewSlots wrongAnchor wrongEntries shortSlice notAnchored numbersChecks numbersRefusal linkageChecks
     linkageRefusal anchoredChecks anchoredRefusal backChecks backRefusal scoreChecks scoreRefusal wrongGroupKind sharedChecks sharedRefusal

@@ -1,6 +1,6 @@
 -- Document 01's worked example, from the sheet's bytes to the listing's bytes, and one refusal of each number of the C call: by computing.
 use mathlib.Core.Path.{_≡_, refl, ap, ap₂, _∙_}
-use mathlib.Core.Bool.{xor}
+use mathlib.Core.Bool.{not, xor}
 use mathlib.Core.List.{List, [], _∷_, _++_, map, append-nil}
 use mathlib.Core.Option.{some}
 use Prim.Native.Nat.{ℕ, _+_, _/_, _%_, _<_, _≤_}
@@ -13,7 +13,7 @@ use Rattle.lists.proofs.Lists.{all-in, of-map-cong}
 use Rattle.integers.specs.Integers.{minZ, maxZ, eqZ, least}
 use Rattle.sets.specs.Sets.{has, members, others, size}
 use Rattle.pairs.specs.Pairs.{mark, numberFor, listNumber, carried, isScored}
-use Rattle.clusters.specs.PairList.{rowStart, place, score, pairList, scoreLimit, isInRange, isAllowedPair, scoresInRange, hasUnscored, areDistances}
+use Rattle.clusters.specs.PairList.{rowStart, place, score, pairList, onePoint, pointLimit, scoreLimit, isInRange, isAllowedPair, scoresInRange, hasUnscored, areDistances}
 use Rattle.clusters.specs.Indices.{strongValues, strongIndex}
 use Rattle.clusters.specs.Fillings.{low, high, worst, filledIndex}
 use Rattle.clusters.specs.Groups.{kindOf, index, proper, speaksOf, listed, sets, groupSets, groups}
@@ -26,11 +26,18 @@ use Rattle.interface.specs.Sheet.{
   isDigit,
   isName,
   isNumeral,
+  wholePart,
+  fraction,
+  halfText,
+  hasHalf,
+  isWholeOrHalf,
+  isPoints,
   isValue,
   isLoneMinus,
   isCell,
   digitValue,
   numberFrom,
+  halfPoints,
   valueOf,
   pairSaid,
   longer,
@@ -54,7 +61,8 @@ use Rattle.interface.specs.Listing.{
   hexadecimal,
   decimalFrom,
   decimal,
-  signedDecimal,
+  pointsText,
+  signedPoints,
   firstText,
   lineText,
   firstLine,
@@ -65,6 +73,7 @@ use Rattle.interface.specs.Listing.{
   isHexDigit,
   isSet,
   isDecimal,
+  isIndex,
   isLine,
   lineRead,
   isFirst,
@@ -118,15 +127,15 @@ text =
     ∷ 48 ∷ 48 ∷ 48 ∷ 48 ∷ 48 ∷ 48 ∷ 48 ∷ 55 ∷ 32 ∷ 51 ∷ 32 ∷ 50 ∷ 10
     ∷ []
 
--- the first line and six lines, as they are read
+-- the first line and six lines, as they are read, the index in half points
 unfoldable pub six : List Line
 six =
-    record { set = 1; size = 1; index = pos 1 }
-    ∷ record { set = 2; size = 1; index = pos 1 }
-    ∷ record { set = 4; size = 1; index = pos 3 }
-    ∷ record { set = 8; size = 1; index = pos 6 }
-    ∷ record { set = 3; size = 2; index = pos 2 }
-    ∷ record { set = 7; size = 3; index = pos 2 }
+    record { set = 1; size = 1; index = pos 2 }
+    ∷ record { set = 2; size = 1; index = pos 2 }
+    ∷ record { set = 4; size = 1; index = pos 6 }
+    ∷ record { set = 8; size = 1; index = pos 12 }
+    ∷ record { set = 3; size = 2; index = pos 4 }
+    ∷ record { set = 7; size = 3; index = pos 4 }
     ∷ []
 
 -- a negative value: `A B`, `0 -5`, `-5 0`
@@ -149,6 +158,41 @@ unscoredText =
     ∷ 48 ∷ 48 ∷ 48 ∷ 48 ∷ 48 ∷ 48 ∷ 48 ∷ 49 ∷ 32 ∷ 49 ∷ 32 ∷ 49 ∷ 10
     ∷ 48 ∷ 48 ∷ 48 ∷ 48 ∷ 48 ∷ 48 ∷ 48 ∷ 50 ∷ 32 ∷ 49 ∷ 32 ∷ 49 ∷ 10
     ∷ 48 ∷ 48 ∷ 48 ∷ 48 ∷ 48 ∷ 48 ∷ 48 ∷ 51 ∷ 32 ∷ 50 ∷ 32 ∷ 50 ∷ 10
+    ∷ []
+
+-- half points: `A B`, `1 -0.5`, `-0.5 0`, and what is listed: `00000001 1 1.5`, `00000002 1 0.5`
+unfoldable pub halves : List ℕ
+halves = 65 ∷ 32 ∷ 66 ∷ 10 ∷ 49 ∷ 32 ∷ 45 ∷ 48 ∷ 46 ∷ 53 ∷ 10 ∷ 45 ∷ 48 ∷ 46 ∷ 53 ∷ 32 ∷ 48 ∷ 10 ∷ []
+
+unfoldable pub halvesText : List ℕ
+halvesText =
+    115 ∷ 101 ∷ 116 ∷ 32 ∷ 115 ∷ 105 ∷ 122 ∷ 101 ∷ 32 ∷ 105 ∷ 110 ∷ 100 ∷ 101 ∷ 120 ∷ 10
+    ∷ 48 ∷ 48 ∷ 48 ∷ 48 ∷ 48 ∷ 48 ∷ 48 ∷ 49 ∷ 32 ∷ 49 ∷ 32 ∷ 49 ∷ 46 ∷ 53 ∷ 10
+    ∷ 48 ∷ 48 ∷ 48 ∷ 48 ∷ 48 ∷ 48 ∷ 48 ∷ 50 ∷ 32 ∷ 49 ∷ 32 ∷ 48 ∷ 46 ∷ 53 ∷ 10
+    ∷ []
+
+-- `0.5`, `-0.5`, `7.5`, `9999999.5`, `1000000`, each with its half points
+unfoldable pub halfWords : List (List ℕ × ℤ)
+halfWords =
+    (48 ∷ 46 ∷ 53 ∷ [], pos 1)
+    ∷ (45 ∷ 48 ∷ 46 ∷ 53 ∷ [], negsuc 0)
+    ∷ (55 ∷ 46 ∷ 53 ∷ [], pos 15)
+    ∷ (57 ∷ 57 ∷ 57 ∷ 57 ∷ 57 ∷ 57 ∷ 57 ∷ 46 ∷ 53 ∷ [], pos 19999999)
+    ∷ (49 ∷ 48 ∷ 48 ∷ 48 ∷ 48 ∷ 48 ∷ 48 ∷ [], pos 2000000)
+    ∷ []
+
+-- `.5`, `-.5`, `5.`, `5.0`, `00.5`, `-0`, `0.50`, `12345678.5`, `5.5.5`
+unfoldable pub illFormed : List (List ℕ)
+illFormed =
+    (46 ∷ 53 ∷ [])
+    ∷ (45 ∷ 46 ∷ 53 ∷ [])
+    ∷ (53 ∷ 46 ∷ [])
+    ∷ (53 ∷ 46 ∷ 48 ∷ [])
+    ∷ (48 ∷ 48 ∷ 46 ∷ 53 ∷ [])
+    ∷ (45 ∷ 48 ∷ [])
+    ∷ (48 ∷ 46 ∷ 53 ∷ 48 ∷ [])
+    ∷ (49 ∷ 50 ∷ 51 ∷ 52 ∷ 53 ∷ 54 ∷ 55 ∷ 56 ∷ 46 ∷ 53 ∷ [])
+    ∷ (53 ∷ 46 ∷ 53 ∷ 46 ∷ 53 ∷ [])
     ∷ []
 
 -- names of which one is a part of the other: `BA A`, `0 0`, `0 0`
@@ -176,6 +220,8 @@ refused =
     ∷ record { kind = pos 1; sheet = 97 ∷ 10 ∷ []; buffer = 15; number = 3 }
     -- `A` and no line feed
     ∷ record { kind = pos 1; sheet = 65 ∷ []; buffer = 15; number = 4 }
+    -- the name `A.5`
+    ∷ record { kind = pos 1; sheet = 65 ∷ 46 ∷ 53 ∷ 10 ∷ 48 ∷ 10 ∷ []; buffer = 15; number = 4 }
     -- the names `A A`
     ∷ record { kind = pos 1; sheet = 65 ∷ 32 ∷ 65 ∷ 10 ∷ []; buffer = 15; number = 5 }
     -- 33 names
@@ -187,12 +233,17 @@ refused =
     -- two minus signs; the digits of the mark's number
     ∷ record { kind = pos 1; sheet = 65 ∷ 10 ∷ 45 ∷ 45 ∷ 10 ∷ []; buffer = 15; number = 8 }
     ∷ record { kind = pos 1; sheet = 65 ∷ 10 ∷ 45 ∷ 50 ∷ 49 ∷ 52 ∷ 55 ∷ 52 ∷ 56 ∷ 51 ∷ 54 ∷ 52 ∷ 56 ∷ 10 ∷ []; buffer = 15; number = 8 }
+    -- the value `5.0`
+    ∷ record { kind = pos 1; sheet = 65 ∷ 10 ∷ 53 ∷ 46 ∷ 48 ∷ 10 ∷ []; buffer = 15; number = 8 }
     -- one mirrored mark
     ∷ record { kind = pos 1; sheet = 65 ∷ 32 ∷ 66 ∷ 10 ∷ 48 ∷ 32 ∷ 45 ∷ 10 ∷ 48 ∷ 32 ∷ 48 ∷ 10 ∷ []; buffer = 15; number = 9 }
     -- mirrored values `1` and `2`
     ∷ record { kind = pos 1; sheet = 65 ∷ 32 ∷ 66 ∷ 10 ∷ 48 ∷ 32 ∷ 49 ∷ 10 ∷ 50 ∷ 32 ∷ 48 ∷ 10 ∷ []; buffer = 15; number = 9 }
     -- the value `1000001`
     ∷ record { kind = pos 1; sheet = 65 ∷ 10 ∷ 49 ∷ 48 ∷ 48 ∷ 48 ∷ 48 ∷ 48 ∷ 49 ∷ 10 ∷ []; buffer = 15; number = 11 }
+    -- the values `1000000.5` and `-1000000.5`
+    ∷ record { kind = pos 1; sheet = 65 ∷ 10 ∷ 49 ∷ 48 ∷ 48 ∷ 48 ∷ 48 ∷ 48 ∷ 48 ∷ 46 ∷ 53 ∷ 10 ∷ []; buffer = 15; number = 11 }
+    ∷ record { kind = pos 1; sheet = 65 ∷ 10 ∷ 45 ∷ 49 ∷ 48 ∷ 48 ∷ 48 ∷ 48 ∷ 48 ∷ 48 ∷ 46 ∷ 53 ∷ 10 ∷ []; buffer = 15; number = 11 }
     -- kind 2, the mark
     ∷ record { kind = pos 2; sheet = 65 ∷ 10 ∷ 45 ∷ 10 ∷ []; buffer = 0; number = 16 }
     -- kind 3, the mark, and an own value `1`
@@ -209,24 +260,31 @@ record Computed : Type 0 where
   long : length text ≡ 93
   read : listingRead text ≡ some six
   given : map (λ c. sheetRefusal (c .kind) (c .sheet) (c .buffer)) refused ≡ map (λ c. c .number) refused
-  numbers : map (λ c. c .number) refused ≡ 1 ∷ 2 ∷ 3 ∷ 4 ∷ 5 ∷ 6 ∷ 7 ∷ 8 ∷ 8 ∷ 8 ∷ 9 ∷ 9 ∷ 11 ∷ 16 ∷ 16 ∷ 12 ∷ 14 ∷ []
+  numbers : map (λ c. c .number) refused ≡ 1 ∷ 2 ∷ 3 ∷ 4 ∷ 4 ∷ 5 ∷ 6 ∷ 7 ∷ 8 ∷ 8 ∷ 8 ∷ 8 ∷ 9 ∷ 9 ∷ 11 ∷ 11 ∷ 11 ∷ 16 ∷ 16 ∷ 12 ∷ 14 ∷ []
   positive : T (all (λ c. ltb 0 (c .number)) refused)
-  signed-is : pairs signed ≡ pos 0 ∷ negsuc 4 ∷ pos 0 ∷ []
+  signed-is : pairs signed ≡ pos 0 ∷ negsuc 9 ∷ pos 0 ∷ []
   signed-passes : readerRefusal signed ≡ 0
   signed-two : entries signed ≡ 2
   unscored-written : sheetListing (pos 1) unscored ≡ unscoredText
   unscored-passes : sheetRefusal (pos 1) unscored 54 ≡ 0
   unscored-long : length unscoredText ≡ 54
+  halves-written : sheetListing (pos 1) halves ≡ halvesText
+  halves-passes : sheetRefusal (pos 1) halves 45 ≡ 0
+  halves-long : length halvesText ≡ 45
+  halves-pairs : pairs halves ≡ pos 2 ∷ negsuc 0 ∷ pos 0 ∷ []
+  half-words : map (λ (w, z). valueOf w) halfWords ≡ map (λ (w, z). z) halfWords
+  half-formed : T (all (λ (w, z). isValue w) halfWords)
+  ill-formed : T (all (λ w. not (isCell w)) illFormed)
   name : nameOf parted 1 ≡ 65 ∷ []
   start : nameStart parted 1 ≡ 3
 
 computed : Computed
-unfolding sheet text six signed parted refused many isUpper isDigit isName isNumeral isValue digitValue numberFrom valueOf longer cut lines names entries
+unfolding sheet text six signed halves halvesText halfWords illFormed parted refused many isUpper isDigit isName isNumeral wholePart fraction halfText hasHalf isWholeOrHalf isPoints isValue digitValue numberFrom halfPoints valueOf longer cut lines names entries
     words value mirrored pairs sameBytes isAmong hasEqual kindOf index proper speaksOf listed sets groupSets groups strongValues strongIndex score place
-    rowStart pairList has members others size minZ maxZ eqZ least below each keep all lineOf digit digits hexadecimal decimalFrom decimal signedDecimal
-    firstText lineText firstLine listing groupsFound pairsListing sheetListing isHexDigit isSet isDecimal isLine lineRead isFirst lineWords isListing
+    rowStart pairList has members others size minZ maxZ eqZ least below each keep all lineOf digit digits hexadecimal decimalFrom decimal pointsText signedPoints
+    firstText lineText firstLine listing groupsFound pairsListing sheetListing isHexDigit isSet isDecimal isIndex isLine lineRead isFirst lineWords isListing
     listingRead isInRange isAllowedPair scoresInRange hasUnscored mark numberFor listNumber carried isScored low high worst xor filledIndex
-    isLoneMinus isCell pairSaid wrongUnscored unscored unscoredText scoreLimit areDistances firstOf mostBytes mostEntries wrongKind wrongLength isAllowed wrongByte wrongNames equalNames wrongCount
+    isLoneMinus isCell pairSaid wrongUnscored unscored unscoredText onePoint pointLimit scoreLimit areDistances firstOf mostBytes mostEntries wrongKind wrongLength isAllowed wrongByte wrongNames equalNames wrongCount
     wrongLines isRow wrongValues wrongDistances sheetCallChecks sheetRefusal readerChecks readerRefusal hasName nameOf startOf nameStart
 computed = record {
   written = refl;
@@ -242,6 +300,13 @@ computed = record {
   unscored-written = refl;
   unscored-passes = refl;
   unscored-long = refl;
+  halves-written = refl;
+  halves-passes = refl;
+  halves-long = refl;
+  halves-pairs = refl;
+  half-words = refl;
+  half-formed = tt;
+  ill-formed = tt;
   name = refl;
   start = refl;
 }
@@ -265,6 +330,13 @@ example = listed-as sheet text 93 (computed .written) (computed .passes) (comput
 pub unscored-example : (lent after : List ℕ) (r : ℤ) → length lent ≡ 54 → CCall (pos 1) unscored lent r after → (r ≡ pos 54) × (after ≡ unscoredText)
 unscored-example = listed-as unscored unscoredText 54 (computed .unscored-written) (computed .unscored-passes) (computed .unscored-long)
 
+pub halves-example : (lent after : List ℕ) (r : ℤ) → length lent ≡ 45 → CCall (pos 1) halves lent r after → (r ≡ pos 45) × (after ≡ halvesText)
+halves-example = listed-as halves halvesText 45 (computed .halves-written) (computed .halves-passes) (computed .halves-long)
+
+-- each of the words is well formed and stands for its half points; of the others none is, nor the mark
+pub half-words : (map (λ (w, z). valueOf w) halfWords ≡ map (λ (w, z). z) halfWords) × T (all (λ (w, z). isValue w) halfWords) × T (all (λ w. not (isCell w)) illFormed)
+half-words = (computed .half-words, computed .half-formed, computed .ill-formed)
+
 -- and read back, without the writer
 pub example-read : listingRead text ≡ some six
 example-read = computed .read
@@ -282,21 +354,21 @@ refused-with c m lent after r long call =
     let minus = demand .refusal (c .number) more .1 (first-iff checks (c .number) more .0 first) in
     (minus, demand .refused (c .number) more minus)
 
-pub every-number : map (λ c. c .number) refused ≡ 1 ∷ 2 ∷ 3 ∷ 4 ∷ 5 ∷ 6 ∷ 7 ∷ 8 ∷ 8 ∷ 8 ∷ 9 ∷ 9 ∷ 11 ∷ 16 ∷ 16 ∷ 12 ∷ 14 ∷ []
+pub every-number : map (λ c. c .number) refused ≡ 1 ∷ 2 ∷ 3 ∷ 4 ∷ 4 ∷ 5 ∷ 6 ∷ 7 ∷ 8 ∷ 8 ∷ 8 ∷ 8 ∷ 9 ∷ 9 ∷ 11 ∷ 11 ∷ 11 ∷ 16 ∷ 16 ∷ 12 ∷ 14 ∷ []
 every-number = computed .numbers
 
 -- a negative value is read as one; a name is told by its place, though its bytes stand elsewhere too
-pub signed-pairs : pairs signed ≡ pos 0 ∷ negsuc 4 ∷ pos 0 ∷ []
+pub signed-pairs : pairs signed ≡ pos 0 ∷ negsuc 9 ∷ pos 0 ∷ []
 signed-pairs = computed .signed-is
 
 -- and so by the reader, which touches no further slot
 pub reader-example : (lent after : List ℤ) (r : Answer) → ReaderCall signed lent r after
-    → (r ≡ Count 2) × (after ≡ (pos 0 ∷ negsuc 4 ∷ pos 0 ∷ []) ++ drop 3 lent)
+    → (r ≡ Count 2) × (after ≡ (pos 0 ∷ negsuc 9 ∷ pos 0 ∷ []) ++ drop 3 lent)
 unfolding answer
 reader-example lent after r c = (
   c .answered ∙ ap₂ answer (computed .signed-passes) (computed .signed-two),
   c .written ∙ ap₂ (λ (k : ℕ) (l : List ℤ). slots k l lent) (computed .signed-passes) (computed .signed-is)
-      ∙ slots-written (pos 0 ∷ negsuc 4 ∷ pos 0 ∷ []) lent,
+      ∙ slots-written (pos 0 ∷ negsuc 9 ∷ pos 0 ∷ []) lent,
 )
 
 pub name-place : (nameOf parted 1 ≡ 65 ∷ []) × (nameStart parted 1 ≡ 3)

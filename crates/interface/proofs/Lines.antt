@@ -1,9 +1,9 @@
 -- A listing read back: what is written is read back as it was.
 use mathlib.Core.Path.{_≡_, sym, ap, _∙_, subst}
-use mathlib.Core.Bool.{not, _&&_, _||_}
+use mathlib.Core.Bool.{Bool, true, false, not, _&&_, _||_}
 use mathlib.Core.List.{List, [], _∷_, _++_, map, append-assoc, map-map, map-id}
 use mathlib.Core.Option.{some}
-use Prim.Native.Nat.{ℕ, suc, _-_, _^_, _<_}
+use Prim.Native.Nat.{ℕ, suc, _-_, _/_, _^_, _<_}
 use native.Mathlib.Omega.{arith}
 use lib.IntN.{ℤ, pos, natAbs}
 use lib.Signed.{_≤ℤ_}
@@ -13,12 +13,14 @@ use lib.Seq.{take-at, getD-at}
 use Rattle.lists.specs.Lists.{_∈_, each, all}
 use Rattle.lists.proofs.Tests.{and-T, T-and, T-true, true-T, or-first, eqb-yes}
 use Rattle.lists.proofs.Lists.{in-all, all-in, of-map, map-cong, each-map}
-use Rattle.interface.specs.Sheet.{isDigit, longer, cut, lines, sameBytes}
+use Rattle.clusters.specs.PairList.{onePoint}
+use Rattle.interface.specs.Sheet.{isDigit, halfText, longer, cut, lines, sameBytes}
 use Rattle.interface.specs.Listing.{
   Line,
   hexadecimal,
   decimal,
-  signedDecimal,
+  pointsText,
+  signedPoints,
   firstText,
   lineText,
   firstLine,
@@ -26,6 +28,7 @@ use Rattle.interface.specs.Listing.{
   isHexDigit,
   isSet,
   isDecimal,
+  isIndex,
   isLine,
   lineRead,
   isFirst,
@@ -35,6 +38,7 @@ use Rattle.interface.specs.Listing.{
 }
 use Rattle.interface.proofs.Digits.{natural}
 use Rattle.interface.proofs.Numerals.{set-form, read-hexadecimal, decimal-run, decimal-form, read-decimal}
+use Rattle.interface.proofs.Points.{ending, odd, points-parts, index-form, read-points}
 use Rattle.interface.proofs.Pieces.{free, all-free, free-append, cut-last, cut-first, cut-ended}
 
 -- no digit is a byte that is none, as a space or a line feed
@@ -53,6 +57,17 @@ module _ (c : ℕ) (no : T (not (isHexDigit c))) where
       low : (b : ℕ) → T (isDigit b) → T (isDigit b || leb 97 b && leb b 102)
       low b t = true-T {b = isDigit b || leb 97 b && leb b 102} (or-first {a = isDigit b} (leb 97 b && leb b 102) (T-true t))
 
+  -- nor in a number in points
+  points-free : free c halfText → (k : ℕ) → free c (pointsText k)
+  unfolding all
+  points-free no-half k =
+      let n = k / onePoint in
+      subst (λ (w : List ℕ). free c w) (sym (points-parts k)) (free-append c (decimal n) (ending (odd k)) (decimal-free n) (go (odd k)))
+    where
+      go : (h : Bool) → free c (ending h)
+      go true = no-half
+      go false = tt
+
 -- three words with a space between them
 cut-words : (u v w : List ℕ) → free 32 u → free 32 v → free 32 w → cut 32 (u ++ (32 ∷ []) ++ v ++ (32 ∷ []) ++ w) ≡ u ∷ v ∷ w ∷ []
 cut-words u v w f g h =
@@ -65,29 +80,29 @@ module _ (A m k : ℕ) where
   abbrev said : Line
   said = record { set = A; size = m; index = pos k }
 
-  said-words : cut 32 (lineText said) ≡ hexadecimal A ∷ decimal m ∷ decimal k ∷ []
-  unfolding lineText signedDecimal isHexDigit isDigit
-  said-words = cut-words (hexadecimal A) (decimal m) (decimal k) (set-free 32 tt A) (decimal-free 32 tt m) (decimal-free 32 tt k)
+  said-words : cut 32 (lineText said) ≡ hexadecimal A ∷ decimal m ∷ pointsText k ∷ []
+  unfolding lineText signedPoints isHexDigit isDigit halfText all
+  said-words = cut-words (hexadecimal A) (decimal m) (pointsText k) (set-free 32 tt A) (decimal-free 32 tt m) (points-free 32 tt tt k)
 
   said-free : free 10 (lineText said)
-  unfolding lineText signedDecimal isHexDigit isDigit all
+  unfolding lineText signedPoints isHexDigit isDigit halfText all
   said-free =
       let u = hexadecimal A in
       let v = decimal m in
-      free-append 10 (u ++ (32 ∷ []) ++ v ++ (32 ∷ [])) (decimal k)
+      free-append 10 (u ++ (32 ∷ []) ++ v ++ (32 ∷ [])) (pointsText k)
       (free-append 10 (u ++ (32 ∷ []) ++ v) (32 ∷ [])
       (free-append 10 (u ++ (32 ∷ [])) v (free-append 10 u (32 ∷ []) (set-free 10 tt A) tt) (decimal-free 10 tt m)) tt)
-      (decimal-free 10 tt k)
+      (points-free 10 tt tt k)
 
   said-form : T (isLine (cut 32 (lineText said)))
   unfolding isLine
   said-form = subst (λ (ws : List (List ℕ)). T (isLine ws)) (sym said-words)
-      (T-and (isSet (hexadecimal A) && isDecimal (decimal m)) (isDecimal (decimal k))
-      (T-and (isSet (hexadecimal A)) (isDecimal (decimal m)) (set-form A) (decimal-form m)) (decimal-form k))
+      (T-and (isSet (hexadecimal A) && isDecimal (decimal m)) (isIndex (pointsText k))
+      (T-and (isSet (hexadecimal A)) (isDecimal (decimal m)) (set-form A) (decimal-form m)) (index-form k))
 
   said-read : A < 16 ^ 8 → lineRead (cut 32 (lineText said)) ≡ said
   unfolding lineRead
-  said-read h = ap lineRead said-words ∙ rw (read-hexadecimal A h, read-decimal m, read-decimal k)
+  said-read h = ap lineRead said-words ∙ rw (read-hexadecimal A h, read-decimal m, read-points k)
 
 -- a line that 8 digits have room for, with an index without a sign
 pub record Readable (l : Line) : Type 0 where

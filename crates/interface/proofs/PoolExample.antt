@@ -11,7 +11,7 @@ use Rattle.lists.specs.Lists.{_∈_, below, each, all}
 use Rattle.lists.proofs.Lists.{all-in, of-map-cong}
 use Rattle.integers.specs.Integers.{eqZ}
 use Rattle.pairs.specs.Pairs.{mark, numberFor, listNumber, carried}
-use Rattle.clusters.specs.PairList.{rowStart, place, score, pairList, scoreLimit, isInRange, isAllowedPair, scoresInRange}
+use Rattle.clusters.specs.PairList.{rowStart, place, score, pairList, onePoint, pointLimit, scoreLimit, isInRange, isAllowedPair, scoresInRange}
 use Rattle.clusters.specs.Pooling.{added, pooled}
 use Rattle.answers.specs.Answers.{answer, slots}
 use Rattle.answers.proofs.Answers.{slots-written}
@@ -20,11 +20,18 @@ use Rattle.interface.specs.Sheet.{
   isDigit,
   isName,
   isNumeral,
+  wholePart,
+  fraction,
+  halfText,
+  hasHalf,
+  isWholeOrHalf,
+  isPoints,
   isValue,
   isLoneMinus,
   isCell,
   digitValue,
   numberFrom,
+  halfPoints,
   valueOf,
   pairSaid,
   longer,
@@ -40,7 +47,7 @@ use Rattle.interface.specs.Sheet.{
   isAmong,
   hasEqual,
 }
-use Rattle.interface.specs.Listing.{digit, decimalFrom, decimal, signedDecimal}
+use Rattle.interface.specs.Listing.{digit, decimalFrom, decimal, pointsText, signedPoints}
 use Rattle.interface.specs.SheetText.{pairText, joined, rowText, sheetLines, sheetText}
 use Rattle.interface.specs.Pool.{placeOf, placeOn, poolScores, poolPairs, poolText}
 use Rattle.interface.specs.Refusals.{
@@ -90,7 +97,8 @@ unscored = record {
   text = 65 ∷ 32 ∷ 66 ∷ 32 ∷ 67 ∷ 10 ∷ 57 ∷ 32 ∷ 45 ∷ 32 ∷ 45 ∷ 10 ∷ 45 ∷ 32 ∷ 45 ∷ 32 ∷ 49 ∷ 49 ∷ 10 ∷ 45 ∷ 32 ∷ 49 ∷ 49 ∷ 32 ∷ 49 ∷ 49 ∷ 10 ∷ [];
 }
 
--- further ones of the entry `A` alone: the sums `1000000` and `-1000000`, and a mark beside `1000000`
+-- further ones of the entry `A` alone: the sums `1000000` and `-1000000`, and a mark beside `1000000`;
+-- `-2` and `-0.5`, `-0.5` and `1`
 unfoldable pub pools : List Pool
 pools =
     signed
@@ -98,6 +106,8 @@ pools =
     ∷ record { first = 65 ∷ 10 ∷ 57 ∷ 57 ∷ 57 ∷ 57 ∷ 57 ∷ 57 ∷ 10 ∷ []; second = 65 ∷ 10 ∷ 49 ∷ 10 ∷ []; text = 65 ∷ 10 ∷ 49 ∷ 48 ∷ 48 ∷ 48 ∷ 48 ∷ 48 ∷ 48 ∷ 10 ∷ [] }
     ∷ record { first = 65 ∷ 10 ∷ 45 ∷ 49 ∷ 10 ∷ []; second = 65 ∷ 10 ∷ 45 ∷ 57 ∷ 57 ∷ 57 ∷ 57 ∷ 57 ∷ 57 ∷ 10 ∷ []; text = 65 ∷ 10 ∷ 45 ∷ 49 ∷ 48 ∷ 48 ∷ 48 ∷ 48 ∷ 48 ∷ 48 ∷ 10 ∷ [] }
     ∷ record { first = 65 ∷ 10 ∷ 49 ∷ 48 ∷ 48 ∷ 48 ∷ 48 ∷ 48 ∷ 48 ∷ 10 ∷ []; second = 65 ∷ 10 ∷ 45 ∷ 10 ∷ []; text = 65 ∷ 10 ∷ 45 ∷ 10 ∷ [] }
+    ∷ record { first = 65 ∷ 10 ∷ 45 ∷ 50 ∷ 10 ∷ []; second = 65 ∷ 10 ∷ 45 ∷ 48 ∷ 46 ∷ 53 ∷ 10 ∷ []; text = 65 ∷ 10 ∷ 45 ∷ 50 ∷ 46 ∷ 53 ∷ 10 ∷ [] }
+    ∷ record { first = 65 ∷ 10 ∷ 45 ∷ 48 ∷ 46 ∷ 53 ∷ 10 ∷ []; second = 65 ∷ 10 ∷ 49 ∷ 10 ∷ []; text = 65 ∷ 10 ∷ 48 ∷ 46 ∷ 53 ∷ 10 ∷ [] }
     ∷ []
 
 -- two sheets that a call with a buffer of 3 bytes refuses, and the number
@@ -108,7 +118,7 @@ pub record Refusal : Type 0 where
 
 -- the sheets that 2 to 9 and 11 refuse, with their numbers; `A`, `0`, which they pass
 abbrev wrong : List Case
-wrong = take 12 (drop 1 refused)
+wrong = take 16 (drop 1 refused)
 
 abbrev right : List ℕ
 right = 65 ∷ 10 ∷ 48 ∷ 10 ∷ []
@@ -127,6 +137,8 @@ refusals =
     -- the sums `1000001` and `-1000001`
     ∷ record { first = 65 ∷ 10 ∷ 49 ∷ 48 ∷ 48 ∷ 48 ∷ 48 ∷ 48 ∷ 48 ∷ 10 ∷ []; second = 65 ∷ 10 ∷ 49 ∷ 10 ∷ []; number = 18 }
     ∷ record { first = 65 ∷ 10 ∷ 45 ∷ 49 ∷ 10 ∷ []; second = 65 ∷ 10 ∷ 45 ∷ 49 ∷ 48 ∷ 48 ∷ 48 ∷ 48 ∷ 48 ∷ 48 ∷ 10 ∷ []; number = 18 }
+    -- the sum `1000000.5`
+    ∷ record { first = 65 ∷ 10 ∷ 49 ∷ 48 ∷ 48 ∷ 48 ∷ 48 ∷ 48 ∷ 48 ∷ 10 ∷ []; second = 65 ∷ 10 ∷ 48 ∷ 46 ∷ 53 ∷ 10 ∷ []; number = 18 }
     -- one byte short
     ∷ record { first = right; second = right; number = 14 }
     ∷ []
@@ -139,11 +151,11 @@ record Computed : Type 0 where
   positive : T (all (λ c. ltb 0 (c .number)) refusals)
 
 computed : Computed
-unfolding signed unscored pools refusals refused many below each all isUpper isDigit isName isNumeral isValue isLoneMinus isCell digitValue numberFrom
-    valueOf pairSaid longer cut lines names entries words value mirrored pairs sameBytes isAmong hasEqual digit decimalFrom decimal signedDecimal pairText
+unfolding signed unscored pools refusals refused many below each all isUpper isDigit isName isNumeral wholePart fraction halfText hasHalf isWholeOrHalf isPoints isValue isLoneMinus isCell digitValue numberFrom
+    halfPoints valueOf pairSaid longer cut lines names entries words value mirrored pairs sameBytes isAmong hasEqual digit decimalFrom decimal pointsText signedPoints pairText
     joined rowText sheetLines sheetText placeOf placeOn poolScores poolPairs poolText firstOf mostBytes mostEntries wrongLength isAllowed wrongByte
     wrongNames equalNames wrongCount wrongLines isRow wrongValues namesDiffer readerChecks sheetChecks poolChecks poolRefusal eqZ mark numberFor listNumber
-    carried rowStart place score pairList scoreLimit isInRange isAllowedPair scoresInRange added pooled
+    carried rowStart place score pairList onePoint pointLimit scoreLimit isInRange isAllowedPair scoresInRange added pooled
 computed = record { texts = refl; passes = refl; given = refl; positive = tt }
 
 -- a call in C whose table gives a number: minus it is answered, and nothing is written
@@ -199,8 +211,8 @@ pool-refusals c m call long = refused-as call (c .number)
 
 -- the numbers of a sheet
 abbrev pub ofSheet : List ℕ
-ofSheet = 2 ∷ 3 ∷ 4 ∷ 5 ∷ 6 ∷ 7 ∷ 8 ∷ 8 ∷ 8 ∷ 9 ∷ 9 ∷ 11 ∷ []
+ofSheet = 2 ∷ 3 ∷ 4 ∷ 4 ∷ 5 ∷ 6 ∷ 7 ∷ 8 ∷ 8 ∷ 8 ∷ 8 ∷ 9 ∷ 9 ∷ 11 ∷ 11 ∷ 11 ∷ []
 
-pub pool-numbers : map (λ c. c .number) refusals ≡ ofSheet ++ ofSheet ++ ofSheet ++ (17 ∷ 17 ∷ 17 ∷ 18 ∷ 18 ∷ 14 ∷ [])
+pub pool-numbers : map (λ c. c .number) refusals ≡ ofSheet ++ ofSheet ++ ofSheet ++ (17 ∷ 17 ∷ 17 ∷ 18 ∷ 18 ∷ 18 ∷ 14 ∷ [])
 unfolding refusals refused
 pool-numbers = refl

@@ -9,7 +9,7 @@ use native.Mathlib.Decide.{decLe}
 use native.Mathlib.Nat.{mul-le-mul}
 use native.Mathlib.Omega.{arith}
 use borrow.Author.Tests.{eq-eqb, ne-eqb, le-ltb}
-use lib.Dec.{T, eqb, lit<}
+use lib.Dec.{T, eqb, lit≤}
 use lib.IntN.{ℤ}
 use lib.ListN.{length, length-append, length-map, getD, List·getD-append}
 use lib.Seq.{getD-at}
@@ -19,7 +19,7 @@ use Rattle.lists.proofs.Lists.{below-lt, count-below, getD-below, of-map, map-c
 use Rattle.integers.specs.Integers.{eqZ}
 use Rattle.integers.proofs.Linear.{yes-eqZ}
 use Rattle.pairs.specs.Pairs.{listNumber, carried}
-use Rattle.clusters.specs.PairList.{Similarity, pairList, scoreLimit, isAllowedPair, scoresInRange}
+use Rattle.clusters.specs.PairList.{Similarity, pairList, onePoint, pointLimit, scoreLimit, isAllowedPair, scoresInRange}
 use Rattle.clusters.proofs.PairList.{in-pairList, pairList-cong}
 use Rattle.clusters.proofs.Scored.{AllAllowed}
 use Rattle.interface.specs.Sheet.{lineFeed, space, isUpper, isDigit, isName, isCell, pairSaid, cut, lines, names, entries, words, value, mirrored, pairs}
@@ -71,8 +71,8 @@ module _ (ws : List (List ℕ)) (f : (w : List ℕ) → w ∈ ws → Word w) whe
   words-cut : 0 < length ws → cut space (joined space ws) ≡ ws
   words-cut h = cut-joined space ws h (λ w m. word-no-space (f w m))
 
-  words-length : 0 < length ws → length (joined space ws) < length ws * 9
-  words-length h = length-joined space 9 ws h (λ w m. omega (arith, f w m .short))
+  words-length : 0 < length ws → length (joined space ws) < length ws * 10
+  words-length h = length-joined space 10 ws h (λ w m. omega (arith, f w m .short))
 
 module _ {ns : List (List ℕ)} {s : Similarity} (a : WellFormed ns s) where
   abbrev n : ℕ
@@ -93,10 +93,13 @@ module _ {ns : List (List ℕ)} {s : Similarity} (a : WellFormed ns s) where
       go (yes l) = lower i j h l
       go (no f) = subst (λ (z : ℤ). T (isAllowedPair scoreLimit (carried z))) (a .symmetric j i k h) (lower j i k (omega arith))
 
-  -- a score has at most 7 digits
-  few-digits : scoreLimit < 10000000
-  unfolding scoreLimit
-  few-digits = lit< tt
+  -- a score has at most 9 bytes
+  few-bytes : scoreLimit ≤ 2000000
+  unfolding scoreLimit onePoint pointLimit
+  few-bytes = lit≤ tt
+
+  few-digits : scoreLimit < 20000000
+  few-digits = omega (arith, few-bytes)
 
   name-words : (w : List ℕ) → w ∈ ns → Word w
   name-words w m = name-word w (all-in isName ns (a .named) m)
@@ -104,7 +107,7 @@ module _ {ns : List (List ℕ)} {s : Similarity} (a : WellFormed ns s) where
   row-words : (i : ℕ) → i < n → (w : List ℕ) → w ∈ rowWords n s i → Word w
   row-words i h w m =
       let (j, k, e) = of-map (λ j. pairText (carried (s i j))) (below n) m in
-      subst Word (sym e) (pair-word (carried (s i j)) few-digits (scores-allowed i j h (below-lt n k)))
+      subst Word (sym e) (pair-word (carried (s i j)) few-bytes (scores-allowed i j h (below-lt n k)))
 
   row-form : (i : ℕ) → i < n → T (isRow n (rowWords n s i))
   unfolding isRow
@@ -165,21 +168,21 @@ module _ {ns : List (List ℕ)} {s : Similarity} (a : WellFormed ns s) where
   sheetText-pairs =
       ap (λ (m : ℕ). pairList m (value text)) sheetText-entries ∙ pairList-cong n (value text) s (λ i j h k. sheetText-value i j h (omega arith))
 
-  pub sheetText-length : length (sheetText ns s) ≤ (length ns + 1) * (length ns * 9)
+  pub sheetText-length : length (sheetText ns s) ≤ (length ns + 1) * (length ns * 10)
   unfolding sheetText
   sheetText-length =
-      let short = length-ended lineFeed (n * 9) (sheetLines ns s) λ l m.
+      let short = length-ended lineFeed (n * 10) (sheetLines ns s) λ l m.
       let (ws, f, c, e) = line-words l m in
-      subst (λ (m : ℕ). length l < m * 9) c (subst (λ (t : List ℕ). length t < length ws * 9) (sym e) (words-length ws f (omega (arith, a .some)))) in
-      subst (λ (m : ℕ). length text ≤ m * (n * 9)) lines-count short
+      subst (λ (m : ℕ). length l < m * 10) c (subst (λ (t : List ℕ). length t < length ws * 10) (sym e) (words-length ws f (omega (arith, a .some)))) in
+      subst (λ (m : ℕ). length text ≤ m * (n * 10)) lines-count short
 
-  -- at the limit of 32 entries there are at most 9,504 bytes
-  pub sheetText-most : wrongCount (length ns) ≡ false → length (sheetText ns s) ≤ 9504
+  -- at the limit of 32 entries there are at most 10,560 bytes
+  pub sheetText-most : wrongCount (length ns) ≡ false → length (sheetText ns s) ≤ 10560
   sheetText-most count =
       let few : n ≤ 32 = right-count n count in
       let more : n + 1 ≤ 33 = omega arith in
-      let nines : n * 9 ≤ 288 = omega arith in
-      omega (arith, sheetText-length, mul-le-mul more nines)
+      let tens : n * 10 ≤ 320 = omega arith in
+      omega (arith, sheetText-length, mul-le-mul more tens)
 
   -- checks 2 to 5, 7 to 9 and 11, each in turn
   text-some : 0 < length text

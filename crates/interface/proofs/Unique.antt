@@ -20,9 +20,11 @@ use Rattle.interface.specs.Listing.{
   digits,
   hexadecimal,
   decimal,
+  pointsText,
   isHexDigit,
   isSet,
   isDecimal,
+  isIndex,
   isLine,
   lineRead,
   isFirst,
@@ -31,11 +33,12 @@ use Rattle.interface.specs.Listing.{
   listingRead,
 }
 use Rattle.interface.proofs.Numerals.{set-back, decimal-back}
+use Rattle.interface.proofs.Points.{index-back}
 use Rattle.interface.proofs.Pieces.{cut-once, same-bytes}
 
 -- the words of a line are told by what it says
 wordsOf : Line → List (List ℕ)
-wordsOf l = hexadecimal (l .set) ∷ decimal (l .size) ∷ decimal (natAbs (l .index)) ∷ []
+wordsOf l = hexadecimal (l .set) ∷ decimal (l .size) ∷ pointsText (natAbs (l .index)) ∷ []
 
 three-words : (ws : List (List ℕ)) → length ws ≡ 3 → ws ≡ getD ws 0 [] ∷ getD ws 1 [] ∷ getD ws 2 [] ∷ []
 three-words [] e = absurd (omega arith)
@@ -50,10 +53,10 @@ line-back ws t =
     let u = getD ws 0 [] in
     let v = getD ws 1 [] in
     let w = getD ws 2 [] in
-    let (t₂, index) = and-T (eqb (length ws) 3 && isSet u && isDecimal v) (isDecimal w) t in
+    let (t₂, index) = and-T (eqb (length ws) 3 && isSet u && isDecimal v) (isIndex w) t in
     let (t₁, size) = and-T (eqb (length ws) 3 && isSet u) (isDecimal v) t₂ in
     let (three, set) = and-T (eqb (length ws) 3) (isSet u) t₁ in
-    three-words ws (eqb→eq (length ws) 3 three) ∙ sym (rw (set-back u set, decimal-back v size, decimal-back w index))
+    three-words ws (eqb→eq (length ws) 3 three) ∙ sym (rw (set-back u set, decimal-back v size, index-back w index))
 
 -- two lines of the form that say the same are the same bytes
 pub line-once : (u w : List ℕ) → T (isLine (cut 32 u)) → T (isLine (cut 32 w)) → lineRead (cut 32 u) ≡ lineRead (cut 32 w) → u ≡ w

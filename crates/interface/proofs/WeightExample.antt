@@ -13,6 +13,8 @@ use Rattle.clusters.specs.PairList.{
   rowStart,
   place,
   score,
+  onePoint,
+  pointLimit,
   scoreLimit,
   hasLength,
   isInRange,
@@ -44,7 +46,7 @@ pub record WeightExamples : Type 0 where
 
 pub weight-examples : WeightExamples
 unfolding copies metric below each keep all minZ eqZ sumOf sum insert sort sumOfSmallest has members size mask complement rowStart place score
-    scoreLimit hasLength isInRange isAllowedPair scoresInRange hasUnscored areDistances mark carried isScored pairsOf quartet quartets doubledScore
+    onePoint pointLimit scoreLimit hasLength isInRange isAllowedPair scoresInRange hasUnscored areDistances mark carried isScored pairsOf quartet quartets doubledScore
     refinedWeight firstOf mostEntries wrongCount wrongDistances wrongSide weightChecks weightRefusal weighedAnswer
 weight-examples = record { four-copies = refl; five-entries = refl }
 
