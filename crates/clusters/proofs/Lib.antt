@@ -29,3 +29,4 @@ pub mod Pooled
 pub mod Quartets
 pub mod Crossing
 pub mod Refined
+pub mod Doubled
