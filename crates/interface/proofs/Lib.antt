@@ -23,3 +23,4 @@ pub mod SharedExample
 pub mod PoolExample
 pub mod Weighed
 pub mod WeightExample
+pub mod InPoints

@@ -1,0 +1,168 @@
+-- What bytes say in points (`InPoints`) is what is written for a number of half points; what is well formed, and what the cells of a sheet
+-- and the indices of a listing say.
+use mathlib.Core.Path.{_≡_, refl, sym, ap, _∙_, subst}
+use mathlib.Core.Bool.{Bool, true, false, not, cond, _&&_, _||_}
+use mathlib.Core.Logic.{_⊎_, inl, inr, _↔_}
+use mathlib.Core.List.{List, [], _∷_, _++_, append-nil}
+use Prim.Native.Nat.{ℕ, zero, suc, _+_, _*_, _/_, _^_, _<_, _≤_}
+use native.Mathlib.Omega.{arith}
+use native.Mathlib.Decide.{decLe}
+use lib.Dec.{T, eqb, leb, leb→le, eqb→eq, T-not, lit<}
+use lib.IntN.{ℤ, pos, negsuc, negℤ, _+ℤ_}
+use lib.ListN.{length, getD}
+use Rattle.lists.specs.Lists.{all}
+use Rattle.lists.proofs.Tests.{and-T, T-and, true-T}
+use Rattle.integers.specs.Range.{Within}
+use Rattle.integers.proofs.Linear.{up, dn}
+use Rattle.integers.proofs.Range.{within, up-le, dn-le}
+use Rattle.clusters.specs.PairList.{onePoint}
+use Rattle.interface.specs.Sheet.{
+  minus,
+  isDigit,
+  isNumeral,
+  wholePart,
+  halfText,
+  hasHalf,
+  isWholeOrHalf,
+  isPoints,
+  isValue,
+  numberFrom,
+  halfPoints,
+  valueOf,
+  sameBytes,
+}
+use Rattle.interface.specs.Listing.{digit, decimalFrom, decimal, pointsText, signedPoints, isDecimal, isIndex}
+use Rattle.interface.specs.WholePoints.{signedDecimal}
+use Rattle.interface.specs.Requests.{InPoints, whole, half, minus-half}
+use Rattle.interface.proofs.Digits.{decimal-least}
+use Rattle.interface.proofs.Numerals.{decimal-back}
+use Rattle.interface.proofs.Points.{half-number, index-back}
+use Rattle.interface.proofs.Values.{read-signed, value-form}
+
+-- whole points and a half more, or none, without a sign
+pub even-text : (n : ℕ) → pointsText (n + n) ≡ decimal n
+unfolding onePoint
+even-text n = let e : n + n ≡ n * 2 + 0 = omega arith in ap pointsText e ∙ half-number n false ∙ append-nil (decimal n)
+
+odd-text : (n : ℕ) → pointsText (n + n + 1) ≡ decimal n ++ halfText
+unfolding onePoint
+odd-text n = let e : n + n + 1 ≡ n * 2 + 1 = omega arith in ap pointsText e ∙ half-number n true
+
+-- what says a number is what is written for it
+pub says-written : {w : List ℕ} {z : ℤ} → InPoints w z → w ≡ signedPoints z
+unfolding signedPoints signedDecimal halfText
+says-written (whole (pos n)) = sym (even-text n)
+says-written (whole (negsuc n)) = let e : suc (suc (n + n)) ≡ suc n + suc n = omega arith in ap (λ (w : List ℕ). minus ∷ w) (sym (ap pointsText e ∙ even-text (suc n)))
+says-written (half k) = sym (odd-text k)
+says-written (minus-half k) = go (k + k + 1) (omega arith) (sym (odd-text k))
+  where
+    go : (m : ℕ) → 0 < m → decimal k ++ halfText ≡ pointsText m → minus ∷ (decimal k ++ halfText) ≡ signedPoints (negℤ (pos m))
+    go zero h e = absurd (omega arith)
+    go (suc m) h e = ap (λ (w : List ℕ). minus ∷ w) e
+
+-- twice a number, or one more: there is no other
+data Halves : ℕ → Type 0 where
+  even : (n : ℕ) → Halves (n + n)
+  odd-one : (n : ℕ) → Halves (n + n + 1)
+
+halves : (k : ℕ) → Halves k
+halves zero = even 0
+halves (suc k) = go (halves k)
+  where
+    go : {k : ℕ} → Halves k → Halves (suc k)
+    go (even n) = let e : n + n + 1 ≡ suc (n + n) = omega arith in subst Halves e (odd-one n)
+    go (odd-one n) = let e : suc n + suc n ≡ suc (n + n + 1) = omega arith in subst Halves e (even (suc n))
+
+pub written-says : (z : ℤ) → InPoints (signedPoints z) z
+unfolding signedPoints signedDecimal halfText
+written-says (pos k) = go (halves k)
+  where
+    go : {k : ℕ} → Halves k → InPoints (pointsText k) (pos k)
+    go (even n) = subst (λ (w : List ℕ). InPoints w (pos (n + n))) (sym (even-text n)) (whole (pos n))
+    go (odd-one n) = subst (λ (w : List ℕ). InPoints w (pos (n + n + 1))) (sym (odd-text n)) (half n)
+written-says (negsuc k) = go (suc k) (halves (suc k)) (omega arith)
+  where
+    go : (k : ℕ) → Halves k → 0 < k → InPoints (minus ∷ pointsText k) (negℤ (pos k))
+    go _ (even zero) h = absurd (omega arith)
+    go _ (even (suc n)) h =
+        let e : suc (suc (n + n)) ≡ suc n + suc n = omega arith in
+        subst (λ (w : List ℕ). InPoints (minus ∷ w) (negℤ (pos (suc n + suc n)))) (sym (even-text (suc n)))
+        (subst (λ (m : ℕ). InPoints (minus ∷ decimal (suc n)) (negℤ (pos m))) e (whole (negsuc n)))
+    go _ (odd-one n) h = subst (λ (w : List ℕ). InPoints (minus ∷ w) (negℤ (pos (n + n + 1)))) (sym (odd-text n)) (minus-half n)
+
+pub one-text : {v w : List ℕ} {z : ℤ} → InPoints v z → InPoints w z → v ≡ w
+one-text a b = says-written a ∙ sym (says-written b)
+
+pub says-value : {w : List ℕ} {z : ℤ} → InPoints w z → valueOf w ≡ z
+says-value {w} {z} a = ap valueOf (says-written a) ∙ read-signed z
+
+-- a numeral is decimal, and below 10,000,000
+numeral-decimal : (w : List ℕ) → T (isNumeral w) → T (isDecimal w) × (length w ≤ 7)
+unfolding isNumeral isDecimal
+numeral-decimal [] t = absurd t
+numeral-decimal (b ∷ w) t =
+    let run = all isDigit (b ∷ w) in
+    let lead = not (eqb b 48) || eqb (length w) 0 in
+    let (front, l) = and-T (run && leb (length w) 6) lead t in
+    let (r, few) = and-T run (leb (length w) 6) front in
+    (T-and run lead r l, omega (arith, leb→le (length w) 6 few))
+
+numeral-small : (w : List ℕ) → T (isNumeral w) → numberFrom 10 0 w < 10000000
+numeral-small w t = go (decLe (10 ^ 7) (numberFrom 10 0 w))
+  where
+    go : Dec (10 ^ 7 ≤ numberFrom 10 0 w) → numberFrom 10 0 w < 10000000
+    go (yes h) = let (d, few) = numeral-decimal w t in absurd (omega (arith, decimal-least 7 (numberFrom 10 0 w) h, ap length (decimal-back w d)))
+    go (no f) = omega arith
+
+-- a value without its sign is what is written for its half points, fewer than 20,000,000
+points-index : (w : List ℕ) → T (isPoints w) → T (isIndex w)
+unfolding isPoints isIndex
+points-index w t =
+    let (n, e) = and-T (isNumeral (wholePart w)) (isWholeOrHalf w) t in
+    T-and (isDecimal (wholePart w)) (isWholeOrHalf w) (numeral-decimal (wholePart w) n .0) e
+
+points-small : (w : List ℕ) → T (isPoints w) → halfPoints w < 20000000
+unfolding isPoints halfPoints onePoint
+points-small w t =
+    let n = numeral-small (wholePart w) (and-T (isNumeral (wholePart w)) (isWholeOrHalf w) t .0) in
+    omega (arith, one (hasHalf w))
+  where
+    one : (b : Bool) → cond b 1 0 ≤ 1
+    one true = omega arith
+    one false = omega arith
+
+-- only `0` is written for nothing
+zero-text : pointsText 0 ≡ 48 ∷ []
+unfolding decimal decimalFrom digit
+zero-text = even-text 0
+
+negative-back : (w : List ℕ) (k : ℕ) → halfPoints w ≡ k → T (isPoints w) → T (not (sameBytes w (48 ∷ [])))
+    → (signedPoints (negℤ (pos k)) ≡ minus ∷ w) × Within 19999999 (negℤ (pos k))
+unfolding signedPoints up dn sameBytes
+negative-back w zero e p n =
+    let zero : w ≡ 48 ∷ [] = sym (index-back w (points-index w p)) ∙ ap pointsText e ∙ zero-text in
+    absurd (subst (λ (v : List ℕ). T (not (sameBytes v (48 ∷ [])))) zero n)
+negative-back w (suc k) e p n = (
+  ap (λ (v : List ℕ). minus ∷ v) (ap pointsText (sym e) ∙ index-back w (points-index w p)),
+  within (omega arith) (omega (arith, points-small w p)),
+)
+
+-- of a well-formed value
+pub value-back : (w : List ℕ) → T (isValue w) → (signedPoints (valueOf w) ≡ w) × Within 19999999 (valueOf w)
+unfolding isValue valueOf signedPoints up dn
+value-back [] t = absurd t
+value-back (b ∷ w) t = go (eqb b minus) refl t
+  where
+    go : (x : Bool) → eqb b minus ≡ x → T (cond x (isPoints w && not (sameBytes w (48 ∷ []))) (isPoints (b ∷ w)))
+        → let z = cond x (negℤ (pos (halfPoints w))) (pos (halfPoints (b ∷ w))) in (signedPoints z ≡ b ∷ w) × Within 19999999 z
+    go true e t =
+        let (p, n) = and-T (isPoints w) (not (sameBytes w (48 ∷ []))) t in
+        let (back, in-range) = negative-back w (halfPoints w) refl p n in
+        (back ∙ ap (λ (c : ℕ). c ∷ w) (sym (eqb→eq b minus (true-T e))), in-range)
+    go false e t = (index-back (b ∷ w) (points-index (b ∷ w) t), within (omega (arith, points-small (b ∷ w) t)) (omega arith))
+
+pub well-formed : (w : List ℕ) → T (isValue w) ↔ ((z : ℤ) × InPoints w z × Within 19999999 z)
+well-formed w = (
+  λ t. let (back, in-range) = value-back w t in (valueOf w, subst (λ (v : List ℕ). InPoints v (valueOf w)) back (written-says (valueOf w)), in-range),
+  λ (z, says, h). subst (λ (v : List ℕ). T (isValue v)) (sym (says-written says)) (value-form z (lit< tt) h),
+)
