@@ -1,7 +1,7 @@
 -- The size of anchored scores and of distances back, and of what the code adds up for them.
 use mathlib.Core.Path.{_≡_, refl, sym, ap₂, subst, _∙_}
 use mathlib.Core.List.{List}
-use Prim.Native.Nat.{ℕ, _-_, _^_, _<_}
+use Prim.Native.Nat.{ℕ, _+_, _-_, _^_, _<_}
 use native.Mathlib.Omega.{arith}
 use lib.Dec.{T}
 use lib.IntN.{ℤ, _+ℤ_}
@@ -11,11 +11,11 @@ use mir.Val.{hbits, ofZ, toZ}
 use Rattle.integers.specs.Range.{Within, Bounded}
 use Rattle.integers.proofs.Held.{passed}
 use Rattle.integers.proofs.Range.{within-grow, within-sum, within-difference}
-use Rattle.clusters.specs.PairList.{score, inRange}
+use Rattle.clusters.specs.PairList.{score, onePoint, pointLimit, scoreLimit, inRange}
 use Rattle.clusters.specs.Farris.{farris, anchoredScores, distancesBack}
 use Rattle.clusters.proofs.PairList.{of-pairList}
 use Rattle.clusters.proofs.Farris.{score-back}
-use Rattle.matrix.proofs.Scores.{million, score-within}
+use Rattle.matrix.proofs.Scores.{range-limit, score-within}
 use Rattle.farris.specs.declared.Way.{Way}
 use Rattle.farris.specs.declared.Way.the-variants.{Anchored, Back}
 use Rattle.farris.specs.Ways.{converted, Convertible}
@@ -31,19 +31,19 @@ addends {u} {v} h k m e p q =
     let g : toZ w64 (ofZ w64 v) ≡ v = passed w64 k refl in
     subst (Within (2 ^ 61)) (sym (passed w64 m (e ∙ ap₂ _+ℤ_ f g))) (within-grow (omega arith) (within-sum p q))
 
-farris-within : (l : List ℤ) (x a b : ℕ) → T (inRange l) → Within 3000000 (farris (score l) x a b)
+farris-within : (l : List ℤ) (x a b : ℕ) → T (inRange l) → Within (scoreLimit + scoreLimit + scoreLimit) (farris (score l) x a b)
 unfolding farris
-farris-within l x a b t = within-difference (within-sum (score-within (million l t) a x) (score-within (million l t) b x)) (score-within (million l t) a b)
+farris-within l x a b t = within-difference (within-sum (score-within (range-limit l t) a x) (score-within (range-limit l t) b x)) (score-within (range-limit l t) a b)
 
 -- what is written fits 32 bits
 pub converted-small : (w : Way) (n : ℕ) (l : List ℤ) (a b : ℕ) → Convertible w n l → a < n → b < n → Within (2 ^ 31 - 1) (converted w (score l) a b)
-unfolding converted Convertible
+unfolding converted Convertible onePoint pointLimit scoreLimit
 converted-small (Anchored x) n l a b (_, t) h k = within-grow (omega arith) (farris-within l x a b t)
 converted-small Back n l a b t h k = within-grow (omega arith)
-    (subst (Within 1000000) (score-back n l a b h k) (score-within (million (distancesBack n l) t) a b))
+    (subst (Within scoreLimit) (score-back n l a b h k) (score-within (range-limit (distancesBack n l) t) a b))
 
-pub anchored-bounded : (n x : ℕ) (l : List ℤ) → T (inRange l) → Bounded (2 ^ 22) (anchoredScores n x l)
-unfolding anchoredScores
+pub anchored-bounded : (n x : ℕ) (l : List ℤ) → T (inRange l) → Bounded (2 ^ 31) (anchoredScores n x l)
+unfolding anchoredScores onePoint pointLimit scoreLimit
 anchored-bounded n x l t z m =
     let (a, b, _, _, e) = of-pairList n (farris (score l) x) m in
-    within-grow (omega arith) (subst (Within 3000000) (sym e) (farris-within l x a b t))
+    within-grow (omega arith) (subst (Within (scoreLimit + scoreLimit + scoreLimit)) (sym e) (farris-within l x a b t))

@@ -5,7 +5,7 @@ use mathlib.Core.List.{List}
 use Prim.Native.Nat.{ℕ, suc, _<_}
 use native.Mathlib.Omega.{arith}
 use lib.Dec.{T}
-use lib.IntN.{ℤ, pos, negsuc, _+ℤ_, _-ℤ_}
+use lib.IntN.{ℤ, pos, _+ℤ_, _-ℤ_}
 use lib.Signed.{leZ}
 use Rattle.lists.specs.Lists.{_∈_, below, all}
 use Rattle.lists.proofs.Tests.{and-T, T-and, T-same}
@@ -16,7 +16,6 @@ use Rattle.clusters.specs.PairList.{Similarity, score, scoreLimit, isInRange, i
 use Rattle.clusters.specs.Farris.{unfarris, distancesBack, isAnchored}
 use Rattle.clusters.proofs.PairList.{in-pairList, of-pairList}
 use Rattle.clusters.proofs.Farris.{score-back}
-use Rattle.clusters.proofs.Scored.{range-within}
 use Rattle.farris.specs.Distances.{isDistance}
 
 and-assoc : (a b c : Bool) → a && b && c ≡ a && (b && c)
@@ -32,18 +31,13 @@ own-zero : (S : Similarity) (a : ℕ) → unfarris S a a ≡ pos 0
 unfolding unfarris half
 own-zero S a = ap half (less-itself (S a a +ℤ S a a))
 
-distance-parts : (z : ℤ) → T (isDistance z) → T (leZ (pos 0) z) × T (leZ z (pos scoreLimit))
+distance-parts : (z : ℤ) → T (isDistance z) → T (leZ (pos 0) z) × T (isInRange scoreLimit z)
 unfolding isDistance
-distance-parts z t = and-T (leZ (pos 0) z) (leZ z (pos scoreLimit)) t
-
-distance-ranged : (z : ℤ) → T (leZ (pos 0) z) × T (leZ z (pos scoreLimit)) → T (isInRange scoreLimit z)
-unfolding isInRange scoreLimit
-distance-ranged (pos a) (t, u) = u
-distance-ranged (negsuc a) (t, u) = absurd t
+distance-parts z t = and-T (leZ (pos 0) z) (isInRange scoreLimit z) t
 
 ranged-distance : (z : ℤ) → T (isInRange scoreLimit z) → T (leZ (pos 0) z) → T (isDistance z)
 unfolding isDistance
-ranged-distance z t u = T-and (leZ (pos 0) z) (leZ z (pos scoreLimit)) u (range-within t .top .le)
+ranged-distance z t u = T-and (leZ (pos 0) z) (isInRange scoreLimit z) u t
 
 module _ (n : ℕ) (l : List ℤ) where
   abbrev D : List ℤ
@@ -57,11 +51,11 @@ module _ (n : ℕ) (l : List ℤ) where
 
   fore : T (all row (below n)) → T (inRange D && areDistances n D)
   unfolding distancesBack inRange areDistances
-  fore t = T-and (inRange D) (areDistances n D) (in-all (isInRange scoreLimit) D (λ z m. distance-ranged z (each z m)))
+  fore t = T-and (inRange D) (areDistances n D) (in-all (isInRange scoreLimit) D (λ z m. each z m .1))
       (T-and (all (leZ (pos 0)) D) (all own (below n))
       (in-all (leZ (pos 0)) D (λ z m. each z m .0)) (in-all own (below n) (λ a m. own-passes a (below-lt n m))))
     where
-      each : (z : ℤ) → z ∈ D → T (leZ (pos 0) z) × T (leZ z (pos scoreLimit))
+      each : (z : ℤ) → z ∈ D → T (leZ (pos 0) z) × T (isInRange scoreLimit z)
       each z m =
           let (a, b, h, k, e) = of-pairList n (unfarris (score l)) m in
           let r = all-in row (below n) t (lt-below n a h) in

@@ -2,7 +2,7 @@
 use mathlib.Core.Bool.{Bool, _&&_}
 use lib.IntN.{ℤ, pos}
 use lib.Signed.{leZ}
-use Rattle.clusters.specs.PairList.{scoreLimit}
+use Rattle.clusters.specs.PairList.{scoreLimit, isInRange}
 
 unfoldable pub isDistance : ℤ → Bool
-isDistance v = leZ (pos 0) v && leZ v (pos scoreLimit)
+isDistance v = leZ (pos 0) v && isInRange scoreLimit v

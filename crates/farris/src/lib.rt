@@ -151,7 +151,7 @@ pub fn anchored_scores(n: usize, x: usize, pairs: &[i32], out: &mut [i32]) -> An
 fn is_distance(v: i64) -> bool
     ensures { λ r. ⌜ r ≡ isDistance v ⌝ }
 {
-    integers::at_most(0, v) && integers::at_most(v, 1000000)
+    integers::at_most(0, v) && matrix::is_in_range(v)
 }
 
 // Row a, found back, is of distances.

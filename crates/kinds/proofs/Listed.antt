@@ -16,7 +16,7 @@ use Rattle.integers.proofs.Range.{within-grow}
 use Rattle.sets.specs.Sets.{_∋_, size}
 use Rattle.sets.proofs.Sizes.{size-wide}
 use Rattle.pairs.proofs.Pairs.{scored-is}
-use Rattle.clusters.specs.PairList.{score, scoreLimit, inRange, isAllowedPair, hasUnscored}
+use Rattle.clusters.specs.PairList.{score, onePoint, pointLimit, scoreLimit, inRange, isAllowedPair, hasUnscored}
 use Rattle.clusters.specs.Touched.{untouched}
 use Rattle.clusters.specs.Groups.{Kind, strong, clean, splits, proper, speaksOf, kindOf}
 use Rattle.clusters.proofs.Groups.{leastSize, speaks-size}
@@ -53,7 +53,7 @@ accepted-range {l} c t = scored-in-range l (c .range) t
 
 -- of the members of a set that no unscored pair touches
 pub untouched-small : {n : ℕ} {l : List ℤ} → Checked n l → (A : ℕ) → T (untouched n (score l) A) → (a : ℕ) → a < n → A ∋ a → SmallRow n l a
-unfolding scoreLimit
+unfolding onePoint pointLimit scoreLimit
 untouched-small {n} {l} c A t a ha ka y hy =
     let q = scored-is (of-untouched n (score l) A t a y ha hy ka) in
     within-grow (lit≤ tt) (allowed-within (subst (λ p. T (isAllowedPair scoreLimit p)) q (list-allowed n l (c .long) (c .range) a y ha hy)))

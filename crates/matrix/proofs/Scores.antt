@@ -1,4 +1,4 @@
--- The size of a number of the pair list: a score that passes check 11 is within a million, the mark within 2 ^ 31.
+-- The size of a number of the pair list: a score that passes check 11 is within 2 ^ 22, the mark within 2 ^ 31.
 use mathlib.Core.Path.{_≡_, sym, subst}
 use mathlib.Core.Logic.{_⊎_, inl, inr}
 use mathlib.Core.List.{List}
@@ -11,22 +11,23 @@ use Rattle.integers.specs.Range.{Within, Bounded}
 use Rattle.integers.proofs.Linear.{up, dn}
 use Rattle.integers.proofs.Range.{within, within-grow, value-within}
 use Rattle.pairs.specs.Pairs.{mark, carried}
-use Rattle.clusters.specs.PairList.{score, place, scoreLimit, isInRange, inRange, isAllowedPair, scoresInRange}
+use Rattle.clusters.specs.PairList.{score, place, onePoint, pointLimit, scoreLimit, isInRange, inRange, isAllowedPair, scoresInRange}
 use Rattle.clusters.proofs.Scored.{range-within, allowed-cases}
 
-pub million : (l : List ℤ) → T (inRange l) → Bounded 1000000 l
-unfolding inRange scoreLimit
-million l t z m = range-within (all-in (isInRange scoreLimit) l t m)
+pub range-limit : (l : List ℤ) → T (inRange l) → Bounded scoreLimit l
+unfolding inRange
+range-limit l t z m = range-within (all-in (isInRange scoreLimit) l t m)
 
 pub range-bounded : (l : List ℤ) → T (inRange l) → Bounded (2 ^ 22) l
-range-bounded l t z m = within-grow (lit≤ tt) (million l t z m)
+unfolding onePoint pointLimit scoreLimit
+range-bounded l t z m = within-grow (lit≤ tt) (range-limit l t z m)
 
 mark-within : Within (2 ^ 31) mark
 unfolding mark up dn
 mark-within = within (lit≤ tt) (lit≤ tt)
 
 pub lent-bounded : (l : List ℤ) → T (scoresInRange l) → Bounded (2 ^ 31) l
-unfolding scoresInRange scoreLimit
+unfolding scoresInRange onePoint pointLimit scoreLimit
 lent-bounded l t z m = go (allowed-cases (all-in (λ v. isAllowedPair scoreLimit (carried v)) l t m))
   where
     go : (z ≡ mark) ⊎ Within scoreLimit z → Within (2 ^ 31) z

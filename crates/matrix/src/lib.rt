@@ -111,10 +111,11 @@ pub fn has_length(n: usize, pairs: &[i32]) -> bool
     pairs.len() == pair_count(n)
 }
 
-fn is_in_range(v: i64) -> bool
+// What 11 asks of a score: from -1,000,000 to 1,000,000 points, in half points.
+pub fn is_in_range(v: i64) -> bool
     ensures { λ r. ⌜ r ≡ isInRange scoreLimit v ⌝ }
 {
-    integers::at_most(-1000000, v) & integers::at_most(v, 1000000)
+    integers::at_most(-2000000, v) & integers::at_most(v, 2000000)
 }
 
 // A score in the range, or the mark.

@@ -3,12 +3,11 @@ use mathlib.Core.Path.{_≡_, sym, ap, subst, _∙_}
 use mathlib.Core.List.{List, _++_, append-assoc}
 use Prim.Native.Nat.{ℕ, _+_, _-_, _^_, _≤_}
 use native.Mathlib.Omega.{arith}
-use lib.Dec.{T, lit≤}
+use lib.Dec.{T}
 use lib.IntN.{ℤ}
 use lib.ListN.{length, take, drop, length-append, length-map}
 use lib.Seq.{take-at}
 use Rattle.integers.specs.Range.{Bounded}
-use Rattle.integers.proofs.Range.{within-grow}
 use Rattle.sets.specs.Sets.{_∪_}
 use Rattle.clusters.specs.Farris.{farris, anchoredScores}
 use Rattle.clusters.specs.Groups.{Kind, strong, clean, splits, treeLinkage, lentScores}
@@ -49,7 +48,7 @@ module _ {n : ℕ} {l all : List ℤ} {k : ℕ} (f : Front n l all k) where
   front-long = ap length front ∙ long
 
   pub front-bounded : T (inRange l) → Bounded (2 ^ 31) (take k all)
-  front-bounded t = subst (Bounded (2 ^ 31)) (sym front) (λ z m. within-grow (lit≤ tt) (anchored-bounded n 0 l t z m))
+  front-bounded t = subst (Bounded (2 ^ 31)) (sym front) (anchored-bounded n 0 l t)
 
   pub front-fits : k ≤ length all
   front-fits = omega (arith, ap length (f .are), length-append (anchoredScores n 0 l) (f .rest), long)

@@ -1,7 +1,6 @@
 use borrow.Author.Needs.{needs}
 use mir.Facts.{toZ-ofZ}
 use Rattle.integers.proofs.Tests.{and-second, and-first}
-use Rattle.clusters.specs.PairList.{scoreLimit}
 use Rattle.farris.specs.Distances.{isDistance}
 use Rattle.farris.proofs.is_distance.Statement.{statement}
 use Rattle.farris.proofs.is_distance.Tie as tie
@@ -9,17 +8,17 @@ use Rattle.farris.proofs.is_distance.Tie as tie
 at-most-requires : tie.Need-at-most-requires
 at-most-requires c κs = search needs
 
-at-most-requires-2 : tie.Need-at-most-requires-2
-at-most-requires-2 c κs = search needs
+is-in-range-requires : tie.Need-is-in-range-requires
+is-in-range-requires c κs = search needs
 
 returns : tie.Need-returns
-unfolding isDistance scoreLimit
+unfolding isDistance
 returns c = let f = toZ-ofZ (c .before .before .before .fits .v) in
-    and-second (rw f at (c .before .before .at-most .ensures)) (c .before .if1 .taken) (rw f at (c .at-most2 .ensures))
+    and-second (rw f at (c .before .before .at-most .ensures)) (c .before .if1 .taken) (rw f at (c .is-in-range .ensures))
 
 returns-2 : tie.Need-returns-2
-unfolding isDistance scoreLimit
+unfolding isDistance
 returns-2 c = let f = toZ-ofZ (c .before .before .fits .v) in and-first _ (rw f at (c .before .at-most .ensures)) (c .if1 .left)
 
 pub is-distance-spec : {M : Type 1} → statement M
-is-distance-spec = tie.close (tie.spec at-most-requires at-most-requires-2 returns returns-2)
+is-distance-spec = tie.close (tie.spec at-most-requires is-in-range-requires returns returns-2)
