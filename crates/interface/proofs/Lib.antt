@@ -24,3 +24,4 @@ pub mod PoolExample
 pub mod Weighed
 pub mod WeightExample
 pub mod InPoints
+pub mod Cells

@@ -97,7 +97,7 @@ left s t =
       not-not (scoresInRange (pairs s)) (passes checks tt e 8 (lit< tt)),
     )
 
-mirrored-same : (n : ℕ) (v : Similarity) → T (mirrored n v) → (i j : ℕ) → i < n → j < n → v i j ≡ v j i
+pub mirrored-same : (n : ℕ) (v : Similarity) → T (mirrored n v) → (i j : ℕ) → i < n → j < n → v i j ≡ v j i
 unfolding mirrored
 mirrored-same n v t i j h k = eqZ-yes (v i j) (v j i) (all-in (λ j. eqZ (v i j) (v j i)) (below n)
     (all-in (λ i. all (λ j. eqZ (v i j) (v j i)) (below n)) (below n) t (lt-below n i h)) (lt-below n j k))

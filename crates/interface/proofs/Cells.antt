@@ -1,0 +1,148 @@
+-- The cells of a sheet that passes 2 to 9: each has half points or the mark, as its bytes say; and what 11 then means.
+use mathlib.Core.Path.{_≡_, refl, sym, ap, _∙_, subst}
+use mathlib.Core.Bool.{not, true≢false}
+use mathlib.Core.Logic.{_⊎_, inl, inr, _≢_, _↔_}
+use mathlib.Core.List.{List, [], _∷_, Memᴰ·cast}
+use Prim.Native.Nat.{ℕ, _*_, _<_, _≤_}
+use native.Mathlib.Omega.{arith}
+use native.Mathlib.Decide.{decLe}
+use lib.Dec.{T, T-not, not-T, eqb, eqb→eq, lit<}
+use lib.IntN.{ℤ}
+use lib.ListN.{length, getD}
+use Rattle.lists.specs.Lists.{_∈_, below, all}
+use Rattle.lists.proofs.Lists.{lt-below, all-in, getD-in, some-fails}
+use Rattle.lists.proofs.Tests.{and-T, or-T, T-or-not, T-true, T-false}
+use Rattle.integers.specs.Integers.{eqZ}
+use Rattle.integers.specs.Range.{Within}
+use Rattle.integers.proofs.Linear.{up, dn, zarith}
+use Rattle.integers.proofs.Range.{dn-le}
+use Rattle.pairs.specs.declared.Carried.{Carried}
+use Rattle.pairs.specs.declared.Carried.the-variants.{Scored, Unscored}
+use Rattle.pairs.specs.Pairs.{mark, numberFor, listNumber, carried}
+use Rattle.pairs.proofs.Pairs.{Cases, carried-cases}
+use Rattle.clusters.specs.PairList.{scoreLimit, onePoint, pointLimit, isAllowedPair, scoresInRange}
+use Rattle.clusters.proofs.PairList.{in-pairList, of-pairList}
+use Rattle.clusters.proofs.Scored.{allowed-within, within-range}
+use Rattle.interface.specs.Sheet.{isLoneMinus, isValue, isCell, valueOf, pairSaid, entries, words, value, mirrored, pairs}
+use Rattle.interface.specs.Refusals.{none, wrongValues, isRow, readerChecks}
+use Rattle.interface.specs.Requests.{InPoints, wordAt, CellSays, points, lone-minus, PointsOut}
+use Rattle.interface.proofs.Refusals.{first-none, passes}
+use Rattle.interface.proofs.Accepted.{not-not}
+use Rattle.interface.proofs.Values.{signed-lone}
+use Rattle.interface.proofs.InPoints.{says-written, says-value, written-says, value-back}
+use Rattle.interface.proofs.Pool.{mirrored-same}
+
+-- a value is not the mark's number: 7 digits are too few
+pub value-scored : {z : ℤ} → Within 19999999 z → z ≢ mark
+unfolding mark up dn
+value-scored h e = omega (zarith, dn-le h, ap dn e)
+
+scored : {z : ℤ} → Within 19999999 z → carried z ≡ Scored z
+scored {z} h = go (carried-cases z)
+  where
+    go : Cases z → carried z ≡ Scored z
+    go (inl e) = e
+    go (inr (m, _)) = absurd (value-scored h m)
+
+-- the mark, and a word that is not the mark
+pub lone-word : (w : List ℕ) → T (isLoneMinus w) → w ≡ 45 ∷ []
+unfolding isLoneMinus
+lone-word [] t = absurd t
+lone-word (b ∷ w) t =
+    let (e, l) = and-T (eqb b 45) (eqb (length w) 0) t in
+    ap (λ (c : ℕ). c ∷ w) (eqb→eq b 45 e) ∙ ap (λ (v : List ℕ). 45 ∷ v) (nothing w (eqb→eq (length w) 0 l))
+  where
+    nothing : (w : List ℕ) → length w ≡ 0 → w ≡ []
+    nothing [] e = refl
+    nothing (b ∷ w) e = absurd (omega arith)
+
+pub said-value : (w : List ℕ) → T (not (isLoneMinus w)) → listNumber (pairSaid w) ≡ valueOf w
+unfolding listNumber pairSaid numberFor
+said-value w t = rw (T-false {b = isLoneMinus w} t)
+
+alone : CellSays (45 ∷ []) (carried (listNumber (pairSaid (45 ∷ []))))
+unfolding isLoneMinus pairSaid listNumber numberFor carried eqZ mark
+alone = lone-minus
+
+cell-says : (w : List ℕ) → T (isCell w) → CellSays w (carried (listNumber (pairSaid w)))
+unfolding isCell
+cell-says w t = go (T-or-not (isLoneMinus w)) (or-T (isLoneMinus w) (isValue w) t)
+  where
+    go : T (isLoneMinus w) ⊎ T (not (isLoneMinus w)) → T (isLoneMinus w) ⊎ T (isValue w) → CellSays w (carried (listNumber (pairSaid w)))
+    go (inl l) _ = subst (λ (v : List ℕ). CellSays v (carried (listNumber (pairSaid v)))) (sym (lone-word w l)) alone
+    go (inr f) (inl l) = absurd (T-not (isLoneMinus w) f l)
+    go (inr f) (inr v) =
+        let (back, h) = value-back w v in
+        subst (CellSays w) (sym (ap carried (said-value w f) ∙ scored h))
+        (points (subst (λ (u : List ℕ). InPoints u (valueOf w)) back (written-says (valueOf w))) h)
+
+-- a cell that says half points carries them
+no-lone : {z : ℤ} → InPoints (45 ∷ []) z → ⊥
+unfolding isLoneMinus
+no-lone {z} p = true≢false (ap isLoneMinus (says-written p) ∙ signed-lone z)
+
+said-points : {w : List ℕ} {c : Carried} {z : ℤ} → CellSays w c → InPoints w z → c ≡ Scored z
+said-points (points q _) p = ap Scored (sym (says-value q) ∙ says-value p)
+said-points lone-minus p = absurd (no-lone p)
+
+-- of a sheet
+module _ (s : List ℕ) where
+  pub cell-at : T (not (wrongValues s)) → (i j : ℕ) → i < entries s → j < entries s → T (isCell (wordAt s i j))
+  unfolding wrongValues isRow
+  cell-at t i j h k =
+      let n = entries s in
+      let rows = not-not (all (λ i. isRow n (words s i)) (below n)) t in
+      let row = all-in (λ i. isRow n (words s i)) (below n) rows (lt-below n i h) in
+      let (e, are) = and-T (eqb (length (words s i)) n) (all isCell (words s i)) row in
+      all-in isCell (words s i) are (getD-in (words s i) j [] (omega (arith, eqb→eq (length (words s i)) n e)))
+
+  module _ (t : T (none (readerChecks s))) where
+    formed : T (not (wrongValues s))
+    unfolding readerChecks all
+    formed = passes (readerChecks s) tt (first-none (readerChecks s) tt .1 t) 6 (lit< tt)
+
+    same : T (mirrored (entries s) (value s))
+    unfolding readerChecks all
+    same = not-not (mirrored (entries s) (value s)) (passes (readerChecks s) tt (first-none (readerChecks s) tt .1 t) 7 (lit< tt))
+
+    pub cells : (i j : ℕ) → i < entries s → j < entries s → CellSays (wordAt s i j) (carried (value s i j))
+    unfolding value
+    cells i j h k = cell-says (wordAt s i j) (cell-at formed i j h k)
+
+    -- the value of any cell stands in the pair list
+    listed-value : (i j : ℕ) → i < entries s → j < entries s → value s i j ∈ pairs s
+    unfolding pairs
+    listed-value i j h k = go (decLe j i)
+      where
+        go : Dec (j ≤ i) → value s i j ∈ pairs s
+        go (yes l) = in-pairList (entries s) (value s) h l
+        go (no l) = Memᴰ·cast (mirrored-same (entries s) (value s) same i j h k) (in-pairList (entries s) (value s) k (omega arith))
+
+    -- a value is out of the range exactly if it is so in points
+    fore : T (not (scoresInRange (pairs s))) → PointsOut s
+    unfolding scoresInRange pairs isAllowedPair scoreLimit onePoint pointLimit
+    fore f =
+        let (v, m, o) = some-fails (λ v. isAllowedPair scoreLimit (carried v)) (pairs s) f in
+        let (i, j, h, k, e) = of-pairList (entries s) (value s) m in
+        go i j h (omega arith) refl (cells i j h (omega arith)) (subst (λ z. T (not (isAllowedPair scoreLimit (carried z)))) e o)
+      where
+        go : (i j : ℕ) → i < entries s → j < entries s → {w : List ℕ} {c : Carried} → w ≡ wordAt s i j → CellSays w c → T (not (isAllowedPair scoreLimit c)) → PointsOut s
+        go i j h k e (points {z = z} says _) o = record {
+          i = i;
+          j = j;
+          here = (h, k);
+          z = z;
+          says = subst (λ (w : List ℕ). InPoints w z) e says;
+          out = λ r. T-not (isAllowedPair scoreLimit (Scored z)) o (within-range r);
+        }
+        go i j h k e lone-minus o = absurd o
+
+    rear : PointsOut s → T (not (scoresInRange (pairs s)))
+    unfolding scoresInRange scoreLimit onePoint pointLimit
+    rear p = not-T (scoresInRange (pairs s)) λ r.
+        let (h, k) = p .here in
+        let allowed = all-in (λ v. isAllowedPair scoreLimit (carried v)) (pairs s) r (listed-value (p .i) (p .j) h k) in
+        p .out (allowed-within (subst (λ c. T (isAllowedPair scoreLimit c)) (said-points (cells (p .i) (p .j) h k) (p .says)) allowed))
+
+    pub points-out : T (not (scoresInRange (pairs s))) ↔ PointsOut s
+    points-out = (fore, rear)
