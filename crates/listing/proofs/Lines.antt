@@ -11,24 +11,24 @@ use Rattle.lists.specs.Lists.{_∈_, each}
 use Rattle.lists.proofs.Lists.{each-map}
 use Rattle.sets.specs.Sets.{size}
 use Rattle.sets.proofs.Sets.{size-le}
-use Rattle.interface.specs.Listing.{lineOf, hexadecimal, decimal, signedDecimal, firstText, lineText, firstLine, listing}
+use Rattle.interface.specs.Listing.{lineOf, hexadecimal, decimal, pointsText, signedPoints, firstText, lineText, firstLine, listing}
 use Rattle.interface.proofs.Digits.{length-decimal}
-use Rattle.listing.proofs.Numbers.{length-hexadecimal}
+use Rattle.listing.proofs.Numbers.{length-hexadecimal, length-points}
 use Rattle.interface.specs.Calls.{groupsOf}
 use Rattle.listing.specs.Lines.{line}
 use Rattle.listing.specs.Slots.{Slots}
 
 -- the three fields, each with the byte after it
-pub line-fields : (n A k : ℕ) {s : ℕ} → s ≡ size n A → line n (A, pos k) ≡ (hexadecimal A ++ (32 ∷ [])) ++ (decimal s ++ (32 ∷ [])) ++ (decimal k ++ (10 ∷ []))
-unfolding line lineOf lineText signedDecimal
+pub line-fields : (n A k : ℕ) {s : ℕ} → s ≡ size n A → line n (A, pos k) ≡ (hexadecimal A ++ (32 ∷ [])) ++ (decimal s ++ (32 ∷ [])) ++ (pointsText k ++ (10 ∷ []))
+unfolding line lineOf lineText signedPoints
 line-fields n A k e = rw e (simp append-assoc)
 
-pub length-line : (n A k : ℕ) {s : ℕ} → s ≡ size n A → length (line n (A, pos k)) ≡ length (decimal s) + length (decimal k) + 11
-unfolding line lineOf lineText signedDecimal
+pub length-line : (n A k : ℕ) {s : ℕ} → s ≡ size n A → length (line n (A, pos k)) ≡ length (decimal s) + length (pointsText k) + 11
+unfolding line lineOf lineText signedPoints
 length-line n A k e = rw e (simp (length-append, length-hexadecimal) (omega arith))
 
-pub line-bound : (A k : ℕ) → k < 10 ^ 20 → length (line 32 (A, pos k)) ≤ 33
-line-bound A k h = omega (arith, length-line 32 A k refl, length-decimal 19 k h, length-decimal 1 (size 32 A) (omega (arith, size-le 32 A)))
+pub line-bound : (A k : ℕ) → k < 2 ^ 64 → length (line 32 (A, pos k)) ≤ 34
+line-bound A k h = omega (arith, length-line 32 A k refl, length-points k h, length-decimal 1 (size 32 A) (omega (arith, size-le 32 A)))
 
 -- a listing, group by group
 pub listing-groups : (n : ℕ) (groups : List (ℕ × ℤ)) → listing (map (lineOf n) groups) ≡ firstLine ++ each groups (line n)

@@ -1,14 +1,20 @@
--- Digits put into a buffer, the last one first.
+-- Digits put into a buffer, the last one first; a number in points, even or odd, and its length.
 use mathlib.Core.Path.{_≡_, refl, ap, _∙_}
-use mathlib.Core.List.{List, [], _∷_, _++_}
-use Prim.Native.Nat.{ℕ, suc, _+_, _-_, _/_, _%_, _<_}
+use mathlib.Core.Bool.{Bool, true, false}
+use mathlib.Core.List.{List, [], _∷_, _++_, append-assoc, append-nil}
+use Prim.Native.Nat.{ℕ, suc, _+_, _-_, _/_, _%_, _^_, _<_, _≤_}
+use native.Mathlib.Numerals.{add-one}
 use native.Mathlib.Omega.{arith}
+use borrow.Author.Tests.{ne-eqb}
 use lib.ListN.{length, set, length-append}
 use lib.Seq.{sets}
-use Rattle.interface.specs.Listing.{digit, digits, hexadecimal}
-use Rattle.interface.proofs.Digits.{length-digits}
+use Rattle.clusters.specs.PairList.{onePoint}
+use Rattle.interface.specs.Sheet.{halfText}
+use Rattle.interface.specs.Listing.{digit, digits, hexadecimal, decimal, pointsText}
+use Rattle.interface.proofs.Digits.{length-digits, length-decimal}
+use Rattle.interface.proofs.Points.{ending, odd, points-parts}
 use Rattle.listing.specs.Put.{Put}
-use Rattle.listing.proofs.Puts.{sets-last}
+use Rattle.listing.proofs.Puts.{sets-last, then}
 
 -- of i digits the last is stored, and i − 1 are left
 pub digits-turn : (base i n : ℕ) (l : List ℕ) (at : ℕ) → 0 < i
@@ -34,3 +40,25 @@ length-space xs = length-append xs (32 ∷ [])
 pub length-hexadecimal : (A : ℕ) → length (hexadecimal A) ≡ 8
 unfolding hexadecimal
 length-hexadecimal A = length-digits 16 8 A
+
+-- a number of half points: whole points, or a half more, put with the byte after it
+pub even-points : (k : ℕ) → k % 2 ≡ 0 → pointsText k ≡ decimal (k / 2)
+unfolding pointsText onePoint
+even-points k e = rw e (append-nil (decimal (k / 2)))
+
+pub half-put : (k after : ℕ) {l m : List ℕ} {at end : ℕ} → (k % 2 ≡ 0 → ⊥) → Put l at (decimal (k / 2) ++ (46 ∷ [])) m end
+    → Put l at (pointsText k ++ (after ∷ [])) (set (set m end 53) (end + 1) after) (end + 2)
+unfolding pointsText onePoint halfText
+half-put k after {end = end} f p = rw text (then p (record { place = refl; stored = rw (add-one end) }))
+  where
+    text : pointsText k ++ (after ∷ []) ≡ decimal (k / 2) ++ (46 ∷ []) ++ (53 ∷ after ∷ [])
+    text = rw (ne-eqb (k % 2) 0 f) (simp append-assoc)
+
+-- and its length
+pub length-points : (k : ℕ) → k < 2 ^ 64 → length (pointsText k) ≤ 21
+unfolding onePoint halfText
+length-points k h = omega (arith, ap length (points-parts k), length-append (decimal (k / 2)) (ending (odd k)), short (odd k), length-decimal 18 (k / 2) (omega arith))
+  where
+    short : (h : Bool) → length (ending h) ≤ 2
+    short true = omega arith
+    short false = omega arith

@@ -7,7 +7,7 @@ ghost use lib.ListN.{length, take, drop, getD};
 ghost use lib.Seq.{sets};
 ghost use lib.Signed.{_≤ℤ_};
 ghost use Rattle.lists.specs.Lists.{each};
-ghost use Rattle.interface.specs.Listing.{lineOf, digit, digits, hexadecimal, decimal, listing};
+ghost use Rattle.interface.specs.Listing.{lineOf, digit, digits, hexadecimal, decimal, pointsText, listing};
 ghost use Rattle.listing.specs.Lines.{line};
 ghost use Rattle.listing.specs.Put.{Put};
 ghost use Rattle.interface.specs.Calls.{groupsOf};
@@ -64,7 +64,7 @@ fn put_set(out: &mut [u8], at: usize, set: u32) -> usize
 }
 
 // Puts a number and the byte after it, 21 bytes at most.
-pub fn put_number(out: &mut [u8], at: usize, n: usize, after: u8) -> usize
+fn put_number(out: &mut [u8], at: usize, n: usize, after: u8) -> usize
     requires { ⌜ at + 21 ≤ length (now out) ⌝ }
     ensures { λ r. ⌜ Put (now (out .entry)) at (decimal n ++ (after ∷ [])) (now (out .exit)) r ⌝ }
 {
@@ -73,14 +73,28 @@ pub fn put_number(out: &mut [u8], at: usize, n: usize, after: u8) -> usize
     end + 1
 }
 
-// Puts a line, 33 bytes at most.
+// Puts a number of half points, in points, and the byte after it, 22 bytes at most.
+pub fn put_points(out: &mut [u8], at: usize, k: usize, after: u8) -> usize
+    requires { ⌜ at + 22 ≤ length (now out) ⌝ }
+    ensures { λ r. ⌜ Put (now (out .entry)) at (pointsText k ++ (after ∷ [])) (now (out .exit)) r ⌝ }
+{
+    if k % 2 == 0 {
+        return put_number(out, at, k / 2, after);
+    }
+    let end = put_number(out, at, k / 2, b'.');
+    out[end] = b'5';
+    out[end + 1] = after;
+    end + 2
+}
+
+// Puts a line, 34 bytes at most.
 fn put_line(out: &mut [u8], at: usize, set: u32, index: usize) -> usize
-    requires { ⌜ at + 33 ≤ length (now out) ⌝ }
+    requires { ⌜ at + 34 ≤ length (now out) ⌝ }
     ensures { λ r. ⌜ Put (now (out .entry)) at (line 32 (set, pos index)) (now (out .exit)) r ⌝ }
 {
     let a = put_set(out, at, set);
     let b = put_number(out, a, sets::size(set), b' ');
-    put_number(out, b, index, b'\n')
+    put_points(out, b, index, b'\n')
 }
 
 fn index_at(indices: &[i64], i: usize) -> usize
@@ -93,8 +107,8 @@ fn index_at(indices: &[i64], i: usize) -> usize
 // Puts the lines of the first count groups.
 fn put_lines(out: &mut [u8], at: usize, sets: &[u32], indices: &[i64], count: usize) -> usize
     requires { ⌜ Slots count (now sets) (now indices) ⌝ }
-    requires { ⌜ at + 33 * count ≤ length (now out) ⌝ }
-    ensures { λ r. ⌜ r ≤ at + 33 * count ⌝ }
+    requires { ⌜ at + 34 * count ≤ length (now out) ⌝ }
+    ensures { λ r. ⌜ r ≤ at + 34 * count ⌝ }
     ensures { λ r. ⌜ Put (now (out .entry)) at
         (each (groupsOf count (now (sets .entry)) (now (indices .entry))) (line 32)) (now (out .exit)) r ⌝ }
 {
@@ -110,7 +124,7 @@ fn put_lines(out: &mut [u8], at: usize, sets: &[u32], indices: &[i64], count: us
 // Writes the listing of the first count groups to the start of out, and answers its length.
 pub fn write(out: &mut [u8], sets: &[u32], indices: &[i64], count: usize) -> usize
     requires { ⌜ Slots count (now sets) (now indices) ⌝ }
-    requires { ⌜ 15 + 33 * count ≤ length (now out) ⌝ }
+    requires { ⌜ 15 + 34 * count ≤ length (now out) ⌝ }
     ensures { λ r. ⌜ r
         ≡ length (listing (map (lineOf 32) (groupsOf count (now (sets .entry)) (now (indices .entry))))) ⌝ }
     ensures { λ r. ⌜ now (out .exit)

@@ -28,8 +28,8 @@ size-requires c κs = search needs
 put-number-requires : tie.Need-put-number-requires
 put-number-requires c κs = omega arith
 
-put-number-requires-2 : tie.Need-put-number-requires-2
-put-number-requires-2 c κs = omega (arith, short (c .before .before .before .before))
+put-points-requires : tie.Need-put-points-requires
+put-points-requires c κs = omega (arith, short (c .before .before .before .before))
 
 same-length : tie.Need-same-length
 same-length c = search needs
@@ -41,7 +41,7 @@ returns c =
     let first = middle .before .before .before .before .before in
     let a = first .before .before .before .args in
     rw (line-fields 32 (a .set) (a .index) (middle .before .size .ensures))
-    (then (then (first .put-set .ensures .1) (middle .put-number .ensures)) (last .put-number2 .ensures))
+    (then (then (first .put-set .ensures .1) (middle .put-number .ensures)) (last .put-points .ensures))
 
 pub put-line-spec : {M : Type 1} → statement M
 put-line-spec =
@@ -50,6 +50,6 @@ put-line-spec =
     put-set-requires
     size-requires
     put-number-requires
-    put-number-requires-2
+    put-points-requires
     same-length
     returns)

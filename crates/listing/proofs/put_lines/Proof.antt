@@ -14,7 +14,7 @@ use Rattle.listing.proofs.put_lines.Tie as tie
 
 abbrev Inv-loop : tie.InvT-loop
 Inv-loop out₀ at sets indices count end₀ i₀ out end i =
-    (i ≤ count) × (length out ≡ length out₀) × (end ≤ at + 33 * i) × Put out₀ at (each (groupsOf i sets indices) (line 32)) out end
+    (i ≤ count) × (length out ≡ length out₀) × (end ≤ at + 34 * i) × Put out₀ at (each (groupsOf i sets indices) (line 32)) out end
 
 abbrev μ-loop : tie.MeasureT-loop
 μ-loop out₀ at sets indices count end₀ i₀ out end i = count - i
