@@ -2,23 +2,23 @@
 use mathlib.Core.Path.{_≡_, refl, sym, ap, ap₂, _∙_, subst}
 use mathlib.Core.Bool.{true, false}
 use mathlib.Core.List.{List, [], _∷_, _++_, map, append-assoc, append-nil, map-append}
-use Prim.Native.Nat.{ℕ, suc, _+_, _-_, _≤_, _<_}
+use Prim.Native.Nat.{ℕ, suc, _+_, _≤_, _<_}
 use native.Mathlib.Numerals.{add-one}
 use native.Mathlib.Omega.{arith}
 use lib.IntN.{ℤ, pos, negsuc, natAbs}
 use lib.ListN.{length, length-append, set}
 use lib.Signed.{leZ}
-use lib.Dec.{T, lit<}
+use lib.Dec.{T, lit≤}
 use Rattle.lists.specs.Lists.{below, each}
 use Rattle.lists.proofs.Tests.{false-T}
 use Rattle.lists.proofs.Lists.{each-below, each-map}
 use Rattle.integers.specs.Integers.{eqZ}
 use Rattle.integers.proofs.Linear.{up, dn, zarith, leZ-no}
 use Rattle.pairs.specs.Pairs.{mark, carried}
-use Rattle.clusters.specs.PairList.{Similarity, rowStart, score, scoreLimit, scoresInRange}
+use Rattle.clusters.specs.PairList.{Similarity, rowStart, score, onePoint, pointLimit, scoreLimit, scoresInRange}
 use Rattle.clusters.proofs.Scored.{list-allowed}
 use Rattle.interface.specs.Sheet.{lineFeed, space, cut}
-use Rattle.interface.specs.Listing.{decimal, signedDecimal}
+use Rattle.interface.specs.Listing.{pointsText, signedPoints}
 use Rattle.interface.specs.SheetText.{pairText, joined, rowText, sheetLines, sheetText}
 use Rattle.interface.proofs.Pieces.{joined-cut}
 use Rattle.interface.proofs.Values.{pair-word}
@@ -28,18 +28,18 @@ mark-text : (z : ℤ) → eqZ z mark ≡ true → pairText (carried z) ≡ 45 �
 unfolding carried pairText
 mark-text z e = rw e
 
-score-text : (z : ℤ) → eqZ z mark ≡ false → pairText (carried z) ≡ signedDecimal z
+score-text : (z : ℤ) → eqZ z mark ≡ false → pairText (carried z) ≡ signedPoints z
 unfolding carried pairText
 score-text z e = rw e
 
 -- its digits, behind a minus if it is below 0
-plain-digits : (z : ℤ) → leZ (pos 0) z ≡ true → signedDecimal z ≡ decimal (natAbs z)
-unfolding signedDecimal
+plain-digits : (z : ℤ) → leZ (pos 0) z ≡ true → signedPoints z ≡ pointsText (natAbs z)
+unfolding signedPoints
 plain-digits (pos n) e = refl
 plain-digits (negsuc n) e = absurd (subst T (sym e) tt)
 
-signed-digits : (z : ℤ) → leZ (pos 0) z ≡ false → signedDecimal z ≡ 45 ∷ decimal (natAbs z)
-unfolding signedDecimal up dn
+signed-digits : (z : ℤ) → leZ (pos 0) z ≡ false → signedPoints z ≡ 45 ∷ pointsText (natAbs z)
+unfolding signedPoints up dn
 signed-digits (pos n) e = absurd (omega (zarith, leZ-no {a = pos 0} {b = pos n} (false-T e)))
 signed-digits (negsuc n) e = refl
 
@@ -49,10 +49,10 @@ module _ (z : ℤ) (out : List ℕ) (at after : ℕ) where
   mark-put e = rw (mark-text z e) (record { place = refl; stored = rw (add-one at) })
 
   module _ (scored : eqZ z mark ≡ false) {k end : ℕ} {m : List ℕ} (digits : k ≡ natAbs z) where
-    pub plain-put : leZ (pos 0) z ≡ true → Put out at (decimal k ++ (after ∷ [])) m end → Put out at (pairText (carried z) ++ (after ∷ [])) m end
+    pub plain-put : leZ (pos 0) z ≡ true → Put out at (pointsText k ++ (after ∷ [])) m end → Put out at (pairText (carried z) ++ (after ∷ [])) m end
     plain-put e p = rw (score-text z scored, plain-digits z e, sym digits) p
 
-    pub signed-put : leZ (pos 0) z ≡ false → Put (set out at 45) (at + 1) (decimal k ++ (after ∷ [])) m end → Put out at (pairText (carried z) ++ (after ∷ [])) m end
+    pub signed-put : leZ (pos 0) z ≡ false → Put (set out at 45) (at + 1) (pointsText k ++ (after ∷ [])) m end → Put out at (pairText (carried z) ++ (after ∷ [])) m end
     signed-put e p = rw (score-text z scored, signed-digits z e, sym digits) (record { place = omega (arith, p .place); stored = rw (add-one at) at (p .stored) })
 
 -- pieces with the byte c behind each but the last are joined by it
@@ -86,13 +86,13 @@ row-cells n s i =
     ∙ ap (λ (t : List ℕ). t ++ cell n) (each-map (below n) cell (λ v. v ++ (space ∷ []))))
     ∙ append-assoc (each (below n) (λ k. cell k ++ (space ∷ []))) (cell n) (lineFeed ∷ [])
 
--- a pair and the byte after it take 9 bytes at most
+-- a pair and the byte after it take 10 bytes at most
 pub cell-short : (n : ℕ) (l : List ℤ) → length l ≡ rowStart n → T (scoresInRange l) → (i j : ℕ) → i < n → j < n → (after : ℕ)
-    → length (pairText (carried (score l i j)) ++ (after ∷ [])) ≤ 9
-unfolding scoreLimit
+    → length (pairText (carried (score l i j)) ++ (after ∷ [])) ≤ 10
+unfolding scoreLimit onePoint pointLimit
 cell-short n l e t i j h k after =
     let c = carried (score l i j) in
-    omega (arith, length-append (pairText c) (after ∷ []), pair-word c (lit< tt) (list-allowed n l e t i j h k) .short)
+    omega (arith, length-append (pairText c) (after ∷ []), pair-word c (lit≤ tt) (list-allowed n l e t i j h k) .short)
 
 -- the rows before i, each with its line feed; one more; and line 1 with all of them is the sheet
 unfoldable pub rowsBefore : ℕ → Similarity → ℕ → List ℕ

@@ -10,9 +10,9 @@ ghost use Rattle.interface.specs.Sheet.{lineFeed, space, cut};
 ghost use Rattle.interface.specs.SheetText.{pairText, rowText, sheetText};
 ghost use Rattle.listing.specs.Put.{Put};
 
-// Puts a pair and the byte after it, 22 bytes at most.
+// Puts a pair and the byte after it, 23 bytes at most.
 fn put_pair(out: &mut [u8], at: usize, v: i32, after: u8) -> usize
-    requires { ⌜ at + 22 ≤ length (now out) ⌝ }
+    requires { ⌜ at + 23 ≤ length (now out) ⌝ }
     ensures { λ r. ⌜ Put (now (out .entry)) at (pairText (carried v) ++ (after ∷ [])) (now (out .exit)) r ⌝ }
 {
     if pairs::is_mark(v) {
@@ -22,17 +22,17 @@ fn put_pair(out: &mut [u8], at: usize, v: i32, after: u8) -> usize
     }
     let number = integers::wide(v);
     if integers::at_most(0, number) {
-        return listing::put_number(out, at, integers::magnitude(number), after);
+        return listing::put_points(out, at, integers::magnitude(number), after);
     }
     out[at] = b'-';
-    listing::put_number(out, at + 1, integers::magnitude(number), after)
+    listing::put_points(out, at + 1, integers::magnitude(number), after)
 }
 
-// Puts row i of the values and its line feed, 9 bytes at most for each value.
+// Puts row i of the values and its line feed, 10 bytes at most for each value.
 fn put_row(out: &mut [u8], at: usize, pairs: &[i32], n: usize, i: usize) -> usize
     requires { ⌜ (n ≤ 32) × (i < n) × (length (now pairs) ≡ rowStart n) × T (scoresInRange (now pairs)) ⌝ }
-    requires { ⌜ at + 9 * n + 13 ≤ length (now out) ⌝ }
-    ensures { λ r. ⌜ r ≤ at + 9 * n ⌝ }
+    requires { ⌜ at + 10 * n + 13 ≤ length (now out) ⌝ }
+    ensures { λ r. ⌜ r ≤ at + 10 * n ⌝ }
     ensures { λ r. ⌜ Put (now (out .entry)) at
         (rowText n (score (now (pairs .entry))) i ++ (lineFeed ∷ [])) (now (out .exit)) r ⌝ }
 {
@@ -50,7 +50,7 @@ fn put_row(out: &mut [u8], at: usize, pairs: &[i32], n: usize, i: usize) -> usiz
 pub fn write(out: &mut [u8], line: &[u8], pairs: &[i32], n: usize) -> usize
     requires { ⌜ (n ≤ 32) × (n ≡ length (cut space (now line))) × (length (now pairs) ≡ rowStart n)
         × T (scoresInRange (now pairs)) ⌝ }
-    requires { ⌜ length (now line) + 288 * n + 14 ≤ length (now out) ⌝ }
+    requires { ⌜ length (now line) + 320 * n + 14 ≤ length (now out) ⌝ }
     ensures { λ r. ⌜ r ≡ length (sheetText (cut space (now (line .entry))) (score (now (pairs .entry)))) ⌝ }
     ensures { λ r. ⌜ now (out .exit)
         ≡ sheetText (cut space (now (line .entry))) (score (now (pairs .entry))) ++ drop r (now (out .entry)) ⌝ }

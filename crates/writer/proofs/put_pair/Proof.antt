@@ -60,8 +60,8 @@ at-most-requires c κs = search needs
 magnitude-requires : tie.Need-magnitude-requires
 magnitude-requires c κs = small (c .before .before .before)
 
-put-number-requires : tie.Need-put-number-requires
-put-number-requires c κs = search needs
+put-points-requires : tie.Need-put-points-requires
+put-points-requires c κs = search needs
 
 same-length-2 : tie.Need-same-length-2
 same-length-2 c = search needs
@@ -74,22 +74,22 @@ returns-2 c =
     let u = a .before .before in
     let s = u .before .before .before in
     plain-put (s .args .v) _ _ _ (sym (marked (u .before)) ∙ u .if1 .left) (g .magnitude .ensures ∙ ap natAbs (number (a .before)))
-    (sym (sign a) ∙ g .before .before .if2 .taken) (p .put-number .ensures)
+    (sym (sign a) ∙ g .before .before .if2 .taken) (p .put-points .ensures)
 
 slice-write-out-3 : tie.Need-slice-write-out-3
 slice-write-out-3 c = search needs
 
-add-put-number : tie.Need-add-put-number
-add-put-number c = search needs
+add-put-points : tie.Need-add-put-points
+add-put-points c = search needs
 
 magnitude-requires-2 : tie.Need-magnitude-requires-2
 magnitude-requires-2 c κs = small (c .before .before .before)
 
-put-number-requires-2 : tie.Need-put-number-requires-2
-put-number-requires-2 c κs = let a = c .before .before .before .before .before .before .before .before .args in omega (arith, length-set (a .out .now) (a .at) 45)
+put-points-requires-2 : tie.Need-put-points-requires-2
+put-points-requires-2 c κs = let a = c .before .before .before .before .before .before .before .before .args in omega (arith, length-set (a .out .now) (a .at) 45)
 
 same-length-3 : tie.Need-same-length-3
-same-length-3 c = let a = c .before .before .before .before .before .before .before .before .before .before .before .args in c .before .before .put-number2 .kept .0 ∙ length-set (a .out .now) (a .at) 45
+same-length-3 c = let a = c .before .before .before .before .before .before .before .before .before .before .before .args in c .before .before .put-points2 .kept .0 ∙ length-set (a .out .now) (a .at) 45
 
 returns-3 : tie.Need-returns-3
 returns-3 c =
@@ -99,7 +99,7 @@ returns-3 c =
     let u = a .before .before in
     let s = u .before .before .before in
     signed-put (s .args .v) _ _ _ (sym (marked (u .before)) ∙ u .if1 .left) (g .magnitude2 .ensures ∙ ap natAbs (number (a .before)))
-    (sym (sign a) ∙ g .before .before .if2 .left) (p .put-number2 .ensures)
+    (sym (sign a) ∙ g .before .before .if2 .left) (p .put-points2 .ensures)
 
 pub put-pair-spec : {M : Type 1} → statement M
 put-pair-spec =
@@ -115,12 +115,12 @@ put-pair-spec =
     wide-requires
     at-most-requires
     magnitude-requires
-    put-number-requires
+    put-points-requires
     same-length-2
     returns-2
     slice-write-out-3
-    add-put-number
+    add-put-points
     magnitude-requires-2
-    put-number-requires-2
+    put-points-requires-2
     same-length-3
     returns-3)

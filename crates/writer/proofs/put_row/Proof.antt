@@ -19,7 +19,7 @@ use Rattle.writer.proofs.put_row.Tie as tie
 
 abbrev Inv-loop : tie.InvT-loop
 Inv-loop out₀ at pairs n i last end₀ place₀ j₀ out end at-pair j =
-    (j ≤ last) × (suc last ≡ n) × (length out ≡ length out₀) × (at-pair ≡ place i j) × (end ≤ at + 9 * j)
+    (j ≤ last) × (suc last ≡ n) × (length out ≡ length out₀) × (at-pair ≡ place i j) × (end ≤ at + 10 * j)
     × Put out₀ at (cellsBefore (score pairs) i j) out end
 
 abbrev μ-loop : tie.MeasureT-loop

@@ -13,7 +13,7 @@ use Rattle.writer.proofs.write.Tie as tie
 
 abbrev Inv-loop : tie.InvT-loop
 Inv-loop out₀ line pairs n first end₀ i₀ out end i =
-    (i ≤ n) × (length out ≡ length out₀) × (end ≤ end₀ + 288 * i) × Put out₀ end₀ (rowsBefore n (score pairs) i) out end
+    (i ≤ n) × (length out ≡ length out₀) × (end ≤ end₀ + 320 * i) × Put out₀ end₀ (rowsBefore n (score pairs) i) out end
 
 abbrev μ-loop : tie.MeasureT-loop
 μ-loop out₀ line pairs n first end₀ i₀ out end i = n - i
