@@ -15,7 +15,7 @@ use Rattle.integers.proofs.Range.{within-grow, within-sum}
 use Rattle.pairs.specs.declared.Carried.{Carried}
 use Rattle.pairs.specs.declared.Carried.the-variants.{Scored, Unscored}
 use Rattle.pairs.specs.Pairs.{mark, numberFor, carried}
-use Rattle.clusters.specs.PairList.{scoreLimit, isAllowedPair}
+use Rattle.clusters.specs.PairList.{onePoint, pointLimit, scoreLimit, isAllowedPair}
 use Rattle.clusters.specs.Pooling.{added}
 use Rattle.clusters.proofs.Scored.{allowed-within}
 
@@ -45,8 +45,8 @@ unfolding added numberFor
 both-scored x y e f = sym (ap₂ (λ p q. numberFor (added p q)) (scored e) (scored f))
 
 -- an allowed score is small, and so is the sum of two
-score-small : {x : ℤ} → T (isAllowedPair scoreLimit (carried x)) → eqZ x mark ≡ false → Within 1000000 x
-unfolding scoreLimit
+score-small : {x : ℤ} → T (isAllowedPair scoreLimit (carried x)) → eqZ x mark ≡ false → Within 2000000 x
+unfolding scoreLimit onePoint pointLimit
 score-small t e = allowed-within (subst (λ p. T (isAllowedPair scoreLimit p)) (scored e) t)
 
 pub sum-small : (x y : ℤ) → T (isAllowedPair scoreLimit (carried x)) → T (isAllowedPair scoreLimit (carried y))

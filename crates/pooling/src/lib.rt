@@ -111,8 +111,8 @@ fn write_sums(line: &[u8], sums: &[i32], n: usize, out: &mut [u8]) -> Answer
     if !matrix::scores_in_range(sums) {
         return Answer::Refused(18);
     }
-    // room for line 1 and 32 lines of 32 values, 9 bytes each, and for what the writer asks beyond
-    let mut text = [0u8; 9517];
+    // room for line 1 and 32 lines of 32 values, 10 bytes each, and for what the writer asks beyond
+    let mut text = [0u8; 10541];
     let written = writer::write(&mut text, line, sums, n);
     listing::hand_over(&text, written, out)
 }
