@@ -70,11 +70,11 @@ twice-same : {a b : ℤ} → twice a ≡ twice b → a ≡ b
 unfolding twice
 twice-same {a} {b} e = omega (zarith, +at a a, +at b b)
 
-twice-pos : (k : ℕ) → pos (2 * k) ≡ twice (pos k)
+pub twice-pos : (k : ℕ) → pos (2 * k) ≡ twice (pos k)
 unfolding twice up dn
 twice-pos k = omega (zarith, +at (pos k) (pos k))
 
-twice-neg : (k : ℕ) → negℤ (pos (2 * k)) ≡ twice (negℤ (pos k))
+pub twice-neg : (k : ℕ) → negℤ (pos (2 * k)) ≡ twice (negℤ (pos k))
 unfolding twice up dn
 twice-neg k = omega (
   zarith,

@@ -32,7 +32,7 @@ not-not true t = tt
 not-not false t = absurd t
 
 -- what 16 leaves to a kind that is not 1
-unscored-left : (kind : ℤ) (l : List ℤ) → kind ≢ pos 1 → T (not (wrongUnscored kind l)) → T (not (hasUnscored l))
+pub unscored-left : (kind : ℤ) (l : List ℤ) → kind ≢ pos 1 → T (not (wrongUnscored kind l)) → T (not (hasUnscored l))
 unfolding wrongUnscored
 unscored-left kind l d t =
     subst (λ b. T (not (not b && hasUnscored l))) (T-false {b = eqZ kind (pos 1)} (not-T (eqZ kind (pos 1)) (λ h. d (eqZ-yes kind (pos 1) h)))) t

@@ -3,21 +3,21 @@ use mathlib.Core.Path.{_≡_, refl, sym, ap, _∙_, subst}
 use mathlib.Core.Bool.{not, true≢false}
 use mathlib.Core.Logic.{_⊎_, inl, inr, _≢_, _↔_}
 use mathlib.Core.List.{List, [], _∷_, Memᴰ·cast}
-use Prim.Native.Nat.{ℕ, _*_, _<_, _≤_}
+use Prim.Native.Nat.{ℕ, _<_, _≤_}
 use native.Mathlib.Omega.{arith}
 use native.Mathlib.Decide.{decLe}
 use lib.Dec.{T, T-not, not-T, eqb, eqb→eq, lit<}
 use lib.IntN.{ℤ}
-use lib.ListN.{length, getD}
+use lib.ListN.{length}
 use Rattle.lists.specs.Lists.{_∈_, below, all}
-use Rattle.lists.proofs.Lists.{lt-below, all-in, getD-in, some-fails}
-use Rattle.lists.proofs.Tests.{and-T, or-T, T-or-not, T-true, T-false}
+use Rattle.lists.proofs.Lists.{no-length, lt-below, all-in, getD-in, some-fails}
+use Rattle.lists.proofs.Tests.{and-T, or-T, T-or-not, T-false}
 use Rattle.integers.specs.Integers.{eqZ}
 use Rattle.integers.specs.Range.{Within}
 use Rattle.integers.proofs.Linear.{up, dn, zarith}
 use Rattle.integers.proofs.Range.{dn-le}
 use Rattle.pairs.specs.declared.Carried.{Carried}
-use Rattle.pairs.specs.declared.Carried.the-variants.{Scored, Unscored}
+use Rattle.pairs.specs.declared.Carried.the-variants.{Scored}
 use Rattle.pairs.specs.Pairs.{mark, numberFor, listNumber, carried}
 use Rattle.pairs.proofs.Pairs.{Cases, carried-cases}
 use Rattle.clusters.specs.PairList.{scoreLimit, onePoint, pointLimit, isAllowedPair, scoresInRange}
@@ -50,11 +50,7 @@ unfolding isLoneMinus
 lone-word [] t = absurd t
 lone-word (b ∷ w) t =
     let (e, l) = and-T (eqb b 45) (eqb (length w) 0) t in
-    ap (λ (c : ℕ). c ∷ w) (eqb→eq b 45 e) ∙ ap (λ (v : List ℕ). 45 ∷ v) (nothing w (eqb→eq (length w) 0 l))
-  where
-    nothing : (w : List ℕ) → length w ≡ 0 → w ≡ []
-    nothing [] e = refl
-    nothing (b ∷ w) e = absurd (omega arith)
+    ap (λ (c : ℕ). c ∷ w) (eqb→eq b 45 e) ∙ ap (λ (v : List ℕ). 45 ∷ v) (no-length w (eqb→eq (length w) 0 l))
 
 pub said-value : (w : List ℕ) → T (not (isLoneMinus w)) → listNumber (pairSaid w) ≡ valueOf w
 unfolding listNumber pairSaid numberFor

@@ -2,19 +2,19 @@
 -- and the indices of a listing say.
 use mathlib.Core.Path.{_≡_, refl, sym, ap, _∙_, subst}
 use mathlib.Core.Bool.{Bool, true, false, not, cond, _&&_, _||_}
-use mathlib.Core.Logic.{_⊎_, inl, inr, _↔_}
+use mathlib.Core.Logic.{_↔_}
 use mathlib.Core.List.{List, [], _∷_, _++_, append-nil}
-use Prim.Native.Nat.{ℕ, zero, suc, _+_, _*_, _/_, _^_, _<_, _≤_}
+use Prim.Native.Nat.{ℕ, zero, suc, _+_, _*_, _^_, _<_, _≤_}
 use native.Mathlib.Omega.{arith}
 use native.Mathlib.Decide.{decLe}
-use lib.Dec.{T, eqb, leb, leb→le, eqb→eq, T-not, lit<}
-use lib.IntN.{ℤ, pos, negsuc, negℤ, _+ℤ_}
-use lib.ListN.{length, getD}
+use lib.Dec.{T, eqb, leb, leb→le, eqb→eq, lit<}
+use lib.IntN.{ℤ, pos, negsuc, negℤ}
+use lib.ListN.{length}
 use Rattle.lists.specs.Lists.{all}
 use Rattle.lists.proofs.Tests.{and-T, T-and, true-T}
 use Rattle.integers.specs.Range.{Within}
 use Rattle.integers.proofs.Linear.{up, dn}
-use Rattle.integers.proofs.Range.{within, up-le, dn-le}
+use Rattle.integers.proofs.Range.{within}
 use Rattle.clusters.specs.PairList.{onePoint}
 use Rattle.interface.specs.Sheet.{
   minus,

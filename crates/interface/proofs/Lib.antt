@@ -25,3 +25,5 @@ pub mod Weighed
 pub mod WeightExample
 pub mod InPoints
 pub mod Cells
+pub mod WholePoints
+pub mod HalfPoints

@@ -3,32 +3,16 @@ use mathlib.Core.Path.{_≡_, refl, sym, ap, ap₂, _∙_, subst}
 use mathlib.Core.Bool.{Bool, true, false, not, cond, _||_}
 use mathlib.Core.Logic.{_⊎_, inl, inr}
 use mathlib.Core.List.{List, [], _∷_, _++_, append-nil}
-use Prim.Native.Nat.{ℕ, suc, _+_, _*_, _/_, _%_, _<_, _≤_}
+use Prim.Native.Nat.{ℕ, _+_, _*_, _/_, _%_}
 use native.Mathlib.Omega.{arith}
-use borrow.Author.Tests.{ne-eqb}
-use lib.Dec.{T, eqb, leb, leb→le, eqb→eq, eqb-refl}
-use lib.ListN.{length, length-append, getD}
+use lib.Dec.{T, eqb, eqb→eq, eqb-refl}
+use lib.ListN.{length}
 use Rattle.lists.specs.Lists.{all}
-use Rattle.lists.proofs.Tests.{and-T, T-and, T-true, true-T, T-false, or-T, T-or-left, T-or-not, eqb-yes, eqb-no}
+use Rattle.lists.proofs.Tests.{and-T, T-and, T-true, T-false, or-T, T-or-not, eqb-no}
 use Rattle.clusters.specs.PairList.{onePoint}
-use Rattle.interface.specs.Sheet.{
-  minus,
-  point,
-  isDigit,
-  isNumeral,
-  wholePart,
-  fraction,
-  halfText,
-  hasHalf,
-  isWholeOrHalf,
-  isPoints,
-  numberFrom,
-  halfPoints,
-  sameBytes,
-}
+use Rattle.interface.specs.Sheet.{point, isDigit, isNumeral, wholePart, fraction, halfText, hasHalf, isWholeOrHalf, isPoints, numberFrom, halfPoints, sameBytes}
 use Rattle.interface.specs.Listing.{decimal, pointsText, isDecimal, isIndex}
 use Rattle.interface.proofs.Pieces.{free, all-free, same-bytes}
-use Rattle.interface.proofs.Digits.{length-decimal}
 use Rattle.interface.proofs.Numerals.{decimal-run, decimal-form, read-decimal, decimal-back}
 
 -- bytes without a point in front: they belong to the whole part

@@ -1,37 +1,19 @@
 -- The written form is canonical: what is read back from bytes of this form determines them.
-use mathlib.Core.Path.{_≡_, refl, sym, ap, ap₂, _∙_, subst}
-use mathlib.Core.Bool.{Bool, true, false, not, cond, _&&_, _||_}
-use mathlib.Core.List.{List, [], _∷_, _++_, map, append-assoc, append-nil, head-eq-of-cons-eq, tail-eq-of-cons-eq}
-use mathlib.Core.Logic.{_⊎_, inl, inr, _≢_}
+use mathlib.Core.Path.{_≡_, refl, sym, ap, ap₂, _∙_}
+use mathlib.Core.Bool.{Bool, true, false, cond, _&&_}
+use mathlib.Core.List.{List, [], _∷_, _++_, map, head-eq-of-cons-eq, tail-eq-of-cons-eq}
 use mathlib.Core.Option.{some, none, Option·some-injective, Option·none-ne-some}
-use Prim.Native.Nat.{ℕ, suc, _+_, _-_, _*_, _/_, _%_, _<_, _≤_}
-use native.Mathlib.Nat.{mul-add-div-right, mul-add-mod-self-right, mod-eq-of-lt, div-eq-of-lt}
+use Prim.Native.Nat.{ℕ, suc, _-_, _<_, _≤_}
 use native.Mathlib.Omega.{arith}
 use lib.Dec.{T, eqb, leb, leb→le, eqb→eq}
 use lib.IntN.{natAbs}
 use lib.ListN.{length, getD, take, drop}
 use lib.Seq.{take-suc, take-length}
 use Rattle.lists.specs.Lists.{all}
-use Rattle.lists.proofs.Tests.{and-T, T-true, T-false, T-or-not, eqb-no}
-use Rattle.interface.specs.Sheet.{isDigit, digitValue, numberFrom, cut, lines, sameBytes}
-use Rattle.interface.specs.Listing.{
-  Line,
-  digit,
-  digits,
-  hexadecimal,
-  decimal,
-  pointsText,
-  isHexDigit,
-  isSet,
-  isDecimal,
-  isIndex,
-  isLine,
-  lineRead,
-  isFirst,
-  lineWords,
-  isListing,
-  listingRead,
-}
+use Rattle.lists.proofs.Lists.{no-length}
+use Rattle.lists.proofs.Tests.{and-T}
+use Rattle.interface.specs.Sheet.{cut, lines, sameBytes}
+use Rattle.interface.specs.Listing.{Line, hexadecimal, decimal, pointsText, isSet, isDecimal, isIndex, isLine, lineRead, isFirst, lineWords, isListing, listingRead}
 use Rattle.interface.proofs.Numerals.{set-back, decimal-back}
 use Rattle.interface.proofs.Points.{index-back}
 use Rattle.interface.proofs.Pieces.{cut-once, same-bytes}
@@ -122,15 +104,10 @@ listing-pieces s t =
     let (t₃, last) = and-T (leb 2 (length p) && first && all isLine (lineWords s)) (eqb (length (getD p (length p - 1) [])) 0) t in
     let (t₂, form) = and-T (leb 2 (length p) && first) (all isLine (lineWords s)) t₃ in
     let (two, one) = and-T (leb 2 (length p)) first t₂ in
-    let empty = none (getD p (length p - 1) []) (eqb→eq (length (getD p (length p - 1) [])) 0 last) in
+    let empty = no-length (getD p (length p - 1) []) (eqb→eq (length (getD p (length p - 1) [])) 0 last) in
     (piece-parts p (leb→le 2 (length p) two) ∙ ap (λ (z : List ℕ). getD p 0 [] ∷ (between s ++ (z ∷ []))) empty, one, form)
-  where
-    none : (w : List ℕ) → length w ≡ 0 → w ≡ []
-    none [] e = refl
-    none (b ∷ w) e = absurd (omega arith)
 
--- two texts of which the same lines are read are the same bytes
-is-read : (s : List ℕ) {ls : List Line} → listingRead s ≡ some ls → T (isListing s) × (map lineRead (lineWords s) ≡ ls)
+pub is-read : (s : List ℕ) {ls : List Line} → listingRead s ≡ some ls → T (isListing s) × (map lineRead (lineWords s) ≡ ls)
 unfolding listingRead
 is-read s {ls} e = go (isListing s) e
   where
@@ -138,6 +115,12 @@ is-read s {ls} e = go (isListing s) e
     go true e = (tt, Option·some-injective (map lineRead (lineWords s)) ls e)
     go false e = absurd (Option·none-ne-some ls e)
 
+-- each line that is read is of the form
+pub lines-form : (s : List ℕ) → T (isListing s) → T (all isLine (lineWords s))
+unfolding lineWords between
+lines-form s t = listing-pieces s t .2
+
+-- two texts of which the same lines are read are the same bytes
 pub listing-once : (s t : List ℕ) {ls : List Line} → listingRead s ≡ some ls → listingRead t ≡ some ls → s ≡ t
 unfolding lineWords between lines
 listing-once s t rs rt =

@@ -21,10 +21,12 @@ use Rattle.sets.specs.Sets.{has, _∋_, _∌_, size, complement}
 use Rattle.sets.proofs.Sets.{clash, in-complement, of-complement, size-complement, complement-lt}
 use Rattle.sets.proofs.Subsets.{fits-members, members-fit, two-size}
 use Rattle.clusters.specs.PairList.{score, rowStart, hasLength, scoresInRange, hasUnscored}
+use Rattle.clusters.specs.Fillings.{AllScored}
 use Rattle.clusters.specs.Groups.{splits, kindOf, index, listed, groups, writtenSet}
 use Rattle.clusters.specs.Refined.{Quartet, quartets, doubledScore, refinedWeight, Across, Compatible}
 use Rattle.clusters.proofs.PairList.{score-symm, length-pairList}
 use Rattle.clusters.proofs.Groups.{in-groups}
+use Rattle.clusters.proofs.Scored.{list-scored}
 use Rattle.clusters.proofs.Quartets.{in-quartets, quartets-many}
 use Rattle.clusters.proofs.Crossing.{refined-never-cross}
 use Rattle.clusters.proofs.Refined.{refined-ge, split-refined, refined-either-side, refined-image, refined-least, refined-attained}
@@ -63,7 +65,7 @@ use Rattle.interface.specs.Requests.{
   WeighedAfter,
   Request-2-5,
 }
-use Rattle.interface.proofs.Refusals.{gives, first-no, no-more, first-iff, passes, Beside, beside}
+use Rattle.interface.proofs.Refusals.{gives, first-no, no-more, first-iff, passes, right-length, Beside, beside}
 use Rattle.interface.proofs.Demands.{wrote, accepted, numbers-taken}
 use Rattle.interface.proofs.Requests.{beforeSlots, numbered-before, numbers-before}
 
@@ -243,17 +245,20 @@ wrote-of (for-list c) = in-slots c
 wrote-of (for-sheet l e) = in-lines l e
 
 -- an answer that is no refusal
-record Found (n : ℕ) (l : List ℤ) (A : ℕ) (w : ℤ) : Type 0 where
+pub record Found (n : ℕ) (l : List ℤ) (A : ℕ) (w : ℤ) : Type 0 where
   of-sides : Sides n A
-  weight : w ≡ refinedWeight n (score l) A
+  pub scored : AllScored n (score l)
+  pub weight : w ≡ refinedWeight n (score l) A
 
-found : {n : ℕ} {l : List ℤ} {A : ℕ} {w : ℤ} → SideWeighed n l A 0 w → Found n l A w
+pub found : {n : ℕ} {l : List ℤ} {A : ℕ} {w : ℤ} → SideWeighed n l A 0 w → Found n l A w
 unfolding weightRefusal weightChecks all
 found {n} {l} {A} c =
     let a = answered c in
+    let checks = weightChecks n l A in
     let zero : weightRefusal n l A ≡ 0 = sym (a .is-number) in
     record {
-      of-sides = sides (T-false {b = wrongSide n A} (passes (weightChecks n l A) tt zero 5 (lit< tt)));
+      of-sides = sides (T-false {b = wrongSide n A} (passes checks tt zero 5 (lit< tt)));
+      scored = list-scored n l (right-length n l (T-false {b = not (hasLength n l)} (passes checks tt zero 1 (lit< tt)))) (passes checks tt zero 3 (lit< tt));
       weight = a .is-weight ∙ ap (λ (k : ℕ). weighedWeight (weighedAnswer k (refinedWeight n (score l) A))) zero ∙ weighed-found (refinedWeight n (score l) A);
     }
 

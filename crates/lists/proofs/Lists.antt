@@ -146,6 +146,10 @@ pub length-some {ℓ} : {A : Type ℓ} (l : List A) → 0 < length l → (x : A)
 length-some [] h = absurd (omega arith)
 length-some (x ∷ l) h = (x, List·Memᴰ·head refl)
 
+pub no-length {ℓ} : {A : Type ℓ} (l : List A) → length l ≡ 0 → l ≡ []
+no-length [] e = refl
+no-length (x ∷ l) e = absurd (omega arith)
+
 pub no-element {ℓ} : {A : Type ℓ} (l : List A) → ((x : A) → x ∈ l → ⊥) → l ≡ []
 no-element [] f = refl
 no-element (x ∷ l) f = absurd (f x (List·Memᴰ·head refl))
