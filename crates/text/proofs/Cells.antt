@@ -9,7 +9,7 @@ use lib.Dec.{eqb}
 use lib.IntN.{ℤ}
 use lib.ListN.{length, getD, drop}
 use Rattle.pairs.specs.declared.Carried.the-variants.{Scored, Unscored}
-use Rattle.interface.specs.Sheet.{isNumeral, isValue, isLoneMinus, isCell, valueOf, pairSaid}
+use Rattle.interface.specs.Sheet.{isNumeral, wholePart, isPoints, isValue, isLoneMinus, isCell, valueOf, pairSaid}
 use Rattle.interface.proofs.Values.{plain-lone}
 use Rattle.text.specs.Reading.{pieceAt, isEnd, numberAt}
 use Rattle.text.specs.declared.Cursor.{Cursor}
@@ -19,18 +19,8 @@ use Rattle.text.specs.declared.ValueRead.{ValueRead}
 use Rattle.text.specs.declared.ValueRead.the-variants.{Value, Refused}
 use Rattle.text.proofs.Pieces.{piece-none, piece-step}
 use Rattle.text.proofs.Words.{and-both}
-use Rattle.text.proofs.Numerals.{first-step, first-end, first-byte}
+use Rattle.text.proofs.Numerals.{first-byte, ends-empty}
 use Rattle.text.proofs.Values.{valueAt}
-
--- a piece that ends where it starts is empty
-ends-empty : (t : List ℕ) → isEnd t ≡ eqb (length (pieceAt 32 t 0)) 0
-unfolding isEnd
-ends-empty [] = rw (first-end [] refl)
-ends-empty (b ∷ t) = go (eqb b 32) refl
-  where
-    go : (x : Bool) → eqb b 32 ≡ x → x ≡ eqb (length (pieceAt 32 (b ∷ t) 0)) 0
-    go true e = rw (first-end (b ∷ t) e)
-    go false e = rw (first-step b t e) (sym (ne-eqb (suc (length (pieceAt 32 t 0))) 0 (λ z. absurd (omega arith))))
 
 -- a lone minus at a place, byte by byte
 module _ (s : List ℕ) (at : ℕ) where
@@ -39,7 +29,7 @@ module _ (s : List ℕ) (at : ℕ) where
   lone-none h = rw (piece-none 32 s at h)
 
   pub lone-other : at < length s → (getD s at 0 ≡ 45 → ⊥) → false ≡ isLoneMinus (pieceAt 32 s at)
-  lone-other h f = sym (plain-lone (pieceAt 32 s at) (first-byte s at h (ne-eqb (getD s at 0) 45 f)))
+  lone-other h f = sym (plain-lone (pieceAt 32 s at) (first-byte s at h (λ b. eqb b 45) refl (ne-eqb (getD s at 0) 45 f)))
 
   pub lone-is : at < length s → getD s at 0 ≡ 45 → isEnd (drop (at + 1) s) ≡ isLoneMinus (pieceAt 32 s at)
   unfolding isLoneMinus pieceAt
@@ -53,7 +43,7 @@ lone-length [] e = absurd (true≢false (sym e))
 lone-length (b ∷ w) e = ap suc (eqb-true (length w) 0 (and-both (eqb b 45) (eqb (length w) 0) e .1))
 
 lone-no-value : (w : List ℕ) → isLoneMinus w ≡ true → isValue w ≡ false
-unfolding isLoneMinus isValue isNumeral
+unfolding isLoneMinus isValue isPoints wholePart isNumeral
 lone-no-value [] e = refl
 lone-no-value (b ∷ []) e = rw (and-both (eqb b 45) true e .0)
 lone-no-value (b ∷ c ∷ w) e = absurd (omega (arith, lone-length (b ∷ c ∷ w) e))

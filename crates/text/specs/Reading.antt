@@ -1,9 +1,9 @@
 -- The code's own vocabulary for reading bytes, which a reader of the statements need not believe.
 use mathlib.Core.Path.{_≡_}
-use mathlib.Core.Bool.{Bool, true, cond, _||_}
+use mathlib.Core.Bool.{Bool, true, false, cond, _||_}
 use mathlib.Core.List.{List, [], _∷_}
 use Prim.Native.Nat.{ℕ, zero, suc, _+_}
-use lib.IntN.{pos}
+use lib.IntN.{pos, negℤ}
 use lib.Dec.{eqb}
 use lib.ListN.{length, getD, drop}
 use Rattle.pairs.specs.declared.Carried.the-variants.{Scored}
@@ -41,6 +41,11 @@ readOn v at ds = record { number = numberFrom 10 v ds; end = at + length ds }
 unfoldable pub isEnd : List ℕ → Bool
 isEnd [] = true
 isEnd (b ∷ s) = eqb b space
+
+-- a number of half points with its sign, and the place after it; `-0` is none
+unfoldable pub signedRead : (negative : Bool) (halves place : ℕ) → NumberRead
+signedRead true halves place = cond (eqb halves 0) IllFormed (Number (negℤ (pos halves)) (record { at = place }))
+signedRead false halves place = Number (pos halves) (record { at = place })
 
 -- the number at a place of a line with the place after it, if the piece there is a value
 unfoldable pub numberAt : List ℕ → ℕ → NumberRead

@@ -1,10 +1,21 @@
 ghost use mathlib.Core.Path.{_≡_};
-ghost use Prim.Native.Nat.{_+_, _≤_};
+ghost use Prim.Native.Nat.{_+_, _≤_, _<_};
 ghost use lib.Dec.{ltb};
 ghost use lib.ListN.{length, drop};
 ghost use Rattle.lists.specs.Lists.{all};
-ghost use Rattle.interface.specs.Sheet.{lineFeed, space, isUpper, isDigit, cut, isName, isNumeral, isLoneMinus};
-ghost use Rattle.text.specs.Reading.{inClass, pieceAt, digits, readOn, isEnd, numberAt, ValueCall};
+ghost use Rattle.interface.specs.Sheet.{
+  lineFeed,
+  space,
+  isUpper,
+  isDigit,
+  cut,
+  isName,
+  isNumeral,
+  halfText,
+  isLoneMinus,
+  sameBytes,
+};
+ghost use Rattle.text.specs.Reading.{inClass, pieceAt, digits, readOn, isEnd, signedRead, numberAt, ValueCall};
 use pairs::Carried;
 use pairs::Pair;
 
@@ -58,7 +69,7 @@ fn is_name_byte(b: u8) -> bool
 fn is_allowed(b: u8) -> bool
     ensures { λ r. ⌜ r ≡ inClass Class.Allowed b ⌝ }
 {
-    is_name_byte(b) | (b == b'-') | (b == b' ') | (b == b'\n')
+    is_name_byte(b) | (b == b'-') | (b == b'.') | (b == b' ') | (b == b'\n')
 }
 
 fn in_class(class: Class, b: u8) -> bool
@@ -202,21 +213,52 @@ fn is_end(line: &[u8], at: usize) -> bool
 }
 
 // From a place to the end of the digits there stands a numeral: 1 to 7 digits without a leading zero, or 0.
-// The test that there are digits comes first: a value then takes 11 instructions less.
 fn is_numeral(line: &[u8], from: usize, end: usize) -> bool
     requires { ⌜ (from ≤ length (now line)) × (end ≡ from + length (digits 7 (drop from (now line)))) ⌝ }
-    ensures { λ r. ⌜ r ≡ isNumeral (pieceAt space (now (line .entry)) from) ⌝ }
+    ensures { λ r. ⌜ r ≡ isNumeral (digits 7 (drop from (now (line .entry)))) ⌝ }
 {
     if end == from {
-        return false;
-    }
-    if !is_end(line, end) {
         return false;
     }
     (line[from] != b'0') | (end - from == 1)
 }
 
-// The number that stands at a place of a line, with the place after it: a numeral, or a minus and one that is not 0.
+// `.5` stands at the place, and nothing more.
+fn is_half(line: &[u8], at: usize) -> bool
+    ensures { λ r. ⌜ r ≡ sameBytes (pieceAt space (now (line .entry)) at) halfText ⌝ }
+{
+    if at >= line.len() {
+        return false;
+    }
+    if line[at] != b'.' {
+        return false;
+    }
+    let five = at + 1;
+    if five >= line.len() {
+        return false;
+    }
+    if line[five] != b'5' {
+        return false;
+    }
+    is_end(line, at + 2)
+}
+
+// A number of half points with its sign, and the place after it; `-0` is none.
+fn signed(negative: bool, halves: u32, end: usize) -> NumberRead
+    requires { ⌜ halves < 20000000 ⌝ }
+    ensures { λ r. ⌜ r ≡ signedRead negative halves end ⌝ }
+{
+    if !negative {
+        return NumberRead::Number(halves as i32, Cursor { at: end });
+    }
+    if halves == 0 {
+        return NumberRead::IllFormed;
+    }
+    NumberRead::Number(0 - halves as i32, Cursor { at: end })
+}
+
+// The number of half points that stands at a place of a line, with the place after it: a numeral, before it an optional
+// minus, behind it an optional `.5`, which is looked for last, since most values have none.
 fn read_number(line: &[u8], at: usize) -> NumberRead
     requires { ⌜ at ≤ length (now line) ⌝ }
     ensures { λ r. ⌜ r ≡ numberAt (now (line .entry)) at ⌝ }
@@ -232,13 +274,13 @@ fn read_number(line: &[u8], at: usize) -> NumberRead
     if !is_numeral(line, from, end) {
         return NumberRead::IllFormed;
     }
-    if !negative {
-        return NumberRead::Number(number as i32, Cursor { at: end });
+    if is_end(line, end) {
+        return signed(negative, number * 2, end);
     }
-    if number == 0 {
-        return NumberRead::IllFormed;
+    if is_half(line, end) {
+        return signed(negative, number * 2 + 1, end + 2);
     }
-    NumberRead::Number(0 - number as i32, Cursor { at: end })
+    NumberRead::IllFormed
 }
 
 // A lone minus stands at the place: the mark.

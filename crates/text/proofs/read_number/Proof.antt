@@ -1,29 +1,17 @@
-use mathlib.Core.Path.{_≡_, refl, sym, ap, ap₂, _∙_}
+use mathlib.Core.Path.{_≡_, refl, sym, _∙_}
 use mathlib.Core.Bool.{Bool, true, false}
 use mathlib.Core.List.{List}
 use Prim.Native.Nat.{ℕ, _+_, _≤_, _<_}
 use native.Mathlib.Omega.{arith}
-use borrow.Author.Tests.{not-true, not-false, eq-eqb, ne-eqb}
+use borrow.Author.Tests.{not-true, not-false}
 use borrow.Author.Needs.{needs}
 use lib.Dec.{eqb}
-use lib.ListN.{length, getD, drop}
+use lib.ListN.{length, getD}
 use mir.Val.{boolByte}
-use mir.Facts.{toZ-ofZ}
-use Rattle.interface.specs.Sheet.{isNumeral, numberFrom}
-use Rattle.text.specs.Reading.{pieceAt, digits, numberAt}
-use Rattle.text.proofs.Numerals.{
-  digits-read,
-  digits-small,
-  numeral-piece,
-  numberRead,
-  number-is,
-  no-number,
-  one-byte,
-  plus-fits,
-  neg-fits,
-  plus,
-  minus,
-}
+use Rattle.interface.specs.Sheet.{isNumeral}
+use Rattle.text.specs.Reading.{digits}
+use Rattle.text.proofs.Numerals.{digits-read, digits-inside, digits-small}
+use Rattle.text.proofs.Halves.{no-number, one-byte, run, Found, read-none, read-whole, read-half}
 use Rattle.text.proofs.read_number.Statement.{statement}
 use Rattle.text.proofs.read_number.Tie as tie
 
@@ -58,74 +46,80 @@ add-from c = omega (arith, inside c)
 read-digits-requires : tie.Need-read-digits-requires
 read-digits-requires c κs = inside c
 
--- the digits that are read, the number that they stand for, and their end
-abbrev run : tie.After-read-digits → List ℕ
-run c = digits 7 (drop (from (c .before)) (line (c .before)))
-
+-- the number and the end of the digits that are read
 abbrev number : tie.After-read-digits → ℕ
 number c = c .read-digits .result .number
 
 abbrev end : tie.After-read-digits → ℕ
 end c = c .read-digits .result .end
 
-found : (c : tie.After-read-digits) → (number c ≡ numberFrom 10 0 (run c)) × (end c ≡ from (c .before) + length (run c))
-found c = digits-read (c .read-digits .result) 0 (from (c .before)) (run c) (c .read-digits .ensures)
+found : (c : tie.After-read-digits) → let p = c .before in Found (line p) (at p) (negative p) (number c) (end c)
+found c =
+    let p = c .before in
+    let (n, e) = digits-read (c .read-digits .result) 0 (from p) (run (line p) (at p) (negative p)) (c .read-digits .ensures) in
+    record { inside = p .before .if1 .left; sign = refl; number = n; place = e }
 
 small : (c : tie.After-read-digits) → number c < 10000000
-small c = rw (found c .0) (digits-small _)
+small c = rw (found c .number) (digits-small _)
 
 is-numeral-requires : tie.Need-is-numeral-requires
-is-numeral-requires c κs = (inside (c .before), found c .1)
+is-numeral-requires c κs = (inside (c .before), found c .place)
+
+-- the digits are a numeral
+numeral : (c : tie.Else2) → let p = c .before .before .before in isNumeral (run (line p) (at p) (negative p)) ≡ true
+numeral c = sym (c .before .is-numeral .ensures) ∙ not-false _ (c .if2 .left)
 
 returns-2 : tie.Need-returns-2
 returns-2 c =
     let p = c .before .before .before in
-    let e = sym (c .before .is-numeral .ensures) ∙ not-true _ (c .if2 .taken) in
-    sym (number-is (line p) (at p) (p .before .if1 .left) (negative p) (pieceAt 32 (line p) (from p)) refl refl ∙ rw e)
+    let e : isNumeral (run (line p) (at p) (negative p)) ≡ false = sym (c .before .is-numeral .ensures) ∙ not-true _ (c .if2 .taken) in
+    read-none (found (c .before .before)) (rw e)
 
--- a numeral was read
-value : (c : tie.Else2) → let p = c .before .before .before in let d = c .before .before in
-    numberAt (line p) (at p) ≡ numberRead (negative p) true (number d) (end d)
-value c =
-    let p = c .before .before .before in
-    let d = c .before .before in
-    let n : isNumeral (pieceAt 32 (line p) (from p)) ≡ true = sym (c .before .is-numeral .ensures) ∙ not-false _ (c .if2 .left) in
-    let w = numeral-piece (line p) (from p) (end d) (found d .1) n in
-    number-is (line p) (at p) (p .before .if1 .left) (negative p) _ refl w
-    ∙ ap (λ (x : Bool). numberRead (negative p) x (numberFrom 10 0 (run d)) (from p + length (run d))) (sym (ap isNumeral w) ∙ n)
-    ∙ ap₂ (numberRead (negative p) true) (sym (found d .0)) (sym (found d .1))
+is-end-requires : tie.Need-is-end-requires
+is-end-requires c κs = search needs
 
-cast-t13 : tie.Need-cast-t13
-cast-t13 c = plus-fits _ (small (c .before .before .before))
+mul-signed : tie.Need-mul-signed
+mul-signed c = omega (arith, small (c .before .before .before .before))
+
+signed-requires : tie.Need-signed-requires
+signed-requires c κs = omega (arith, small (c .before .before .before .before))
 
 returns-3 : tie.Need-returns-3
 returns-3 c =
-    let p = c .before .before .before .before in
-    rw (plus _ (small (c .before .before .before)))
-    (sym (value (c .before) ∙ rw (not-true (negative p) (c .if3 .taken))))
+    let n = c .before .before .before in
+    let e = sym (c .before .before .is-end .ensures) ∙ c .before .if3 .taken in
+    c .signed .ensures ∙ sym (read-whole (found (n .before .before)) (numeral n) e)
+
+is-half-requires : tie.Need-is-half-requires
+is-half-requires c κs = search needs
+
+mul-signed-2 : tie.Need-mul-signed-2
+mul-signed-2 c = omega (arith, small (c .before .before .before .before .before .before))
+
+add-signed : tie.Need-add-signed
+add-signed c = omega (arith, small (c .before .before .before .before .before .before))
+
+add-signed-2 : tie.Need-add-signed-2
+add-signed-2 c =
+    let d = c .before .before .before .before .before .before in
+    let p = d .before in
+    omega (arith, digits-inside (line p) (from p) (end d) (found d .place) (inside p))
+
+signed-requires-2 : tie.Need-signed-requires-2
+signed-requires-2 c κs = omega (arith, small (c .before .before .before .before .before .before))
 
 returns-4 : tie.Need-returns-4
 returns-4 c =
-    let p = c .before .before .before .before .before in
-    let d = c .before .before .before .before in
-    let zero : number d ≡ 0 = omega (arith, small d) in
-    sym (value (c .before .before) ∙ rw (not-false (negative p) (c .before .if3 .left), eq-eqb (number d) 0 zero))
-
-cast-t15 : tie.Need-cast-t15
-cast-t15 c = plus-fits _ (small (c .before .before .before .before))
-
-sub-t16 : tie.Need-sub-t16
-sub-t16 c =
-    let p = small (c .before .before .before .before) in
-    rw (minus _ p) (neg-fits _ p)
+    let n = c .before .before .before .before .before in
+    let e = sym (c .before .before .is-half .ensures) ∙ c .before .if4 .taken in
+    c .signed2 .ensures ∙ sym (read-half (found (n .before .before)) (numeral n) e)
 
 returns-5 : tie.Need-returns-5
 returns-5 c =
-    let p = c .before .before .before .before .before in
-    let d = c .before .before .before .before in
-    let some : eqb (number d) 0 ≡ false = ne-eqb (number d) 0 (c .if4 .left) in
-    rw (minus _ (small d), toZ-ofZ (neg-fits _ (small d)))
-    (sym (value (c .before .before) ∙ rw (not-false (negative p) (c .before .if3 .left), some)))
+    let n = c .before .before .before .before in
+    let whole = sym (c .before .before .before .is-end .ensures) ∙ c .before .before .if3 .left in
+    let half = sym (c .before .is-half .ensures) ∙ c .if4 .left in
+    read-none (found (n .before .before)) (rw (numeral n, whole, half))
 
 pub read-number-spec : {M : Type 1} → statement M
 read-number-spec =
@@ -138,9 +132,14 @@ read-number-spec =
     read-digits-requires
     is-numeral-requires
     returns-2
-    cast-t13
+    is-end-requires
+    mul-signed
+    signed-requires
     returns-3
+    is-half-requires
+    mul-signed-2
+    add-signed
+    add-signed-2
+    signed-requires-2
     returns-4
-    cast-t15
-    sub-t16
     returns-5)
