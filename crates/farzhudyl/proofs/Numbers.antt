@@ -32,7 +32,7 @@ module _ (kind : ℤ) (s : List ℕ) (room : ℕ) where
   number-le = rw number-answer (first-le 16 (sheetCallChecks kind s room) tt)
 
   -- a sheet that is not refused passes checks 6, 11 and 16
-  length-le : sheetRefusal kind s room ≡ 0 → length (sheetListing kind s) ≤ 1379
+  length-le : sheetRefusal kind s room ≡ 0 → length (sheetListing kind s) ≤ 1503
   unfolding sheetRefusal sheetCallChecks sheetListing all
   length-le e =
       let checks = sheetCallChecks kind s room in
@@ -41,5 +41,5 @@ module _ (kind : ℤ) (s : List ℕ) (room : ℕ) where
       let checked : Checked (entries s) (pairs s) = record { some = some-count (entries s) six; few = right-count (entries s) six; long = p .long; range = p .range } in
       listing-room kind (entries s) (pairs s) (accepted kind checked (T-false {b = wrongUnscored kind (pairs s)} (p .sixteen)))
 
-  pub count-le : countOf (answer (sheetRefusal kind s room) (length (sheetListing kind s))) ≤ 1379
+  pub count-le : countOf (answer (sheetRefusal kind s room) (length (sheetListing kind s))) ≤ 1503
   count-le = count-most (sheetRefusal kind s room) length-le

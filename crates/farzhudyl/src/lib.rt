@@ -33,7 +33,7 @@ fn list_pairs(kind: i32, n: usize, pairs: &[i32], out: &mut [u8]) -> Answer
     let indices = found.indices;
     let count = found.count;
     // room for the first line and 64 of the longest lines
-    let mut text = [0u8; 2127];
+    let mut text = [0u8; 2191];
     let written = listing::write(&mut text, &sets, &indices, count);
     listing::hand_over(&text, written, out)
 }

@@ -1,7 +1,7 @@
 -- Laws of lines: their fields, their lengths, and the lines of the groups in two slices, one by one.
 use mathlib.Core.Path.{_≡_, refl, sym, ap, _∙_, subst}
 use mathlib.Core.List.{List, [], _∷_, _++_, map, append-assoc, append-nil, List·Memᴰ·head, List·Memᴰ·tail}
-use Prim.Native.Nat.{ℕ, zero, suc, _+_, _^_, _<_, _≤_}
+use Prim.Native.Nat.{ℕ, zero, suc, _+_, _/_, _^_, _<_, _≤_}
 use native.Mathlib.Numerals.{add-one}
 use native.Mathlib.Omega.{arith}
 use lib.IntN.{ℤ, pos}
@@ -28,7 +28,7 @@ unfolding line lineOf lineText signedPoints
 length-line n A k e = rw e (simp (length-append, length-hexadecimal) (omega arith))
 
 pub line-bound : (A k : ℕ) → k < 2 ^ 64 → length (line 32 (A, pos k)) ≤ 34
-line-bound A k h = omega (arith, length-line 32 A k refl, length-points k h, length-decimal 1 (size 32 A) (omega (arith, size-le 32 A)))
+line-bound A k h = omega (arith, length-line 32 A k refl, length-points k, length-decimal 18 (k / 2) (omega arith), length-decimal 1 (size 32 A) (omega (arith, size-le 32 A)))
 
 -- a listing, group by group
 pub listing-groups : (n : ℕ) (groups : List (ℕ × ℤ)) → listing (map (lineOf n) groups) ≡ firstLine ++ each groups (line n)

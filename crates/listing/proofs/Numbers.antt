@@ -2,7 +2,7 @@
 use mathlib.Core.Path.{_≡_, refl, ap, _∙_}
 use mathlib.Core.Bool.{Bool, true, false}
 use mathlib.Core.List.{List, [], _∷_, _++_, append-assoc, append-nil}
-use Prim.Native.Nat.{ℕ, suc, _+_, _-_, _/_, _%_, _^_, _<_, _≤_}
+use Prim.Native.Nat.{ℕ, suc, _+_, _-_, _/_, _%_, _<_, _≤_}
 use native.Mathlib.Numerals.{add-one}
 use native.Mathlib.Omega.{arith}
 use borrow.Author.Tests.{ne-eqb}
@@ -11,7 +11,7 @@ use lib.Seq.{sets}
 use Rattle.clusters.specs.PairList.{onePoint}
 use Rattle.interface.specs.Sheet.{halfText}
 use Rattle.interface.specs.Listing.{digit, digits, hexadecimal, decimal, pointsText}
-use Rattle.interface.proofs.Digits.{length-digits, length-decimal}
+use Rattle.interface.proofs.Digits.{length-digits}
 use Rattle.interface.proofs.Points.{ending, odd, points-parts}
 use Rattle.listing.specs.Put.{Put}
 use Rattle.listing.proofs.Puts.{sets-last, then}
@@ -55,9 +55,9 @@ half-put k after {end = end} f p = rw text (then p (record { place = refl; store
     text = rw (ne-eqb (k % 2) 0 f) (simp append-assoc)
 
 -- and its length
-pub length-points : (k : ℕ) → k < 2 ^ 64 → length (pointsText k) ≤ 21
+pub length-points : (k : ℕ) → length (pointsText k) ≤ length (decimal (k / 2)) + 2
 unfolding onePoint halfText
-length-points k h = omega (arith, ap length (points-parts k), length-append (decimal (k / 2)) (ending (odd k)), short (odd k), length-decimal 18 (k / 2) (omega arith))
+length-points k = omega (arith, ap length (points-parts k), length-append (decimal (k / 2)) (ending (odd k)), short (odd k))
   where
     short : (h : Bool) → length (ending h) ≤ 2
     short true = omega arith

@@ -9,7 +9,6 @@ use lib.Dec.{eqb}
 use lib.ListN.{length, getD}
 use mir.Val.{boolByte}
 use Rattle.interface.specs.Sheet.{isNumeral}
-use Rattle.text.specs.Reading.{digits}
 use Rattle.text.proofs.Numerals.{digits-read, digits-inside, digits-small}
 use Rattle.text.proofs.Halves.{no-number, one-byte, run, Found, read-none, read-whole, read-half}
 use Rattle.text.proofs.read_number.Statement.{statement}
