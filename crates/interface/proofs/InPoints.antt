@@ -121,6 +121,9 @@ points-index w t =
     let (n, e) = and-T (isNumeral (wholePart w)) (isWholeOrHalf w) t in
     T-and (isDecimal (wholePart w)) (isWholeOrHalf w) (numeral-decimal (wholePart w) n .0) e
 
+pub points-back : (w : List ℕ) → T (isPoints w) → pointsText (halfPoints w) ≡ w
+points-back w t = index-back w (points-index w t)
+
 points-small : (w : List ℕ) → T (isPoints w) → halfPoints w < 20000000
 unfolding isPoints halfPoints onePoint
 points-small w t =
@@ -136,14 +139,15 @@ zero-text : pointsText 0 ≡ 48 ∷ []
 unfolding decimal decimalFrom digit
 zero-text = even-text 0
 
+pub only-zero : (w : List ℕ) → T (isPoints w) → halfPoints w ≡ 0 → w ≡ 48 ∷ []
+only-zero w t e = sym (points-back w t) ∙ ap pointsText e ∙ zero-text
+
 negative-back : (w : List ℕ) (k : ℕ) → halfPoints w ≡ k → T (isPoints w) → T (not (sameBytes w (48 ∷ [])))
     → (signedPoints (negℤ (pos k)) ≡ minus ∷ w) × Within 19999999 (negℤ (pos k))
 unfolding signedPoints up dn sameBytes
-negative-back w zero e p n =
-    let zero : w ≡ 48 ∷ [] = sym (index-back w (points-index w p)) ∙ ap pointsText e ∙ zero-text in
-    absurd (subst (λ (v : List ℕ). T (not (sameBytes v (48 ∷ [])))) zero n)
+negative-back w zero e p n = absurd (subst (λ (v : List ℕ). T (not (sameBytes v (48 ∷ [])))) (only-zero w p e) n)
 negative-back w (suc k) e p n = (
-  ap (λ (v : List ℕ). minus ∷ v) (ap pointsText (sym e) ∙ index-back w (points-index w p)),
+  ap (λ (v : List ℕ). minus ∷ v) (ap pointsText (sym e) ∙ points-back w p),
   within (omega arith) (omega (arith, points-small w p)),
 )
 
@@ -159,7 +163,7 @@ value-back (b ∷ w) t = go (eqb b minus) refl t
         let (p, n) = and-T (isPoints w) (not (sameBytes w (48 ∷ []))) t in
         let (back, in-range) = negative-back w (halfPoints w) refl p n in
         (back ∙ ap (λ (c : ℕ). c ∷ w) (sym (eqb→eq b minus (true-T e))), in-range)
-    go false e t = (index-back (b ∷ w) (points-index (b ∷ w) t), within (omega (arith, points-small (b ∷ w) t)) (omega arith))
+    go false e t = (points-back (b ∷ w) t, within (omega (arith, points-small (b ∷ w) t)) (omega arith))
 
 pub well-formed : (w : List ℕ) → T (isValue w) ↔ ((z : ℤ) × InPoints w z × Within 19999999 z)
 well-formed w = (

@@ -1,6 +1,6 @@
 -- Half points at a place of a line: the digits there, what stands behind them, and the sign before them.
 use mathlib.Core.Path.{_≡_, refl, sym, ap, ap₂, _∙_, subst}
-use mathlib.Core.Bool.{Bool, true, false, cond, not, _&&_, _||_, true≢false}
+use mathlib.Core.Bool.{Bool, true, false, cond, not, _&&_, _||_}
 use mathlib.Core.List.{List, [], _∷_, _++_, append-nil}
 use Prim.Native.Nat.{ℕ, zero, suc, _+_, _*_, _≤_, _<_}
 use native.Mathlib.Omega.{arith}
@@ -32,11 +32,10 @@ use Rattle.interface.specs.Sheet.{
   valueOf,
   sameBytes,
 }
-use Rattle.interface.specs.Listing.{digit, decimalFrom, decimal, pointsText, signedPoints}
 use Rattle.interface.proofs.Pieces.{free, same-bytes}
 use Rattle.interface.proofs.Points.{whole-front, fraction-front, parts, ending, digits-free, ended-whole, ended-well, ended-points}
 use Rattle.interface.proofs.Values.{plain-test, plain-value}
-use Rattle.interface.proofs.InPoints.{even-text, value-back}
+use Rattle.interface.proofs.InPoints.{only-zero}
 use Rattle.text.specs.Reading.{pieceAt, digits, isEnd, signedRead, numberAt}
 use Rattle.text.specs.declared.NumberRead.{NumberRead}
 use Rattle.text.specs.declared.NumberRead.the-variants.{Number, IllFormed}
@@ -112,28 +111,12 @@ module _ (t : List ℕ) where
     points-length : length (pieceAt 32 t 0) ≡ length (digits 7 t) + length (ending h)
     points-length = ap length whole-piece ∙ length-append (digits 7 t) (ending h)
 
--- a value without its sign does not start with a minus, and is what is written for its half points
-points-first : (w : List ℕ) → isPoints w ≡ true → eqb (getD w 0 0) 45 ≡ false
-unfolding isPoints wholePart isNumeral all isDigit
-points-first [] e = refl
-points-first (b ∷ w) e = go (eqb b 45) refl
-  where
-    go : (x : Bool) → eqb b 45 ≡ x → x ≡ false
-    go true m = absurd (true≢false (sym (rw (eqb-true b 45 m) at e)))
-    go false m = refl
-
-points-back : (w : List ℕ) → isPoints w ≡ true → pointsText (halfPoints w) ≡ w
-unfolding signedPoints
-points-back w e =
-    let f = points-first w e in
-    ap signedPoints (sym (plain-value w f)) ∙ value-back w (true-T (plain-test w f ∙ e)) .0
-
--- of these only `0` is nothing
+-- of values without a sign only `0` is nothing
 zero-is : (w : List ℕ) → isPoints w ≡ true → sameBytes w (48 ∷ []) ≡ eqb (halfPoints w) 0
-unfolding halfPoints wholePart hasHalf fraction halfText sameBytes numberFrom digitValue isDigit decimal decimalFrom digit onePoint
+unfolding halfPoints wholePart hasHalf fraction halfText sameBytes numberFrom digitValue isDigit onePoint
 zero-is w e = T-same (sameBytes w (48 ∷ [])) (eqb (halfPoints w) 0)
     (λ t. subst (λ (v : List ℕ). T (eqb (halfPoints v) 0)) (sym (same-bytes w (48 ∷ []) t)) tt)
-    (λ t. subst (λ (v : List ℕ). T (sameBytes v (48 ∷ []))) (sym (even-text 0) ∙ ap pointsText (sym (eqb→eq (halfPoints w) 0 t)) ∙ points-back w e) tt)
+    (λ t. subst (λ (v : List ℕ). T (sameBytes v (48 ∷ []))) (sym (only-zero w (true-T e) (eqb→eq (halfPoints w) 0 t))) tt)
 
 -- what is read behind a sign, if it is a value
 abbrev readIf : (negative good : Bool) (halves place : ℕ) → NumberRead
