@@ -1,7 +1,7 @@
 -- Request 2.2, from the outcomes of the calls and the theorems about fillings.
 use mathlib.Core.Path.{_≡_, refl, sym, ap, _∙_, subst}
 use mathlib.Core.Bool.{Bool, true, false, not, cond, _&&_, _||_}
-use mathlib.Core.Logic.{_≢_, _↔_}
+use mathlib.Core.Logic.{_⊎_, inl, inr, _≢_, _↔_}
 use mathlib.Core.List.{List, [], _∷_, _++_}
 use Prim.Native.Nat.{ℕ, _-_, _<_}
 use native.Mathlib.Omega.{arith}
@@ -10,9 +10,10 @@ use lib.Dec.{T, T-not, not-T, eqb, eqb→eq, lit<}
 use lib.IntN.{ℤ, pos}
 use lib.ListN.{length}
 use Rattle.lists.specs.Lists.{_lists_, all}
-use Rattle.lists.proofs.Lists.{some-fails}
+use Rattle.lists.proofs.Lists.{all-in, some-fails}
 use Rattle.lists.proofs.Tests.{and-T, T-and, eqb-no}
 use Rattle.integers.specs.Integers.{eqZ}
+use Rattle.integers.specs.Range.{Within}
 use Rattle.integers.proofs.Linear.{eqZ-yes}
 use Rattle.pairs.specs.declared.Carried.the-variants.{Unscored}
 use Rattle.pairs.specs.Pairs.{mark, carried}
@@ -20,7 +21,7 @@ use Rattle.clusters.specs.PairList.{Similarity, rowStart, scoreLimit, hasLength
 use Rattle.clusters.specs.Fillings.{ScoredMore}
 use Rattle.clusters.specs.Groups.{strong, kindOf, index, groups}
 use Rattle.clusters.proofs.Groups.{in-groups, in-groupSets}
-use Rattle.clusters.proofs.Scored.{within-allowed, unscored-there}
+use Rattle.clusters.proofs.Scored.{allowed-cases, within-allowed, unscored-there}
 use Rattle.clusters.proofs.Unscored.{group-every-filling, scoring-keeps, scoring-one, scored-groups, touched-unlisted}
 use Rattle.answers.specs.declared.Answer.{Answer}
 use Rattle.answers.specs.Answers.{numberOf, answer}
@@ -161,6 +162,9 @@ exempt : T (isAllowedPair scoreLimit Unscored)
 unfolding isAllowedPair
 exempt = tt
 
+pub mark-allowed : {v : ℤ} → v ≡ mark → T (isAllowedPair scoreLimit (carried v))
+mark-allowed e = subst (λ p. T (isAllowedPair scoreLimit p)) (sym (marked e)) exempt
+
 out-of-range : (l : List ℤ) → T (not (scoresInRange l)) → OutOfRange l
 unfolding scoresInRange
 out-of-range l t =
@@ -171,14 +175,22 @@ out-of-range l t =
       no-mark = λ e. T-not (isAllowedPair scoreLimit (carried v)) f (mark-allowed e);
       out = λ h. T-not (isAllowedPair scoreLimit (carried v)) f (within-allowed h);
     }
-  where
-    mark-allowed : {v : ℤ} → v ≡ mark → T (isAllowedPair scoreLimit (carried v))
-    mark-allowed e = subst (λ p. T (isAllowedPair scoreLimit p)) (sym (marked e)) exempt
 
-numbers-eleven : (kind : ℤ) (n : ℕ) (l : List ℤ) (sets indices : ℕ) → numbersRefusal kind n l sets indices ≡ 11 → OutOfRange l
+in-range-not : (l : List ℤ) → OutOfRange l → T (not (scoresInRange l))
+unfolding scoresInRange
+in-range-not l o = not-T (scoresInRange l) λ t. go (allowed-cases (all-in (λ v. isAllowedPair scoreLimit (carried v)) l t (o .there)))
+  where
+    go : (o .number ≡ mark) ⊎ Within scoreLimit (o .number) → ⊥
+    go (inl e) = o .no-mark e
+    go (inr h) = o .out h
+
+pub numbers-eleven : (kind : ℤ) (n : ℕ) (l : List ℤ) (sets indices : ℕ)
+    → (numbersRefusal kind n l sets indices ≡ 11) ↔ (T (none (check1 kind ∷ check6 n ∷ check10 n l ∷ [])) × OutOfRange l)
 unfolding numbersRefusal numbersChecks all
-numbers-eleven kind n l sets indices e = out-of-range l (first-at 11 (lit< tt) (check1 kind ∷ check6 n ∷ check10 n l ∷ []) (not (scoresInRange l))
-    (check16Of kind l ∷ check12 kind n l ∷ check13 n sets indices ∷ []) tt tt .0 e .1)
+numbers-eleven kind n l sets indices =
+    let f = first-at 11 (lit< tt) (check1 kind ∷ check6 n ∷ check10 n l ∷ []) (not (scoresInRange l))
+    (check16Of kind l ∷ check12 kind n l ∷ check13 n sets indices ∷ []) tt tt in
+    (λ e. let (t, o) = f .0 e in (t, out-of-range l o), λ (t, o). f .1 (t, in-range-not l o))
 
 sheet-eleven : (kind : ℤ) (s : List ℕ) (buffer : ℕ) → sheetRefusal kind s buffer ≡ 11 → OutOfRange (pairs s)
 unfolding sheetRefusal sheetCallChecks readerChecks all
@@ -186,7 +198,7 @@ sheet-eleven kind s buffer e = out-of-range (pairs s) (first-at 11 (lit< tt) (ch
     (check16Of kind (pairs s) ∷ check12 kind (entries s) (pairs s) ∷ check14 buffer (sheetListing kind s) ∷ []) tt tt .0 e .1)
 
 -- the number of an answer whose table gives k
-given : {r : Answer} (k c : ℕ) {j : ℕ} {X : Type 0} → r ≡ answer k c → (k ≡ j) ↔ X → (numberOf r ≡ j) ↔ X
+pub given : {r : Answer} (k c : ℕ) {j : ℕ} {X : Type 0} → r ≡ answer k c → (k ≡ j) ↔ X → (numberOf r ≡ j) ↔ X
 given k c e f =
     let q = ap numberOf e ∙ number-answer k c in
     (λ z. f .0 (sym q ∙ z), λ x. q ∙ f .1 x)
@@ -232,7 +244,7 @@ request-2-2 = record {
       sheet-eleven kind sheet (length lent) (c-refused k many 11 (lit< tt) .0 (sym (answered c k many (c .outcome .answered)) ∙ e));
   exempt-numbers = λ {kind} {n} {l} {lentIndices} {indices} {lentSets} c e.
       let k = numbersRefusal kind n l (length lentSets) (length lentIndices) in
-      numbers-eleven kind n l (length lentSets) (length lentIndices) (sym (ap numberOf (c .answered) ∙ number-answer k (length (groupsFound kind n l))) ∙ e);
+      numbers-eleven kind n l (length lentSets) (length lentIndices) .0 (sym (ap numberOf (c .answered) ∙ number-answer k (length (groupsFound kind n l))) ∙ e) .1;
   of-sheet = λ {kind} {r} {sheet} {lent} c.
       let k = sheetRefusal kind sheet (length lent) in
       let many = length (sheetListing kind sheet) in

@@ -8,7 +8,7 @@ use lib.IntN.{ℤ, pos, negℤ, _+ℤ_, _*ℤ_}
 use lib.Signed.{_≤ℤ_}
 use lib.Dec.{T}
 use lib.ListN.{length, getD, set, take, drop}
-use Rattle.lists.specs.Lists.{_∈_, _lists_}
+use Rattle.lists.specs.Lists.{_∈_, _lists_, all, Distinct}
 use Rattle.sets.specs.Sets.{_∋_, _∌_, size, allEntries, complement, Subset}
 use Rattle.integers.specs.Integers.{sumOf}
 use Rattle.integers.specs.Range.{Within}
@@ -30,8 +30,9 @@ use Rattle.answers.specs.declared.Shared.{Shared}
 use Rattle.answers.specs.Shared.{sharedNumber, sharedSet, sharedLine}
 use Rattle.answers.specs.declared.Weighed.{Weighed}
 use Rattle.answers.specs.Weighed.{weighedNumber, weighedWeight}
-use Rattle.interface.specs.Sheet.{point, isValue, hasHalf, names, entries, words, value, pairs}
+use Rattle.interface.specs.Sheet.{point, isName, isValue, hasHalf, names, entries, words, value, pairs}
 use Rattle.interface.specs.Listing.{Line, decimal, lineWords, listingRead}
+use Rattle.interface.specs.SheetText.{sheetText}
 use Rattle.interface.specs.Refusals.{Check, none, Given, check1, check6, check10, check11, check1Groups}
 use Rattle.interface.specs.Refusals.{readerChecks, sharedChecks, sheetChecks, poolChecks, weightChecks}
 use Rattle.interface.specs.Calls.{InC, CCall, NumbersCall, LinkageCall, AnchoredCall}
@@ -411,6 +412,15 @@ pub record PointsOut (sheet : List ℕ) : Type 0 where
   pub says : InPoints (wordAt sheet i j) z
   pub out : Within (2 * 1000000) z → ⊥
 
+-- names and numbers that a sheet can have: 1 to 32 well-formed names, no two equal; of each pair one number for both
+-- orders, half points from −1,000,000 to 1,000,000 points or the mark's
+pub record FitsSheet (ns : List (List ℕ)) (s : Similarity) : Type 0 where
+  pub count : (1 ≤ length ns) × (length ns ≤ 32)
+  pub named : T (all isName ns)
+  pub distinct : Distinct ns
+  pub symmetric : (i j : ℕ) → i < length ns → j < length ns → s i j ≡ s j i
+  pub range : (i j : ℕ) → i < length ns → j < length ns → (s i j ≡ mark) ⊎ Within (2 * 1000000) (s i j)
+
 pub record Request-2-6 : Type 0 where
   -- "A value may end in `.5` .. and `-0.5` is well formed": what is well formed says half points, and every number of
   -- half points that needs at most 7 digits before the point is said by what is well formed
@@ -429,10 +439,16 @@ pub record Request-2-6 : Type 0 where
   pub read-in-C : {sheet : List ℕ} {lent after : List ℤ} {r : ℤ} → InC (λ a. ReaderCall sheet lent a after) r
       → (count : ℕ) → r ≡ pos count → (i j : ℕ) → i < count → j ≤ i
       → CellSays (wordAt sheet i j) (carried (getD after (i * (i + 1) / 2 + j) (pos 0)))
+  -- any half points in that range, and the mark anywhere, are taken as a sheet, and are read back
+  pub taken : {ns : List (List ℕ)} {s : Similarity} → FitsSheet ns s → T (none (sheetChecks (sheetText ns s)))
+      × ((i j : ℕ) → i < length ns → j < length ns → value (sheetText ns s) i j ≡ s i j)
   -- "the range of 11 is the same in points", of a sheet and of a pair list
   pub range : scoreLimit ≡ 2 * 1000000
   pub eleven : {kind r : ℤ} {sheet lent after : List ℕ} → CCall kind sheet lent r after
       → (r ≡ negℤ (pos 11)) ↔ (T (none (check1 kind ∷ readerChecks sheet)) × PointsOut sheet)
+  pub eleven-numbers : {kind : ℤ} {n : ℕ} {l lentIndices indices : List ℤ} {lentSets sets : List ℕ} {r : Answer}
+      → NumbersCall kind n l lentSets lentIndices r sets indices
+      → (numberOf r ≡ 11) ↔ (T (none (check1 kind ∷ check6 n ∷ check10 n l ∷ [])) × OutOfRange l)
   -- "Indices are written in points, with `.5` where needed": each index read back from a listing; and the pool's scores
   pub indices-in-points : (bytes : List ℕ) {ls : List Line} → listingRead bytes ≡ some ls → (i : ℕ) → i < length ls
       → InPoints (getD (getD (lineWords bytes) i []) 2 []) (getD (map (λ l. l .index) ls) i (pos 0))
