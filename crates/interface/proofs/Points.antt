@@ -10,7 +10,7 @@ use lib.ListN.{length}
 use Rattle.lists.specs.Lists.{all}
 use Rattle.lists.proofs.Tests.{and-T, T-and, T-true, T-false, or-T, T-or-not, eqb-no}
 use Rattle.clusters.specs.PairList.{onePoint}
-use Rattle.interface.specs.Sheet.{point, isDigit, isNumeral, wholePart, fraction, halfText, hasHalf, isWholeOrHalf, isPoints, numberFrom, halfPoints, sameBytes}
+use Rattle.interface.specs.Sheet.{point, isDigit, wholePart, fraction, halfText, hasHalf, isWholeOrHalf, numberFrom, halfPoints, sameBytes}
 use Rattle.interface.specs.Listing.{decimal, pointsText, isDecimal, isIndex}
 use Rattle.interface.proofs.Pieces.{free, all-free, same-bytes}
 use Rattle.interface.proofs.Numerals.{decimal-run, decimal-form, read-decimal, decimal-back}
@@ -44,6 +44,20 @@ parts (b ∷ w) = go (eqb b point) (parts w)
 -- what stands behind the digits: nothing, or `.5`
 abbrev pub ending : Bool → List ℕ
 ending h = cond h halfText []
+
+-- a word without a point, or with `.5`, is its whole part and its ending
+ending-none : (l : List ℕ) → length l ≡ 0 → ending (sameBytes l halfText) ≡ l
+unfolding sameBytes halfText
+ending-none [] e = refl
+ending-none (b ∷ l) e = absurd (omega arith)
+
+pub ended : (w : List ℕ) → T (isWholeOrHalf w) → wholePart w ++ ending (hasHalf w) ≡ w
+unfolding isWholeOrHalf hasHalf
+ended w t = ap (λ (l : List ℕ). wholePart w ++ l) (go (or-T (eqb (length (fraction w)) 0) (sameBytes (fraction w) halfText) t)) ∙ parts w
+  where
+    go : T (eqb (length (fraction w)) 0) ⊎ T (sameBytes (fraction w) halfText) → ending (sameBytes (fraction w) halfText) ≡ fraction w
+    go (inl e) = ending-none (fraction w) (eqb→eq (length (fraction w)) 0 e)
+    go (inr e) = ap ending (T-true {b = sameBytes (fraction w) halfText} e) ∙ sym (same-bytes (fraction w) halfText e)
 
 pub digits-free : (w : List ℕ) → T (all isDigit w) → free point w
 unfolding isDigit
@@ -86,20 +100,6 @@ module _ (u : List ℕ) (f : free point u) where
   unfolding halfPoints
   ended-points h = ap₂ (λ (w : List ℕ) (x : Bool). numberFrom 10 0 w * onePoint + cond x 1 0) (ended-whole h) (ended-half h)
 
--- a word without a point, or with `.5`, is its whole part and its ending
-ending-none : (l : List ℕ) → length l ≡ 0 → ending (sameBytes l halfText) ≡ l
-unfolding sameBytes halfText
-ending-none [] e = refl
-ending-none (b ∷ l) e = absurd (omega arith)
-
-pub ended : (w : List ℕ) → T (isWholeOrHalf w) → wholePart w ++ ending (hasHalf w) ≡ w
-unfolding isWholeOrHalf hasHalf
-ended w t = ap (λ (l : List ℕ). wholePart w ++ l) (go (or-T (eqb (length (fraction w)) 0) (sameBytes (fraction w) halfText) t)) ∙ parts w
-  where
-    go : T (eqb (length (fraction w)) 0) ⊎ T (sameBytes (fraction w) halfText) → ending (sameBytes (fraction w) halfText) ≡ fraction w
-    go (inl e) = ending-none (fraction w) (eqb→eq (length (fraction w)) 0 e)
-    go (inr e) = ap ending (T-true {b = sameBytes (fraction w) halfText} e) ∙ sym (same-bytes (fraction w) halfText e)
-
 -- a number of half points: its whole points, and whether one half more
 abbrev pub odd : ℕ → Bool
 odd k = not (eqb (k % onePoint) 0)
@@ -130,20 +130,16 @@ read-points k =
     ∙ ap (λ (m : ℕ). m * onePoint + cond (odd k) 1 0) (read-decimal (k / onePoint)) ∙ halved k
 
 module _ (k : ℕ) where
-  points-whole : wholePart (pointsText k) ≡ decimal (k / onePoint)
+  pub points-whole : wholePart (pointsText k) ≡ decimal (k / onePoint)
   points-whole = ap wholePart (points-parts k) ∙ ended-whole (decimal (k / onePoint)) (decimal-free (k / onePoint)) (odd k)
 
-  points-well : T (isWholeOrHalf (pointsText k))
+  pub points-well : T (isWholeOrHalf (pointsText k))
   points-well = subst (λ (w : List ℕ). T (isWholeOrHalf w)) (sym (points-parts k)) (ended-well (decimal (k / onePoint)) (decimal-free (k / onePoint)) (odd k))
 
   pub index-form : T (isIndex (pointsText k))
   unfolding isIndex
   index-form = T-and (isDecimal (wholePart (pointsText k))) (isWholeOrHalf (pointsText k))
       (subst (λ (w : List ℕ). T (isDecimal w)) (sym points-whole) (decimal-form (k / onePoint))) points-well
-
-  pub points-form : T (isNumeral (decimal (k / onePoint))) → T (isPoints (pointsText k))
-  unfolding isPoints
-  points-form t = T-and (isNumeral (wholePart (pointsText k))) (isWholeOrHalf (pointsText k)) (subst (λ (w : List ℕ). T (isNumeral w)) (sym points-whole) t) points-well
 
 -- the number of whole points and a half, or none
 pub half-number : (n : ℕ) (h : Bool) → pointsText (n * onePoint + cond h 1 0) ≡ decimal n ++ ending h

@@ -34,6 +34,7 @@ use Rattle.interface.specs.Sheet.{
   fraction,
   halfText,
   hasHalf,
+  isWholeOrHalf,
   isPoints,
   isValue,
   isLoneMinus,
@@ -51,7 +52,7 @@ use Rattle.interface.specs.Refusals.{isAllowed}
 use Rattle.interface.proofs.Pieces.{free, all-free, all-append, same-bytes}
 use Rattle.interface.proofs.Digits.{length-decimal, decimal-some}
 use Rattle.interface.proofs.Numerals.{decimal-run, decimal-form}
-use Rattle.interface.proofs.Points.{ending, odd, points-parts, read-points, points-form}
+use Rattle.interface.proofs.Points.{ending, odd, points-parts, points-whole, points-well, read-points}
 
 -- a byte of a name or of a pair: those of check 3 but the space and the line feed
 isPlain : ℕ → Bool
@@ -162,8 +163,9 @@ decimal-numeral n h = short-decimal (decimal n) (decimal-form n) (length-decimal
 
 -- at most 19,999,999 half points have at most 7 digits before the point
 points-value : (k : ℕ) → k < 20000000 → T (isPoints (pointsText k))
-unfolding onePoint
-points-value k h = points-form k (decimal-numeral (k / 2) (omega arith))
+unfolding isPoints onePoint
+points-value k h = T-and (isNumeral (wholePart (pointsText k))) (isWholeOrHalf (pointsText k))
+    (subst (λ (w : List ℕ). T (isNumeral w)) (sym (points-whole k)) (decimal-numeral (k / 2) (omega arith))) (points-well k)
 
 -- only nothing is written `0`
 points-zero : (k : ℕ) → 0 < k → T (not (sameBytes (pointsText k) (48 ∷ [])))
