@@ -41,7 +41,7 @@ use Rattle.text.specs.declared.NumberRead.{NumberRead}
 use Rattle.text.specs.declared.NumberRead.the-variants.{Number, IllFormed}
 use Rattle.text.proofs.Pieces.{piece-none, piece-stop, piece-step}
 use Rattle.text.proofs.Words.{and-both}
-use Rattle.text.proofs.Numerals.{first-end, first-byte, ends-empty, behind, digits-start, no-run}
+use Rattle.text.proofs.Numerals.{no-byte, first-end, first-byte, ends-empty, behind, digits-start, no-run}
 
 -- a piece that is a text, byte by byte
 module _ (s : List ℕ) (at : ℕ) where
@@ -199,6 +199,19 @@ module _ {s : List ℕ} {at : ℕ} {x : Bool} {n end : ℕ} (f : Found s at x n 
   pub read-half : isNumeral (run s at x) ≡ true → sameBytes (pieceAt 32 s end) halfText ≡ true → numberAt s at ≡ signedRead x (n * 2 + 1) (end + 2)
   unfolding halfText onePoint
   read-half d e = read-ended true (same-bytes (pieceAt 32 s end) halfText (true-T e)) d
+
+-- the line ends behind the sign
+pub read-past : (s : List ℕ) (at : ℕ) (x : Bool) → at < length s → eqb (getD s at 0) 45 ≡ x → length s ≤ at + boolByte x → IllFormed ≡ numberAt s at
+unfolding numberFrom isNumeral
+read-past s at x h e past =
+    let none : run s at x ≡ [] = no-byte 7 s (at + boolByte x) past in
+    let f : Found s at x 0 (at + boolByte x) = record {
+      inside = h;
+      sign = e;
+      number = sym (ap (numberFrom 10 0) none);
+      place = omega (arith, ap length none);
+    } in
+    read-none f (rw none)
 
 -- a minus takes one byte; signed numbers of half points
 pub one-byte : (x : Bool) → boolByte x ≤ 1

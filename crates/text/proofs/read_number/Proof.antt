@@ -10,7 +10,7 @@ use lib.ListN.{length, getD}
 use mir.Val.{boolByte}
 use Rattle.interface.specs.Sheet.{isNumeral}
 use Rattle.text.proofs.Numerals.{digits-read, digits-inside, digits-small}
-use Rattle.text.proofs.Halves.{no-number, one-byte, run, Found, read-none, read-whole, read-half}
+use Rattle.text.proofs.Halves.{no-number, one-byte, run, Found, read-none, read-past, read-whole, read-half}
 use Rattle.text.proofs.read_number.Statement.{statement}
 use Rattle.text.proofs.read_number.Tie as tie
 
@@ -42,8 +42,11 @@ inside c = omega (arith, one-byte (negative c))
 add-from : tie.Need-add-from
 add-from c = omega (arith, inside c)
 
+returns-2 : tie.Need-returns-2
+returns-2 c = let p = c .before in read-past (line p) (at p) (negative p) (p .before .if1 .left) refl (c .if2 .taken)
+
 read-digits-requires : tie.Need-read-digits-requires
-read-digits-requires c κs = inside c
+read-digits-requires c κs = inside (c .before)
 
 -- the number and the end of the digits that are read
 abbrev number : tie.After-read-digits → ℕ
@@ -52,9 +55,9 @@ number c = c .read-digits .result .number
 abbrev end : tie.After-read-digits → ℕ
 end c = c .read-digits .result .end
 
-found : (c : tie.After-read-digits) → let p = c .before in Found (line p) (at p) (negative p) (number c) (end c)
+found : (c : tie.After-read-digits) → let p = c .before .before in Found (line p) (at p) (negative p) (number c) (end c)
 found c =
-    let p = c .before in
+    let p = c .before .before in
     let (n, e) = digits-read (c .read-digits .result) 0 (from p) (run (line p) (at p) (negative p)) (c .read-digits .ensures) in
     record { inside = p .before .if1 .left; sign = refl; number = n; place = e }
 
@@ -62,16 +65,16 @@ small : (c : tie.After-read-digits) → number c < 10000000
 small c = rw (found c .number) (digits-small _)
 
 is-numeral-requires : tie.Need-is-numeral-requires
-is-numeral-requires c κs = (inside (c .before), found c .place)
+is-numeral-requires c κs = (inside (c .before .before), found c .place)
 
 -- the digits are a numeral
-numeral : (c : tie.Else2) → let p = c .before .before .before in isNumeral (run (line p) (at p) (negative p)) ≡ true
-numeral c = sym (c .before .is-numeral .ensures) ∙ not-false _ (c .if2 .left)
+numeral : (c : tie.Else3) → let p = c .before .before .before .before in isNumeral (run (line p) (at p) (negative p)) ≡ true
+numeral c = sym (c .before .is-numeral .ensures) ∙ not-false _ (c .if3 .left)
 
-returns-2 : tie.Need-returns-2
-returns-2 c =
-    let p = c .before .before .before in
-    let e : isNumeral (run (line p) (at p) (negative p)) ≡ false = sym (c .before .is-numeral .ensures) ∙ not-true _ (c .if2 .taken) in
+returns-3 : tie.Need-returns-3
+returns-3 c =
+    let p = c .before .before .before .before in
+    let e : isNumeral (run (line p) (at p) (negative p)) ≡ false = sym (c .before .is-numeral .ensures) ∙ not-true _ (c .if3 .taken) in
     read-none (found (c .before .before)) (rw e)
 
 is-end-requires : tie.Need-is-end-requires
@@ -83,10 +86,10 @@ mul-signed c = omega (arith, small (c .before .before .before .before))
 signed-requires : tie.Need-signed-requires
 signed-requires c κs = omega (arith, small (c .before .before .before .before))
 
-returns-3 : tie.Need-returns-3
-returns-3 c =
+returns-4 : tie.Need-returns-4
+returns-4 c =
     let n = c .before .before .before in
-    let e = sym (c .before .before .is-end .ensures) ∙ c .before .if3 .taken in
+    let e = sym (c .before .before .is-end .ensures) ∙ c .before .if4 .taken in
     c .signed .ensures ∙ sym (read-whole (found (n .before .before)) (numeral n) e)
 
 is-half-requires : tie.Need-is-half-requires
@@ -101,23 +104,23 @@ add-signed c = omega (arith, small (c .before .before .before .before .before .b
 add-signed-2 : tie.Need-add-signed-2
 add-signed-2 c =
     let d = c .before .before .before .before .before .before in
-    let p = d .before in
+    let p = d .before .before in
     omega (arith, digits-inside (line p) (from p) (end d) (found d .place) (inside p))
 
 signed-requires-2 : tie.Need-signed-requires-2
 signed-requires-2 c κs = omega (arith, small (c .before .before .before .before .before .before))
 
-returns-4 : tie.Need-returns-4
-returns-4 c =
-    let n = c .before .before .before .before .before in
-    let e = sym (c .before .before .is-half .ensures) ∙ c .before .if4 .taken in
-    c .signed2 .ensures ∙ sym (read-half (found (n .before .before)) (numeral n) e)
-
 returns-5 : tie.Need-returns-5
 returns-5 c =
+    let n = c .before .before .before .before .before in
+    let e = sym (c .before .before .is-half .ensures) ∙ c .before .if5 .taken in
+    c .signed2 .ensures ∙ sym (read-half (found (n .before .before)) (numeral n) e)
+
+returns-6 : tie.Need-returns-6
+returns-6 c =
     let n = c .before .before .before .before in
-    let whole = sym (c .before .before .before .is-end .ensures) ∙ c .before .before .if3 .left in
-    let half = sym (c .before .is-half .ensures) ∙ c .if4 .left in
+    let whole = sym (c .before .before .before .is-end .ensures) ∙ c .before .before .if4 .left in
+    let half = sym (c .before .is-half .ensures) ∙ c .if5 .left in
     read-none (found (n .before .before)) (rw (numeral n, whole, half))
 
 pub read-number-spec : {M : Type 1} → statement M
@@ -128,17 +131,18 @@ read-number-spec =
     shared-slice-read-negative
     cast-from
     add-from
+    returns-2
     read-digits-requires
     is-numeral-requires
-    returns-2
+    returns-3
     is-end-requires
     mul-signed
     signed-requires
-    returns-3
+    returns-4
     is-half-requires
     mul-signed-2
     add-signed
     add-signed-2
     signed-requires-2
-    returns-4
-    returns-5)
+    returns-5
+    returns-6)
