@@ -1,14 +1,16 @@
 -- Names, piece by piece of a line.
-use mathlib.Core.Path.{_≡_, refl, sym, _∙_}
+use mathlib.Core.Path.{_≡_, refl, sym, ap, _∙_}
 use mathlib.Core.Bool.{Bool, true, false, _&&_, _||_, and-true, or-false}
 use mathlib.Core.List.{List, [], _∷_}
 use Prim.Native.Nat.{ℕ, suc, _+_, _-_, _≤_, _<_}
 use native.Mathlib.Omega.{arith}
 use borrow.Author.Tests.{eq-eqb, ne-eqb, eqb-true, eqb-false}
-use lib.Dec.{eqb}
+use lib.Dec.{eqb, not-T}
 use lib.ListN.{length, getD, drop, drop-of-length-le, length-drop}
 use Rattle.lists.specs.Lists.{all}
+use Rattle.lists.proofs.Tests.{T-false}
 use Rattle.interface.specs.Sheet.{cut, isName, sameBytes, isAmong, hasEqual}
+use Rattle.interface.proofs.Pieces.{same-bytes}
 use Rattle.text.specs.Reading.{pieceAt}
 use Rattle.text.proofs.Pieces.{here, pieces-more, pieces-last}
 use Rattle.sheet.proofs.Lines.{pieces-from}
@@ -19,9 +21,8 @@ pub same-step : (s t : List ℕ) (i : ℕ) → i < length s → i < length t
 unfolding sameBytes
 same-step s t i p q = rw (here s i p, here t i q)
 
-pub same-short : (s t : List ℕ) (i : ℕ) → i < length s → length t ≤ i → sameBytes (drop i s) (drop i t) ≡ false
-unfolding sameBytes
-same-short s t i p q = rw (here s i p, drop-of-length-le t q)
+pub same-long : (s t : List ℕ) → (length s ≡ length t → ⊥) → sameBytes s t ≡ false
+same-long s t f = T-false (not-T (sameBytes s t) (λ h. f (ap length (same-bytes s t h))))
 
 same-nil : (t : List ℕ) → sameBytes [] t ≡ eqb 0 (length t)
 unfolding sameBytes

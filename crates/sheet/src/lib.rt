@@ -54,17 +54,17 @@ pub fn wrong_names(sheet: &[u8]) -> bool
 pub fn same_bytes(a: &[u8], b: &[u8]) -> bool
     ensures { λ r. ⌜ r ≡ sameBytes (now (a .entry)) (now (b .entry)) ⌝ }
 {
+    if a.len() != b.len() {
+        return false;
+    }
     let mut i: usize = 0;
     while i < a.len() {
-        if i >= b.len() {
-            return false;
-        }
         if a[i] != b[i] {
             return false;
         }
         i += 1;
     }
-    i == b.len()
+    true
 }
 
 // The word equals a piece of the line.
