@@ -41,7 +41,7 @@ speaksOf strong n A = leb 1 (size n A) && proper n A
 speaksOf clean n A = leb 2 (size n A) && proper n A
 speaksOf splits n A = leb 1 (size n A) && proper n A && not (has A 0)
 
--- "A group or split is listed if its index is 1 or more"
+-- "A group or split is listed if its index is 1 or more", in the unit of the list: half a point (document 02, 2.6)
 unfoldable pub listed : Kind → ℕ → Similarity → ℕ → Bool
 listed kind n s A = speaksOf kind n A && leZ (pos 1) (index kind n s A)
 

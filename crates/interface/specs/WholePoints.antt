@@ -1,6 +1,6 @@
--- Document 01 before half points (document 02, 2.6), when the list's unit was a point: values, lines, the C call and its
--- table as they were. Requests 2.1 to 2.5 are in it. For the statement that "A sheet of whole points gives the listing
--- it gave before".
+-- Document 01 and requests 2.1 to 2.5 before half points (document 02, 2.6), when the list's unit was a point: values,
+-- lines, the C call and its table as they were. For the statement that "A sheet of whole points gives the listing it
+-- gave before".
 use mathlib.Core.Path.{_≡_}
 use mathlib.Core.Bool.{Bool, false, not, cond, _&&_, _||_}
 use mathlib.Core.List.{List, [], _∷_, _++_, map}

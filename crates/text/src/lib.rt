@@ -258,8 +258,8 @@ fn signed(negative: bool, halves: u32, end: usize) -> NumberRead
 }
 
 // The number of half points that stands at a place of a line, with the place after it: a numeral, before it an optional
-// minus, behind it an optional `.5`, which is looked for last, since most values have none. That the line goes on behind
-// the minus is tested first: a value then takes 5 instructions less.
+// minus, behind it an optional `.5`, which is looked for last, since most values have none. That the line goes on
+// behind the minus is tested first: a value then takes 5 instructions less.
 fn read_number(line: &[u8], at: usize) -> NumberRead
     requires { ⌜ at ≤ length (now line) ⌝ }
     ensures { λ r. ⌜ r ≡ numberAt (now (line .entry)) at ⌝ }
