@@ -439,9 +439,6 @@ pub record Request-2-6 : Type 0 where
   pub read-in-C : {sheet : List ℕ} {lent after : List ℤ} {r : ℤ} → InC (λ a. ReaderCall sheet lent a after) r
       → (count : ℕ) → r ≡ pos count → (i j : ℕ) → i < count → j ≤ i
       → CellSays (wordAt sheet i j) (carried (getD after (i * (i + 1) / 2 + j) (pos 0)))
-  -- any half points in that range, and the mark anywhere, are taken as a sheet, and are read back
-  pub taken : {ns : List (List ℕ)} {s : Similarity} → FitsSheet ns s → T (none (sheetChecks (sheetText ns s)))
-      × ((i j : ℕ) → i < length ns → j < length ns → value (sheetText ns s) i j ≡ s i j)
   -- "the range of 11 is the same in points", of a sheet and of a pair list
   pub range : scoreLimit ≡ 2 * 1000000
   pub eleven : {kind r : ℤ} {sheet lent after : List ℕ} → CCall kind sheet lent r after
@@ -449,6 +446,9 @@ pub record Request-2-6 : Type 0 where
   pub eleven-numbers : {kind : ℤ} {n : ℕ} {l lentIndices indices : List ℤ} {lentSets sets : List ℕ} {r : Answer}
       → NumbersCall kind n l lentSets lentIndices r sets indices
       → (numberOf r ≡ 11) ↔ (T (none (check1 kind ∷ check6 n ∷ check10 n l ∷ [])) × OutOfRange l)
+  -- any half points in that range, and the mark anywhere, are taken as a sheet, and are read back
+  pub taken : {ns : List (List ℕ)} {s : Similarity} → FitsSheet ns s → T (none (sheetChecks (sheetText ns s)))
+      × ((i j : ℕ) → i < length ns → j < length ns → value (sheetText ns s) i j ≡ s i j)
   -- "Indices are written in points, with `.5` where needed": each index read back from a listing; and the pool's scores
   pub indices-in-points : (bytes : List ℕ) {ls : List Line} → listingRead bytes ≡ some ls → (i : ℕ) → i < length ls
       → InPoints (getD (getD (lineWords bytes) i []) 2 []) (getD (map (λ l. l .index) ls) i (pos 0))
