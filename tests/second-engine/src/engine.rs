@@ -1,7 +1,8 @@
 //! The rules of document 01, in its order: the sheet, the definitions, what is
-//! written, where a call is turned away; with them the call of request 2.1 and
-//! the unscored pairs of request 2.2. Sets of entries are 32-bit numbers in which
-//! entry i weighs 2 to the power i.
+//! written, where a call is turned away; with them the call of request 2.1, the
+//! unscored pairs of request 2.2 and the half points of request 2.6. Sets of
+//! entries are 32-bit numbers in which entry i weighs 2 to the power i. Values of
+//! a pair list, and all that is found from them, count half points.
 
 use std::cmp::Ordering;
 
@@ -11,8 +12,10 @@ pub type Refusal = i64;
 /// The bytes that a sheet may have.
 pub const MOST_BYTES: usize = 12_288;
 const MOST_ENTRIES: usize = 32;
-/// The greatest score, and minus the least.
-pub const GREATEST: i32 = 1_000_000;
+/// A point, in half points.
+pub const POINT: i32 = 2;
+/// The greatest score, and minus the least: 1,000,000 points.
+pub const GREATEST: i32 = 1_000_000 * POINT;
 /// What a pair list holds of a pair never compared.
 pub const UNSCORED: i32 = i32::MIN;
 
@@ -29,10 +32,19 @@ pub(crate) struct Sheet<'a> {
 
 /// Reads a sheet, or refuses it by checks 2 to 9.
 pub(crate) fn read_sheet(sheet: &[u8]) -> Result<Sheet<'_>, Refusal> {
+    read_sheet_by(is_sheet_byte, read_value, sheet)
+}
+
+/// The same, with the bytes that check 3 allows, and the reader of a value.
+pub(crate) fn read_sheet_by(
+    is_allowed: fn(u8) -> bool,
+    value: fn(&[u8]) -> Option<i32>,
+    sheet: &[u8],
+) -> Result<Sheet<'_>, Refusal> {
     if sheet.is_empty() || sheet.len() > MOST_BYTES {
         return Err(2);
     }
-    if !sheet.iter().all(|&byte| is_sheet_byte(byte)) {
+    if !sheet.iter().all(|&byte| is_allowed(byte)) {
         return Err(3);
     }
     let line_1_end = sheet.iter().position(|&byte| byte == b'\n').ok_or(4)?;
@@ -55,7 +67,7 @@ pub(crate) fn read_sheet(sheet: &[u8]) -> Result<Sheet<'_>, Refusal> {
     }
     let lines = after[..after.len() - 1].split(|&byte| byte == b'\n');
     let rows: Vec<Vec<i32>> = lines
-        .map(|line| read_values(line, n))
+        .map(|line| read_values(value, line, n))
         .collect::<Option<_>>()
         .ok_or(8)?;
     if (0..n).any(|i| (0..i).any(|j| rows[i][j] != rows[j][i])) {
@@ -67,7 +79,7 @@ pub(crate) fn read_sheet(sheet: &[u8]) -> Result<Sheet<'_>, Refusal> {
 }
 
 fn is_sheet_byte(byte: u8) -> bool {
-    matches!(byte, b'A'..=b'Z' | b'0'..=b'9' | b'-' | b' ' | b'\n')
+    matches!(byte, b'A'..=b'Z' | b'0'..=b'9' | b'-' | b'.' | b' ' | b'\n')
 }
 
 /// 1 to 8 bytes, first A to Z, then A to Z or 0 to 9.
@@ -84,33 +96,40 @@ fn has_equal(names: &[&[u8]]) -> bool {
 }
 
 /// Exactly n well-formed values and single spaces between.
-fn read_values(line: &[u8], n: usize) -> Option<Vec<i32>> {
+fn read_values(value: fn(&[u8]) -> Option<i32>, line: &[u8], n: usize) -> Option<Vec<i32>> {
     let parts = line.split(|&byte| byte == b' ');
-    let values: Vec<i32> = parts.map(read_value).collect::<Option<_>>()?;
+    let values: Vec<i32> = parts.map(value).collect::<Option<_>>()?;
     (values.len() == n).then_some(values)
 }
 
 /// An optional minus and 1 to 7 decimal digits, without a leading zero unless
-/// it is `0`; `-0` is ill-formed. Or a lone minus, the mark of an unscored pair.
+/// they are `0`, and perhaps `.5` behind; `-0` is ill-formed. Or a lone minus, the
+/// mark of an unscored pair. Answers half points.
 fn read_value(text: &[u8]) -> Option<i32> {
-    if text == b"-" {
-        return Some(UNSCORED);
+    match text {
+        b"-" => Some(UNSCORED),
+        b"-0" => None,
+        [b'-', size @ ..] => Some(-read_size(size)?),
+        size => read_size(size),
     }
-    let digits = text.strip_prefix(b"-").unwrap_or(text);
+}
+
+/// A value without its sign.
+fn read_size(text: &[u8]) -> Option<i32> {
+    let (digits, half) = match text.strip_suffix(b".5") {
+        Some(digits) => (digits, 1),
+        None => (text, 0),
+    };
     if !(1..=7).contains(&digits.len()) || !digits.iter().all(u8::is_ascii_digit) {
         return None;
     }
-    if digits[0] == b'0' && text != b"0" {
+    if digits[0] == b'0' && digits.len() > 1 {
         return None;
     }
-    let size = digits
+    let points = digits
         .iter()
         .fold(0, |sum, digit| sum * 10 + i32::from(digit - b'0'));
-    Some(if digits.len() < text.len() {
-        -size
-    } else {
-        size
-    })
+    Some(points * POINT + half)
 }
 
 /// The pair list of a sheet in the first slots, or the refusal by checks 2 to 9;
@@ -251,7 +270,7 @@ pub(crate) fn index(kind: i32, s: Scores, whole: u32, set: u32) -> Option<i64> {
     }
 }
 
-/// A group or split is listed if its index is 1 or more.
+/// A group or split is listed if its index is half a point or more.
 fn is_listed(kind: i32, s: Scores, whole: u32, set: u32) -> bool {
     index(kind, s, whole, set).is_some_and(|index| index >= 1)
 }
@@ -528,20 +547,39 @@ const FEW_UNSCORED: usize = 8;
 
 /// The lines of a pair list that its kind accepts.
 fn lines(kind: i32, n: usize, pairs: &[i32]) -> Vec<(u32, i64)> {
+    lines_within(GREATEST, kind, n, pairs)
+}
+
+/// The same, where no score is greater, or below minus it.
+pub(crate) fn lines_within(greatest: i32, kind: i32, n: usize, pairs: &[i32]) -> Vec<(u32, i64)> {
     match unscored(pairs) {
         0 => listed(kind, Scores::new(n, pairs), usual_way(n)),
-        1..=FEW_UNSCORED => listed_in_all(n, pairs, &[-GREATEST, GREATEST]),
-        _ => Bounds::new(n, pairs, GREATEST).listed(),
+        1..=FEW_UNSCORED => listed_in_all(n, pairs, &[-greatest, greatest]),
+        _ => Bounds::new(n, pairs, greatest).listed(),
     }
 }
 
 // --------------------------------------------------------- What is written
 
+/// A number of half points, written in points, with `.5` where needed.
+pub fn in_points(halves: i64) -> String {
+    let point = i64::from(POINT);
+    let (sign, size) = match halves {
+        0.. => ("", halves),
+        _ => ("-", -halves),
+    };
+    let half = match size % point {
+        0 => "",
+        _ => ".5",
+    };
+    format!("{sign}{}{half}", size / point)
+}
+
 /// First line `set size index`, then a line per group.
 fn listing_text(lines: &[(u32, i64)]) -> Vec<u8> {
     let mut text = String::from("set size index\n");
-    for (set, index) in lines {
-        text += &format!("{set:08x} {} {index}\n", set.count_ones());
+    for &(set, index) in lines {
+        text += &format!("{set:08x} {} {}\n", set.count_ones(), in_points(index));
     }
     text.into_bytes()
 }
@@ -573,7 +611,7 @@ pub(crate) fn hand_over(text: &[u8], out: &mut [u8]) -> Result<usize, Refusal> {
 }
 
 /// 1: the kind is not 1, 2 or 3.
-fn check_kind(kind: i32) -> Result<(), Refusal> {
+pub(crate) fn check_kind(kind: i32) -> Result<(), Refusal> {
     refuse_if(![STRONG, CLEAN, SPLITS].contains(&kind), 1)
 }
 
@@ -587,9 +625,14 @@ pub(crate) fn check_length(n: usize, pairs: &[i32]) -> Result<(), Refusal> {
     refuse_if(pairs.len() != pair_count(n), 10)
 }
 
-/// 11: a value below -1,000,000 or above 1,000,000; the mark is exempt.
+/// 11: a value below -1,000,000 or above 1,000,000 points; the mark is exempt.
 pub(crate) fn check_range(pairs: &[i32]) -> Result<(), Refusal> {
-    let within = |&value: &i32| (-GREATEST..=GREATEST).contains(&value) || value == UNSCORED;
+    check_within(GREATEST, pairs)
+}
+
+/// The same, of another range.
+pub(crate) fn check_within(greatest: i32, pairs: &[i32]) -> Result<(), Refusal> {
+    let within = |&value: &i32| (-greatest..=greatest).contains(&value) || value == UNSCORED;
     refuse_if(!pairs.iter().all(within), 11)
 }
 
@@ -609,6 +652,11 @@ fn check_distances(kind: i32, n: usize, pairs: &[i32]) -> Result<(), Refusal> {
 /// What a kind asks of the values: 11, 16 unless it is kind 1, 12.
 pub(crate) fn check_values(kind: i32, n: usize, pairs: &[i32]) -> Result<(), Refusal> {
     check_range(pairs)?;
+    check_carried(kind, n, pairs)
+}
+
+/// Without 11.
+pub(crate) fn check_carried(kind: i32, n: usize, pairs: &[i32]) -> Result<(), Refusal> {
     if kind != STRONG {
         check_scored(pairs)?;
     }

@@ -2,8 +2,9 @@
 //! of them.
 
 use crate::compare::{Case, SHEET_REFUSALS};
-use crate::engine::{self, GREATEST, UNSCORED};
+use crate::engine::{self, in_points, GREATEST, POINT, UNSCORED};
 use std::fmt;
+use std::ops::RangeInclusive;
 
 /// splitmix64.
 #[derive(Clone, Debug)]
@@ -40,7 +41,8 @@ impl Random {
     }
 }
 
-/// A sheet before it is written: names, and values that mirror each other.
+/// A sheet before it is written: names, and values that mirror each other, in half
+/// points.
 #[derive(Clone, Debug)]
 pub struct Table {
     pub names: Vec<String>,
@@ -49,6 +51,11 @@ pub struct Table {
 
 /// The value of an unscored pair.
 pub const MARK: i64 = UNSCORED as i64;
+
+/// The greatest value, and the greatest that is well formed: 1,000,000 points, and
+/// 9,999,999 and a half.
+pub const FAR: i64 = GREATEST as i64;
+pub const FARTHEST: i64 = 19_999_999;
 
 impl Table {
     pub fn entries(&self) -> usize {
@@ -68,7 +75,7 @@ impl Table {
     fn cells(&self) -> Vec<Vec<String>> {
         let cell = |&value: &i64| match value {
             MARK => "-".to_string(),
-            score => score.to_string(),
+            score => in_points(score),
         };
         let line = |values: &Vec<i64>| values.iter().map(cell).collect();
         self.values.iter().map(line).collect()
@@ -202,7 +209,7 @@ fn tree_distances(random: &mut Random, n: usize) -> Table {
 }
 
 /// Changes every value a little, or a few of them.
-fn add_noise(random: &mut Random, table: &mut Table, least: i64, own: bool) {
+fn add_noise(random: &mut Random, table: &mut Table, range: RangeInclusive<i64>, own: bool) {
     let n = table.entries();
     let most = random.of(&[1, 1, 2, 5, 300, 20_000]);
     let everywhere = random.one_in(2);
@@ -210,15 +217,73 @@ fn add_noise(random: &mut Random, table: &mut Table, least: i64, own: bool) {
         for b in 0..=a {
             if (own || a != b) && (everywhere || random.one_in(n * n)) {
                 let value = table.values[a][b] + random.between(-most, most);
-                table.set(a, b, value.clamp(least, 1_000_000));
+                table.set(a, b, value.clamp(*range.start(), *range.end()));
             }
         }
     }
 }
 
+/// How many of a sheet's values end in `.5`.
+#[derive(Clone, Copy, Debug, PartialEq, Eq)]
+pub enum Halves {
+    None,
+    Some,
+    All,
+}
+
+impl fmt::Display for Halves {
+    fn fmt(&self, f: &mut fmt::Formatter) -> fmt::Result {
+        f.write_str(match self {
+            Halves::None => "no value with half a point",
+            Halves::Some => "some values with half a point",
+            Halves::All => "every value with half a point",
+        })
+    }
+}
+
+pub const HALVES: [Halves; 3] = [Halves::None, Halves::Some, Halves::All];
+
+/// A table of points as one of half points, of which as many end in `.5`. Own
+/// distances stay 0.
+fn in_halves(random: &mut Random, mut table: Table, halves: Halves, distances: bool) -> Table {
+    // Small numbers may be taken as half points: then an index is one as well.
+    if halves == Halves::Some && random.one_in(2) {
+        return table;
+    }
+    let n = table.entries();
+    let one_in = match halves {
+        Halves::None => 0,
+        Halves::Some => random.of(&[2, 5, n * n]),
+        Halves::All => 1,
+    };
+    let least = if distances { 0 } else { -FAR };
+    let steps = random.of(&[&[1][..], &[1, -1]]);
+    for a in 0..n {
+        for b in 0..=a {
+            let mut value = table.values[a][b] * i64::from(POINT);
+            let moved = one_in > 0 && random.one_in(one_in) && (a != b || !distances);
+            if moved {
+                let step = random.of(steps);
+                value += match (least..=FAR).contains(&(value + step)) {
+                    true => step,
+                    false => -step,
+                };
+            }
+            table.set(a, b, value);
+        }
+    }
+    table
+}
+
 /// Values of few kinds, so that many tie; negative ones; the whole range; the
 /// ends of the range.
 pub(crate) fn scattered(random: &mut Random, n: usize, distances: bool) -> Table {
+    let points = scattered_points(random, n, distances);
+    let halves = random.of(&HALVES);
+    in_halves(random, points, halves, distances)
+}
+
+fn scattered_points(random: &mut Random, n: usize, distances: bool) -> Table {
     let ranges = [(0, 1), (0, 3), (0, 9), (5, 5), (0, 1_000_000)];
     let signed = [(-3, 3), (-9, -1), (-1_000_000, 1_000_000), (-40, 0)];
     let (least, most) = if distances || random.one_in(2) {
@@ -242,13 +307,18 @@ pub(crate) fn scattered(random: &mut Random, n: usize, distances: bool) -> Table
 
 /// A sheet that every kind but perhaps 3 accepts.
 pub fn scores(random: &mut Random, n: usize) -> Table {
+    let halves = random.of(&HALVES);
+    scores_with(random, n, halves)
+}
+
+pub fn scores_with(random: &mut Random, n: usize, halves: Halves) -> Table {
     let mut table = match random.below(8) {
-        0 | 1 => scattered(random, n, false),
-        2 => return distances(random, n),
+        0 | 1 => scattered_points(random, n, false),
+        2 => return distances_with(random, n, halves),
         _ => tree_scores(random, n),
     };
     if random.one_in(2) {
-        add_noise(random, &mut table, -1_000_000, true);
+        add_noise(random, &mut table, -1_000_000..=1_000_000, true);
     }
     match random.below(6) {
         // Own scores above all, all alike, or low.
@@ -261,20 +331,25 @@ pub fn scores(random: &mut Random, n: usize) -> Table {
         }
         _ => {}
     }
-    table
+    in_halves(random, table, halves, false)
 }
 
 /// A sheet that kind 3 accepts: no negative value, own values 0.
 pub fn distances(random: &mut Random, n: usize) -> Table {
+    let halves = random.of(&HALVES);
+    distances_with(random, n, halves)
+}
+
+pub fn distances_with(random: &mut Random, n: usize, halves: Halves) -> Table {
     let mut table = match random.below(6) {
-        0 | 1 => scattered(random, n, true),
+        0 | 1 => scattered_points(random, n, true),
         _ => tree_distances(random, n),
     };
     (0..n).for_each(|a| table.set(a, a, 0));
     if random.one_in(2) {
-        add_noise(random, &mut table, 0, false);
+        add_noise(random, &mut table, 0..=1_000_000, false);
     }
-    table
+    in_halves(random, table, halves, true)
 }
 
 /// A second sheet of the same entries, in the same order: scored on its own, or
@@ -287,7 +362,7 @@ pub fn partner(random: &mut Random, first: &Table) -> Table {
         1 => scores(random, n),
         _ => {
             let mut alike = first.clone();
-            add_noise(random, &mut alike, -1_000_000, true);
+            add_noise(random, &mut alike, -FAR..=FAR, true);
             alike
         }
     };
@@ -299,7 +374,7 @@ pub fn partner(random: &mut Random, first: &Table) -> Table {
         for b in 0..=a {
             let score = first.values[a][b];
             let sum = score + second.values[a][b];
-            second.set(a, b, sum.clamp(-1_000_000, 1_000_000) - score);
+            second.set(a, b, sum.clamp(-FAR, FAR) - score);
         }
     }
     second
@@ -358,11 +433,10 @@ impl Table {
 
 /// Any score, the ends of the range among them.
 pub fn score(random: &mut Random) -> i32 {
-    let far = i64::from(GREATEST);
     match random.below(3) {
         0 => random.of(&[-GREATEST, GREATEST]),
         1 => random.between(-9, 9) as i32,
-        _ => random.between(-far, far) as i32,
+        _ => random.between(-FAR, FAR) as i32,
     }
 }
 
@@ -439,6 +513,10 @@ pub fn case(random: &mut Random) -> Case {
             let kind = random.of(&[0, 4, -1, i32::MIN, i32::MAX]);
             call(random, kind, table.sheet())
         }
+        1 if random.one_in(3) => {
+            let number = random.of(&BY_POINTS);
+            pointed(random, number)
+        }
         1 => flawed(random).0,
         2 => {
             // Scores or distances under any kind, unscored pairs and values out
@@ -452,7 +530,8 @@ pub fn case(random: &mut Random) -> Case {
                 table.unscore(random, share);
             }
             if random.one_in(2) {
-                let far = random.of(&[1_000_001, -1_000_001, 9_999_999, -9_999_999, -1_000_000]);
+                let near = random.of(&[FAR - 1, FAR, FAR + 1, FAR + 2, FARTHEST - 1, FARTHEST]);
+                let far = near * random.of(&[1, -1]);
                 table.set(random.below(n), random.below(n), far);
             }
             let kind = random.of(&[1, 2, 3]);
@@ -503,7 +582,7 @@ fn damage_bytes(random: &mut Random, sheet: &mut Vec<u8>) {
     let at = random.below(sheet.len());
     let byte = match random.below(4) {
         0 => random.draw() as u8,
-        _ => random.of(b"A09- \n\n1Z"),
+        _ => random.of(b"A09- \n\n1Z.5"),
     };
     match random.below(8) {
         0 | 1 => sheet[at] = byte,
@@ -522,6 +601,37 @@ fn damage_bytes(random: &mut Random, sheet: &mut Vec<u8>) {
         }
     }
 }
+
+/// Texts that are no values, each for its point.
+pub const MALFORMED_HALVES: [&str; 27] = [
+    ".5",
+    "-.5",
+    "5.",
+    "-5.",
+    "5.0",
+    "0.0",
+    "-0.0",
+    "00.5",
+    "-00.5",
+    "07.5",
+    "0.50",
+    "0.05",
+    "0.55",
+    "1.4",
+    "1.6",
+    "-1.25",
+    "12345678.5",
+    "-12345678.5",
+    "5.5.5",
+    "5..5",
+    "5.-5",
+    "5-.5",
+    "5.5-",
+    "--0.5",
+    "-.",
+    ".",
+    "1.A",
+];
 
 /// One part of the sheet made wrong: a name, a value, a line, its length.
 fn damaged_part(random: &mut Random, table: &Table) -> Vec<u8> {
@@ -543,6 +653,11 @@ fn damaged_part(random: &mut Random, table: &Table) -> Vec<u8> {
         "A B",
         " A",
         "A ",
+        "A.",
+        ".A",
+        "A.5",
+        ".5",
+        ".",
     ];
     let bad_values = [
         "-0",
@@ -568,12 +683,23 @@ fn damaged_part(random: &mut Random, table: &Table) -> Vec<u8> {
         "A",
         "1A",
         "+1",
-        "1.5",
+        "1,5",
         "1 2",
         "1\n2",
     ];
-    let far_values = ["9999999", "-9999999", "1000001", "-1000001", "1000000"];
-    match random.below(18) {
+    let far_values = [
+        "9999999",
+        "-9999999",
+        "1000001",
+        "-1000001",
+        "1000000",
+        "9999999.5",
+        "-9999999.5",
+        "1000000.5",
+        "-1000000.5",
+        "999999.5",
+    ];
+    match random.below(20) {
         0 | 1 => names[a] = random.of(&bad_names).into(),
         2 => names[a] = names[b].clone(),
         3 | 4 => cells[a][b] = random.of(&bad_values).into(),
@@ -581,7 +707,7 @@ fn damaged_part(random: &mut Random, table: &Table) -> Vec<u8> {
             cells[a][b] = random.of(&far_values).into();
             cells[b][a] = cells[a][b].clone();
         }
-        6 => cells[a][b] = random.between(-9, 9).to_string(),
+        6 => cells[a][b] = in_points(random.between(-18, 18)),
         7 => cells[a].insert(b, "5".into()),
         8 => drop(cells[a].remove(b)),
         9 => drop(cells.remove(a)),
@@ -606,6 +732,20 @@ fn damaged_part(random: &mut Random, table: &Table) -> Vec<u8> {
             cells[a][b] = "-".into();
             cells[b][a] = "-".into();
         }
+        17 => {
+            let apart = ["5 .5", "5. 5", " 0.5", "0.5 "];
+            cells[a][b] = match random.one_in(4) {
+                true => random.of(&apart).into(),
+                false => random.of(&MALFORMED_HALVES).into(),
+            };
+        }
+        // Half a point on one side of the sheet only, unless it is of an own pair.
+        18 => {
+            let step = random.of(&[1, -1]);
+            if table.values[a][b] != MARK {
+                cells[a][b] = in_points(table.values[a][b] + step);
+            }
+        }
         _ => return crowd(random).sheet(),
     }
     written(&names, &cells)
@@ -629,12 +769,13 @@ pub fn flawed(random: &mut Random) -> (Case, i64) {
     (0..n).for_each(|a| table.set(a, a, 0));
 
     if chosen[11] {
-        table.set(1, 1, random.of(&[1_000_001, 9_999_999, -1_000_001]));
+        let far = random.of(&[FAR + 1, FAR + 2, FARTHEST, -FAR - 1, -FAR - 2]);
+        table.set(1, 1, far);
     }
     if chosen[12] {
         match random.one_in(2) {
-            true => table.set(2, 2, random.of(&[1, -1, 1_000_000])),
-            false => table.set(3, 2, random.of(&[-1, -1_000_000])),
+            true => table.set(2, 2, random.of(&[1, 2, -1, -2, FAR])),
+            false => table.set(3, 2, random.of(&[-1, -2, -FAR])),
         }
     }
     if chosen[16] {
@@ -643,30 +784,32 @@ pub fn flawed(random: &mut Random) -> (Case, i64) {
     let (mut names, mut cells) = (table.names.clone(), table.cells());
     if chosen[4] {
         names[0] = random
-            .of(&["ABCDEFGHI", "1", "-", "", "A-B", "0A", "A "])
+            .of(&["ABCDEFGHI", "1", "-", "", "A-B", "0A", "A ", "A.5", "."])
             .into();
     }
     if chosen[5] {
         names[2] = names[1].clone();
     }
     if chosen[8] {
-        cells[0][0] = random
-            .of(&[
-                "-0",
-                "007",
-                "00000000",
-                "",
-                "--",
-                "-2147483648",
-                "0 0",
-                "A",
-                "- ",
-            ])
-            .into();
+        let whole = [
+            "-0",
+            "007",
+            "00000000",
+            "",
+            "--",
+            "-2147483648",
+            "0 0",
+            "A",
+            "- ",
+        ];
+        cells[0][0] = match random.one_in(2) {
+            true => random.of(&whole).into(),
+            false => random.of(&MALFORMED_HALVES).into(),
+        };
     }
     if chosen[9] {
-        let other = table.values[0][1] + random.of(&[1, -1]);
-        cells[1][0] = random.of(&[other.to_string(), "-".into()]);
+        let other = table.values[0][1] + random.of(&[1, -1, 2, -2]);
+        cells[1][0] = random.of(&[in_points(other), "-".into()]);
     }
     let mut sheet = written(&names, &cells);
     if chosen[7] {
@@ -682,7 +825,7 @@ pub fn flawed(random: &mut Random) -> (Case, i64) {
         sheet.insert(
             at,
             random.of(&[
-                b'a', b'z', 0, b'\r', b'\t', 255, b'+', b'@', b'[', b'/', b':',
+                b'a', b'z', 0, b'\r', b'\t', 255, b'+', b',', b'@', b'[', b'/', b':',
             ]),
         );
     }
@@ -704,4 +847,67 @@ pub fn flawed(random: &mut Random) -> (Case, i64) {
         .find(|&number| chosen[number])
         .expect("one is chosen");
     (Case { kind, sheet, room }, -(first as i64))
+}
+
+/// The refusals of the sheet call that a point can bring about, in the order of its
+/// checks.
+pub const BY_POINTS: [usize; 7] = [4, 7, 8, 9, 11, 12, 14];
+
+/// A call on distances with half points that is good but for one point, of the
+/// sheet or of its listing: it must get minus this number, which is one of
+/// `BY_POINTS`.
+pub fn pointed(random: &mut Random, number: usize) -> Case {
+    let n = entries(random).max(2);
+    let halves = random.of(&[Halves::Some, Halves::All]);
+    let mut table = distances_with(random, n, halves);
+    let (a, b) = (random.below(n), random.below(n));
+    let other = (a + 1 + random.below(n - 1)) % n;
+    let kind = match number {
+        12 | 14 => 3,
+        _ => random.of(&[1, 2, 3]),
+    };
+    match number {
+        11 => {
+            let far = random.of(&[FAR + 1, FAR + 3, FARTHEST]);
+            table.set(a, b, far * random.of(&[1, -1]));
+        }
+        12 if random.one_in(2) => table.set(a, a, random.of(&[1, -1])),
+        12 => table.set(a, other, -1),
+        _ => {}
+    }
+    let mut cells = table.cells();
+    match number {
+        8 => cells[a][b] = random.of(&MALFORMED_HALVES).into(),
+        9 => cells[a][other] = in_points(table.values[a][other] + random.of(&[1, -1])),
+        _ => {}
+    }
+    let mut sheet = written(&table.names, &cells);
+    match number {
+        4 => {
+            let line_1 = table.names.join(" ").len();
+            sheet.insert(random.below(line_1 + 1), b'.');
+        }
+        7 => sheet.extend(random.of(&[&b"."[..], b".5", b"0.5"])),
+        _ => {}
+    }
+    let mut listing = [0; 4096];
+    let length = usize::try_from(engine::listing(kind, &sheet, &mut listing)).unwrap_or(100);
+    let halves = listing[..length]
+        .iter()
+        .filter(|&&byte| byte == b'.')
+        .count();
+    match number {
+        // The room that the listing would need without its halves.
+        14 if halves > 0 => Case {
+            kind,
+            sheet,
+            room: length - 2 * halves,
+        },
+        14 => pointed(random, number),
+        _ => Case {
+            kind,
+            sheet,
+            room: length + random.below(100),
+        },
+    }
 }

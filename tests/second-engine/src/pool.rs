@@ -1,11 +1,13 @@
 //! Request 2.4: the pool of two sheets, found name by name.
 
 use crate::engine::{
-    check_range, hand_over, in_c, read_sheet, refuse_if, Refusal, Sheet, GREATEST, UNSCORED,
+    check_range, hand_over, in_c, in_points, read_sheet, refuse_if, Refusal, Sheet, GREATEST,
+    UNSCORED,
 };
 use std::collections::{BTreeMap, BTreeSet};
 
-/// The score that each two names have, in either order; none if unscored.
+/// The score that each two names have, in either order, in half points; none if
+/// unscored.
 type Scores<'a> = BTreeMap<(&'a [u8], &'a [u8]), Option<i32>>;
 
 /// The pool's length in bytes, or minus the refusal number. A refusal writes no
@@ -62,9 +64,9 @@ fn scores<'a>(sheet: &Sheet<'a>) -> Scores<'a> {
     scores
 }
 
-/// Line 1 with the names, then a line for each of them.
+/// Line 1 with the names, then a line for each of them, its scores in points.
 fn sheet_text(names: &[&[u8]], scores: &Scores) -> Vec<u8> {
-    let cell = |score: Option<i32>| score.map_or("-".into(), |score| score.to_string());
+    let cell = |score: Option<i32>| score.map_or("-".into(), |score| in_points(score.into()));
     let row = |a| -> Vec<String> { names.iter().map(|b| cell(scores[&(a, *b)])).collect() };
     let mut text = names.join(&b' ');
     text.push(b'\n');

@@ -2,8 +2,8 @@
 //! and bytes against these, and what is said of the groups of a pool.
 
 use crate::compare::{check_written, on_copy, Tally};
-use crate::engine::{CLEAN, GREATEST, SPLITS, STRONG};
-use crate::generate::{self, Random, Table, SHARES};
+use crate::engine::{CLEAN, SPLITS, STRONG};
+use crate::generate::{self, Random, Table, FAR, SHARES};
 use crate::pool::{pool, refusal};
 use crate::reordering::read_lines;
 use std::collections::{BTreeMap, BTreeSet};
@@ -124,12 +124,13 @@ pub fn tables(random: &mut Random, n: usize) -> [Table; 2] {
     tables
 }
 
-/// One sum at an end of the range, just beyond, or far beyond.
+/// One sum at an end of the range or half a point from it, beyond by half a point
+/// or a point, or far beyond.
 fn set_sum(random: &mut Random, [first, second]: &mut [Table; 2]) {
-    let (n, far) = (first.entries(), i64::from(GREATEST));
+    let n = first.entries();
     let (a, b) = (random.below(n), random.below(n));
-    let sum = random.of(&[far, far + 1, 2 * far]) * random.of(&[1, -1]);
-    let score = random.between((sum - far).max(-far), (sum + far).min(far));
+    let sum = random.of(&[FAR - 1, FAR, FAR + 1, FAR + 2, 2 * FAR]) * random.of(&[1, -1]);
+    let score = random.between((sum - FAR).max(-FAR), (sum + FAR).min(FAR));
     first.set(a, b, score);
     second.set(a, b, sum - score);
 }
@@ -190,8 +191,9 @@ pub fn case(random: &mut Random) -> Case {
     }
 }
 
-/// Room that always serves.
-pub const MOST_BYTES: usize = 9_504;
+/// Room that always serves: 32 names of 8 bytes and 32 times 32 values of 9, such as
+/// `-999999.5`, a byte behind each.
+pub const MOST_BYTES: usize = 32 * 9 + 32 * 32 * 10;
 
 /// The calls of a seed, without end.
 pub fn cases(seed: u64) -> impl Iterator<Item = Case> {

@@ -1,5 +1,6 @@
 //! One sheet in two orders: both listings say the same of the entries.
 
+use crate::engine::{in_points, POINT};
 use crate::generate::Table;
 
 /// A set A has a line exactly when the set of all p(a) has one in the reordered
@@ -75,7 +76,8 @@ pub(crate) fn read_lines(
     parse_listing(&text).ok_or_else(|| format!("listing {text:?}; {}", show_sheet(kind, sheet)))
 }
 
-/// The sets and indices of a listing's text; none if it is no listing.
+/// The sets and indices of a listing's text, the indices in half points; none if
+/// it is no listing.
 pub fn parse_listing(text: &str) -> Option<Vec<(u32, i64)>> {
     let lines = text
         .strip_prefix("set size index\n")?
@@ -85,9 +87,20 @@ pub fn parse_listing(text: &str) -> Option<Vec<(u32, i64)>> {
             let [set, size, index] = line.split(' ').collect::<Vec<_>>().try_into().ok()?;
             let digits = u32::from_str_radix(set, 16).ok()?;
             let sized = size.parse() == Ok(digits.count_ones());
-            (set.len() == 8 && sized).then_some((digits, index.parse().ok()?))
+            (set.len() == 8 && sized).then_some((digits, parse_index(index)?))
         })
         .collect()
+}
+
+/// An index, which is written in points, as half points; none if it is written
+/// otherwise, or below half a point.
+fn parse_index(text: &str) -> Option<i64> {
+    let (points, half) = match text.strip_suffix(".5") {
+        Some(points) => (points, 1),
+        None => (text, 0),
+    };
+    let halves = points.parse::<i64>().ok()?.checked_mul(POINT.into())? + half;
+    (halves >= 1 && in_points(halves) == text).then_some(halves)
 }
 
 #[cfg(test)]
@@ -99,8 +112,19 @@ mod tests {
     fn a_listing_is_read_back() {
         assert_eq!(
             parse_listing("set size index\n00000003 2 5\n"),
-            Some(vec![(3, 5)])
+            Some(vec![(3, 10)])
         );
+        for (index, halves) in [
+            ("0.5", 1),
+            ("1", 2),
+            ("1.5", 3),
+            ("59999999.5", 119_999_999),
+        ] {
+            assert_eq!(
+                parse_listing(&format!("set size index\n00000001 1 {index}\n")),
+                Some(vec![(1, halves)])
+            );
+        }
         for wrong in [
             "set size index",
             "set size index\n3 2 5\n",
@@ -109,6 +133,13 @@ mod tests {
             "set size index\n00000003 2 5 \n",
         ] {
             assert_eq!(parse_listing(wrong), None);
+        }
+        for index in [
+            "0", "0.0", "00.5", "01", "1.0", "1.", ".5", ".", "", "-1", "-0.5", "+1", "1.50",
+            "1.5.5", "1.4", "1,5",
+        ] {
+            let wrong = format!("set size index\n00000001 1 {index}\n");
+            assert_eq!(parse_listing(&wrong), None, "{index:?}");
         }
     }
 
@@ -122,10 +153,10 @@ mod tests {
         assert_eq!(image(3, &p, 0b0100), 0b1000);
     }
 
-    /// d(0,1) = d(2,3) = 2, other distances 4; also as scores.
+    /// d(0,1) = d(2,3) = 2, other distances 4, in points; also as scores.
     fn copies() -> Table {
         let row = |a: usize| {
-            let value = |b: usize| [4, 2, 0][usize::from(a / 2 == b / 2) + usize::from(a == b)];
+            let value = |b: usize| [8, 4, 0][usize::from(a / 2 == b / 2) + usize::from(a == b)];
             (0..4).map(value).collect()
         };
         Table {

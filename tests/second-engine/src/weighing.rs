@@ -3,7 +3,7 @@
 
 use crate::compare::Tally;
 use crate::engine::{self, Scores, Way, SPLITS, UNSCORED};
-use crate::generate::{self, Random, Table};
+use crate::generate::{self, Random, Table, FAR};
 use crate::refined::smallest_scores;
 use crate::reordering::{image, whole};
 
@@ -225,8 +225,9 @@ pub fn flawed(random: &mut Random, choice: Option<usize>) -> (Case, i64) {
     let mut table = generate::scattered(random, entries, true);
     (0..entries).for_each(|a| table.set(a, a, 0));
     if chosen(11) {
-        let far = random.of(&[1_000_001, -1_000_001, i32::MAX, UNSCORED + 1]);
-        table.set(1, 0, far.into());
+        let (most, least) = (i32::MAX.into(), i64::from(UNSCORED) + 1);
+        let far = random.of(&[FAR + 1, -FAR - 1, FAR + 2, most, least]);
+        table.set(1, 0, far);
     }
     if chosen(16) {
         let (a, b) = random.of(&[(0, 0), (2, 0), (2, 1)]);
@@ -234,8 +235,8 @@ pub fn flawed(random: &mut Random, choice: Option<usize>) -> (Case, i64) {
     }
     if chosen(12) {
         match random.one_in(2) {
-            true => table.set(2, 2, random.of(&[1, -1, 1_000_000])),
-            false => table.set(3, 0, random.of(&[-1, -1_000_000])),
+            true => table.set(2, 2, random.of(&[1, -1, 2, FAR])),
+            false => table.set(3, 0, random.of(&[-1, -2, -FAR])),
         }
     }
     let mut pairs = table.pairs();

@@ -125,8 +125,10 @@ fn thirty_two_names_pass_thirty_three_do_not() {
 #[test]
 fn the_ends_of_the_range() {
     for kind in 1..=3 {
-        assert_eq!(answer(kind, "A B\n0 1000001\n1000001 0\n"), "refused 11");
-        assert_eq!(answer(kind, "A B\n0 -1000001\n-1000001 0\n"), "refused 11");
+        for far in ["1000001", "-1000001", "1000000.5", "-1000000.5"] {
+            let sheet = format!("A B\n0 {far}\n{far} 0\n");
+            assert_eq!(answer(kind, &sheet), "refused 11", "{far}");
+        }
     }
     assert_eq!(
         lines(3, "A B\n0 1000000\n1000000 0\n"),
@@ -241,9 +243,9 @@ fn a_listing_fills_only_its_bytes() {
 
 #[test]
 fn numbers_in_the_order_of_the_listing() {
-    let pairs = [9, 8, 9, 6, 5, 9, 2, 3, 1, 9];
+    let pairs = [18, 16, 18, 12, 10, 18, 4, 6, 2, 18];
     let (mut sets, mut indices) = ([99; 9], [99; 8]);
     assert_eq!(numbers(1, 4, &pairs, &mut sets, &mut indices), Ok(6));
     assert_eq!(sets, [1, 2, 4, 8, 3, 7, 0, 0, 0]);
-    assert_eq!(indices, [1, 1, 3, 6, 2, 2, 0, 0]);
+    assert_eq!(indices, [2, 2, 6, 12, 4, 4, 0, 0]);
 }

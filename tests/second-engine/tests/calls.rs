@@ -38,9 +38,9 @@ fn names_within_names() {
 fn a_pair_list_is_read() {
     let mut slots = [99; 4];
     assert_eq!(read(b"A B\n1 2\n2 3\n", &mut slots), Ok(2));
-    assert_eq!(slots, [1, 2, 3, 99]);
+    assert_eq!(slots, [2, 4, 6, 99]);
     assert_eq!(read(b"A B\n1 2\n4 3\n", &mut slots), Err(9));
-    assert_eq!(slots, [1, 2, 3, 99]);
+    assert_eq!(slots, [2, 4, 6, 99]);
 }
 
 #[test]
@@ -75,14 +75,16 @@ fn numbers_refuse_in_order() {
         }
         answer
     };
-    let far = [0, 1_000_001, 0];
+    let far = [0, 2_000_001, 0];
     assert_eq!(call(0, 0, &[], (0, 0)), Err(1));
     assert_eq!(call(1, 0, &[], (0, 0)), Err(6));
     assert_eq!(call(1, 33, &[0; 561], (66, 66)), Err(6));
     assert_eq!(call(1, usize::MAX, &[], (0, 0)), Err(6));
-    assert_eq!(call(1, 2, &[1_000_001; 4], (0, 0)), Err(10));
+    assert_eq!(call(1, 2, &[2_000_001; 4], (0, 0)), Err(10));
     assert_eq!(call(1, 2, &[0; 2], (4, 4)), Err(10));
     assert_eq!(call(3, 2, &far, (0, 0)), Err(11));
+    assert_eq!(call(1, 2, &[0, 0, -2_000_001], (0, 0)), Err(11));
+    assert_eq!(call(1, 2, &[2_000_000, -2_000_000, 0], (4, 4)), Ok(2));
     assert_eq!(call(3, 2, &[0, -1, 0], (0, 0)), Err(12));
     assert_eq!(call(3, 2, &[0, 1, 1], (0, 0)), Err(12));
     assert_eq!(call(1, 2, &[0, -1, 0], (3, 4)), Err(13));
@@ -167,7 +169,7 @@ fn the_smallest_need_not_be_the_first() {
 
 #[test]
 fn smallest_shared_refuses_in_order() {
-    let far = [0, 1_000_001, 0];
+    let far = [0, 2_000_001, 0];
     for kind in [0, 3, 4, -1, i32::MIN, i32::MAX] {
         assert_eq!(smallest_shared(kind, 0, &[], 0, 0), Err(1));
         assert_eq!(smallest_shared(kind, 2, &far, 2, 2), Err(1));
@@ -178,15 +180,15 @@ fn smallest_shared_refuses_in_order() {
         assert_eq!(call(0, &[], 0, 0), Err(6));
         assert_eq!(call(33, &[0; 561], 0, 0), Err(6));
         assert_eq!(call(usize::MAX, &[], 0, 0), Err(6));
-        assert_eq!(call(2, &[1_000_001; 4], 2, 2), Err(10));
+        assert_eq!(call(2, &[2_000_001; 4], 2, 2), Err(10));
         assert_eq!(call(2, &[], 0, 0), Err(10));
         assert_eq!(call(2, &far, 2, 2), Err(11));
-        assert_eq!(call(2, &[0, 0, -1_000_001], 0, 0), Err(11));
+        assert_eq!(call(2, &[0, 0, -2_000_001], 0, 0), Err(11));
         assert_eq!(call(2, &[0; 3], 0, 2), Err(15));
         assert_eq!(call(2, &[0; 3], 2, 0), Err(15));
         assert_eq!(call(2, &[0; 3], usize::MAX, 1 << 32), Err(15));
         // What check 12 asks of distances is not asked of scores.
-        assert_eq!(call(2, &[1, -1, -1_000_000], 0, 1), Ok((0b11, 0)));
+        assert_eq!(call(2, &[1, -1, -2_000_000], 0, 1), Ok((0b11, 0)));
     }
 }
 
@@ -235,19 +237,19 @@ fn average_linkage_trees() {
 #[test]
 fn averages_closer_than_a_float() {
     // 32 entries: 0 to 15 merge first, then 16 to 30. Their links with 31 are
-    // 15,999,999/16 and 14,999,999/15, and the first is greater by 1/240.
+    // 31,999,999/16 and 29,999,999/15, and the first is greater by 1/240.
     let n = 32;
     let mut pairs = vec![0; n * (n + 1) / 2];
     let mut set = |a: usize, b: usize, value| pairs[a * (a + 1) / 2 + b] = value;
     for a in 1..16 {
-        (0..a).for_each(|b| set(a, b, 1_000_000));
+        (0..a).for_each(|b| set(a, b, 2_000_000));
     }
     for a in 17..31 {
-        (16..a).for_each(|b| set(a, b, 1_000_000));
+        (16..a).for_each(|b| set(a, b, 2_000_000));
     }
-    (0..31).for_each(|b| set(31, b, 1_000_000));
-    set(31, 0, 999_999);
-    set(31, 16, 999_999);
+    (0..31).for_each(|b| set(31, b, 2_000_000));
+    set(31, 0, 1_999_999);
+    set(31, 16, 1_999_999);
     let start: Vec<u32> = (2..=16)
         .map(|k| (1 << k) - 1)
         .chain((2..=15).map(|k| ((1 << k) - 1) << 16))
@@ -258,7 +260,7 @@ fn averages_closer_than_a_float() {
         // 31 joins before the last two blocks, whose link is 0.
         is_tree(Method::Average, n, &pairs, &merged)
     };
-    // 999,999 + 15/16 and 999,999 + 14/15.
+    // 1,999,999 + 15/16 and 1,999,999 + 14/15.
     assert!(after(1 << 31 | 0xffff));
     assert!(!after(1 << 31 | 0x7fff_0000));
 }
@@ -267,7 +269,7 @@ fn averages_closer_than_a_float() {
 fn own_scores_play_no_part_in_linkage() {
     let mut pairs = ROW;
     for own in [0, 2, 5, 9] {
-        pairs[own] = 1_000_000;
+        pairs[own] = 2_000_000;
     }
     for method in [Method::Single, Method::Average] {
         assert!(is_tree(method, 4, &pairs, &[0b0011, 0b1100, 0b1111]));
@@ -291,8 +293,9 @@ fn linkage_writes_a_tree() {
 fn linkage_refuses_in_order() {
     assert_eq!(linkage_refusal(0, &[], 0), Err(6));
     assert_eq!(linkage_refusal(33, &[0; 561], 32), Err(6));
-    assert_eq!(linkage_refusal(2, &[1_000_001; 2], 0), Err(10));
-    assert_eq!(linkage_refusal(2, &[1_000_001, 0, 0], 0), Err(11));
+    assert_eq!(linkage_refusal(2, &[2_000_001; 2], 0), Err(10));
+    assert_eq!(linkage_refusal(2, &[2_000_001, 0, 0], 0), Err(11));
+    assert_eq!(linkage_refusal(2, &[2_000_000, 0, -2_000_000], 1), Ok(()));
     assert_eq!(linkage_refusal(2, &[0; 3], 0), Err(15));
     assert_eq!(linkage_refusal(2, &[0; 3], 1), Ok(()));
     assert_eq!(linkage_refusal(1, &[0], 0), Ok(()));
@@ -327,7 +330,7 @@ fn anchored_scores_refuse_in_order() {
     assert_eq!(call(0, &[], 0, 0), Err(6));
     assert_eq!(call(33, &[0; 561], 0, 561), Err(6));
     assert_eq!(call(3, &THREE[..5], 3, 0), Err(10));
-    assert_eq!(call(2, &[1, -1_000_001, 0], 2, 0), Err(11));
+    assert_eq!(call(2, &[1, -2_000_001, 0], 2, 0), Err(11));
     assert_eq!(call(2, &[0, -1, 0], 2, 0), Err(12));
     assert_eq!(call(2, &[0, 1, -1], 2, 0), Err(12));
     assert_eq!(call(2, &[1, 1, 0], 2, 0), Err(12));
@@ -361,12 +364,12 @@ fn the_way_back() {
     assert_eq!(refusal(&[0, 0, -2, 0, -1, 0]), Err(15), "d(0,1) = -1");
     assert_eq!(refusal(&[0, 0, 10, 0, 9, 6]), Err(15), "d(1,2) = -1");
     assert_eq!(refusal(&[0, 0, 10, 0, 8, 6]), Ok(6), "d(1,2) = 0");
-    let most = 2_000_000;
-    assert_eq!(refusal(&[0, 0, most, 0, 1_000_000, most]), Ok(6));
-    assert_eq!(refusal(&[0, 0, most, 0, 999_999, most]), Err(15));
+    let most = 4_000_000;
+    assert_eq!(refusal(&[0, 0, most, 0, 2_000_000, most]), Ok(6));
+    assert_eq!(refusal(&[0, 0, most, 0, 1_999_999, most]), Err(15));
     assert_eq!(refusal(&[0, 0, most + 2, 0, most, most]), Err(15));
-    assert_eq!(refusal(&[0, 0, 0, 0, -1_000_000, 0]), Ok(6));
-    assert_eq!(refusal(&[0, 0, 0, 0, -1_000_001, 0]), Err(15));
+    assert_eq!(refusal(&[0, 0, 0, 0, -2_000_000, 0]), Ok(6));
+    assert_eq!(refusal(&[0, 0, 0, 0, -2_000_001, 0]), Err(15));
     let (far, low) = (i32::MAX - 1, i32::MIN);
     assert_eq!(refusal(&[0, 0, far, 0, far, far]), Err(15));
     assert_eq!(refusal(&[0, 0, far, 0, low, far]), Err(15));

@@ -1,14 +1,26 @@
 //! The comparison accepts an engine that is right and rejects ones that are not.
 
-use second_engine::compare::{compare, Case, SHEET_REFUSALS};
-use second_engine::engine::{listing, read, GREATEST, UNSCORED};
-use second_engine::generate::cases;
+use second_engine::compare::{check, compare, Case, Expected, SHEET_REFUSALS};
+use second_engine::engine::{in_points, listing, read, GREATEST, UNSCORED};
+use second_engine::generate::{cases, pointed, Random, BY_POINTS, MALFORMED_HALVES};
+use second_engine::halves::check_whole;
+use std::sync::OnceLock;
 
-const CASES: usize = 2_000;
+const CASES: usize = 3_000;
+
+/// The calls and their answers, found once.
+fn expected() -> &'static [Expected] {
+    static ALL: OnceLock<Vec<Expected>> = OnceLock::new();
+    ALL.get_or_init(|| cases(11).take(CASES).map(Expected::of).collect())
+}
+
+fn passes(calls: &[Expected], other: impl Fn(i32, &[u8], &mut [u8]) -> i64) -> bool {
+    let mut calls = calls.iter();
+    calls.all(|expected| check("other", &other, expected).is_ok())
+}
 
 fn rejected(name: &str, other: impl Fn(i32, &[u8], &mut [u8]) -> i64) {
-    let answer = compare(name, other, cases(11).take(CASES));
-    assert!(answer.is_err(), "{name} passes");
+    assert!(!passes(expected(), other), "{name} passes");
 }
 
 #[test]
@@ -148,7 +160,10 @@ fn strong_listing(n: usize, pairs: &[i32], term: Term) -> Vec<u8> {
     };
     let mut sets: Vec<u32> = (1..(1 << n) - 1).filter(|&set| index(set) >= 1).collect();
     sets.sort_unstable_by_key(|set| (set.count_ones(), *set));
-    let line = |set: u32| format!("{set:08x} {} {}\n", set.count_ones(), index(set));
+    let line = |set: u32| {
+        let (size, points) = (set.count_ones(), in_points(index(set)));
+        format!("{set:08x} {size} {points}\n")
+    };
     let lines: String = sets.into_iter().map(line).collect();
     format!("set size index\n{lines}").into_bytes()
 }
@@ -173,7 +188,7 @@ fn with_terms(term: Term) -> impl Fn(i32, &[u8], &mut [u8]) -> i64 {
 #[test]
 fn right_terms_pass() {
     let right = with_terms(|_, within, across| difference(-GREATEST, GREATEST, within, across));
-    compare("right", right, cases(11).take(CASES)).unwrap();
+    assert!(passes(expected(), right));
 }
 
 #[test]
@@ -287,4 +302,175 @@ fn refusal_16_elsewhere_does_not_pass() {
             answer => answer,
         }
     });
+}
+
+// -------------------------------------------------------------- Half points
+
+/// Calls that a point alone makes wrong.
+fn pointed_calls() -> &'static [Expected] {
+    static ALL: OnceLock<Vec<Expected>> = OnceLock::new();
+    ALL.get_or_init(|| {
+        let mut random = Random::new(11);
+        let numbers = BY_POINTS.iter().cycle().take(CASES / 2);
+        let calls = numbers.map(|&number| pointed(&mut random, number));
+        calls.map(Expected::of).collect()
+    })
+}
+
+fn rejected_for_points(name: &str, other: impl Fn(i32, &[u8], &mut [u8]) -> i64) {
+    assert!(!passes(pointed_calls(), other), "{name} passes");
+}
+
+/// The text without the bytes of halves.
+fn without_halves(sheet: &[u8]) -> Vec<u8> {
+    let text = String::from_utf8_lossy(sheet);
+    text.replace(".5", "").into_bytes()
+}
+
+#[test]
+fn every_refusal_by_a_point() {
+    assert!(passes(pointed_calls(), listing));
+    for number in BY_POINTS {
+        let with = |call: &&Expected| call.answer == -(number as i64);
+        assert!(pointed_calls().iter().filter(with).count() > 200);
+    }
+}
+
+#[test]
+fn values_with_a_point_read_otherwise_do_not_pass() {
+    rejected("3 for a point", |kind, sheet, out| {
+        match listing(kind, sheet, out) {
+            -1 => -1,
+            -2 => -2,
+            _ if sheet.contains(&b'.') => -3,
+            answer => answer,
+        }
+    });
+    rejected("halves are cut off", |kind, sheet, out| {
+        listing(kind, &without_halves(sheet), out)
+    });
+    for (text, taken) in [
+        ("0.5", "0"),
+        ("0.5", "1"),
+        ("-0.5", "0.5"),
+        ("-0.5", "0"),
+        ("-0.5", "-0"),
+        ("1000000.5", "1000000"),
+        ("-1000000.5", "-1000000"),
+        ("9999999.5", "99999999"),
+    ] {
+        rejected_for_points(text, |kind, sheet, out| {
+            listing(kind, &replaced(sheet, text, taken), out)
+        });
+    }
+    for text in MALFORMED_HALVES {
+        rejected_for_points(text, |kind, sheet, out| {
+            listing(kind, &replaced(sheet, text, "0.5"), out)
+        });
+    }
+}
+
+#[test]
+fn refusals_by_a_point_elsewhere_do_not_pass() {
+    rejected_for_points("3 for a point in line 1", |kind, sheet, out| match listing(
+        kind, sheet, out,
+    ) {
+        -4 => -3,
+        answer => answer,
+    });
+    for (number, name) in [
+        (-7, "points behind the last line are passed over"),
+        (-8, "an ill-formed half is taken"),
+        (-9, "half a point does not differ"),
+        (-11, "half a point beyond the range"),
+        (-12, "half a point is no distance's flaw"),
+    ] {
+        rejected_for_points(name, |kind, sheet, out| match listing(kind, sheet, out) {
+            given if given == number => listing(kind, b"A\n0\n", out),
+            answer => answer,
+        });
+    }
+    rejected_for_points(
+        "the room without halves serves",
+        |kind, sheet, out| match listing(kind, sheet, out) {
+            -14 => listing(kind, &without_halves(sheet), out),
+            answer => answer,
+        },
+    );
+}
+
+/// The listing with each index written in another way, or its line left out.
+fn rewritten(change: fn(&str) -> Option<String>) -> impl Fn(i32, &[u8], &mut [u8]) -> i64 {
+    move |kind, sheet, out| {
+        let mut right = [0; 4096];
+        let Ok(length) = usize::try_from(listing(kind, sheet, &mut right)) else {
+            return listing(kind, sheet, out);
+        };
+        let text = String::from_utf8_lossy(&right[..length]);
+        let (first, lines) = text.split_once('\n').unwrap();
+        let mut other = format!("{first}\n");
+        for line in lines.lines() {
+            let (start, index) = line.rsplit_once(' ').unwrap();
+            if let Some(index) = change(index) {
+                other += &format!("{start} {index}\n");
+            }
+        }
+        match out.get_mut(..other.len()) {
+            Some(room) => room.copy_from_slice(other.as_bytes()),
+            None => return -14,
+        }
+        other.len() as i64
+    }
+}
+
+/// An index as half points.
+fn halves(index: &str) -> i64 {
+    match index.strip_suffix(".5") {
+        Some(points) => 2 * points.parse::<i64>().unwrap() + 1,
+        None => 2 * index.parse::<i64>().unwrap(),
+    }
+}
+
+type Change = fn(&str) -> Option<String>;
+
+#[test]
+fn indices_written_otherwise_do_not_pass() {
+    let right = rewritten(|index| Some(in_points(halves(index))));
+    assert!(passes(expected(), right));
+    let wrong: [(&str, Change); 7] = [
+        ("in half points", |index| Some(halves(index).to_string())),
+        ("cut to points", |index| {
+            Some((halves(index) / 2).to_string())
+        }),
+        ("rounded up", |index| {
+            Some(((halves(index) + 1) / 2).to_string())
+        }),
+        ("one digit behind the point in any case", |index| {
+            Some(format!("{}.{}", halves(index) / 2, halves(index) % 2 * 5))
+        }),
+        ("no 0 before the point", |index| {
+            Some(index.strip_prefix('0').unwrap_or(index).into())
+        }),
+        ("with a comma", |index| Some(index.replace('.', ","))),
+        ("from a whole point on", |index| {
+            (halves(index) > 1).then(|| index.into())
+        }),
+    ];
+    for (name, change) in wrong {
+        rejected(name, rewritten(change));
+    }
+}
+
+/// By the listing before there were half points, not by this engine's.
+#[test]
+fn whole_points_in_another_form_are_seen() {
+    let as_before = |change: Change| {
+        let all = expected().iter().map(|expected| &expected.case);
+        let mut whole = all.filter(|case| !case.sheet.contains(&b'.'));
+        whole.all(|case| check_whole("other", rewritten(change), case.clone()).is_ok())
+    };
+    assert!(as_before(|index| Some(index.into())));
+    assert!(!as_before(|index| Some(format!("{index}.0"))));
+    assert!(!as_before(|index| Some(halves(index).to_string())));
+    assert!(!as_before(|index| (index != "1").then(|| index.into())));
 }

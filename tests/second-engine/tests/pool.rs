@@ -75,6 +75,51 @@ fn sums_up_to_the_ends_of_the_range() {
     assert_eq!(pooled(&one(5), &one(-6)), one(-1));
 }
 
+/// Halves make whole points, and whole points and a half a half.
+#[test]
+fn sums_of_half_points() {
+    let one = |value: &str| format!("A\n{value}\n");
+    for (a, b, sum) in [
+        ("0.5", "0.5", "1"),
+        ("0.5", "-0.5", "0"),
+        ("0.5", "-1", "-0.5"),
+        ("7", "6.5", "13.5"),
+        ("-7.5", "-6", "-13.5"),
+        ("-", "0.5", "-"),
+        ("999999.5", "0.5", "1000000"),
+        ("-1000000", "0.5", "-999999.5"),
+    ] {
+        assert_eq!(pooled(&one(a), &one(b)), one(sum), "{a} and {b}");
+        assert_eq!(pooled(&one(b), &one(a)), one(sum), "{b} and {a}");
+    }
+    for (a, b) in [
+        ("1000000", "0.5"),
+        ("-999999.5", "-1"),
+        ("999999.5", "999999.5"),
+    ] {
+        assert_eq!(pooled(&one(a), &one(b)), "refused 18", "{a} and {b}");
+        assert_eq!(pooled(&one(b), &one(a)), "refused 18", "{b} and {a}");
+    }
+    assert_eq!(pooled(&one("1000000.5"), &one("-1")), "refused 11");
+    assert_eq!(pooled(&one("-1"), &one("1000000.5")), "refused 11");
+    assert_eq!(pooled(&one("5.0"), &one("5")), "refused 8");
+}
+
+/// 32 names of 8 bytes, and values of 9.
+#[test]
+fn the_longest_pool() {
+    let sheet = |value: &str| {
+        let names: Vec<String> = (0..32).map(|entry| format!("ENTRY{entry:03}")).collect();
+        let row = vec![value; 32].join(" ") + "\n";
+        names.join(" ") + "\n" + &row.repeat(32)
+    };
+    let longest = sheet("-999999.5");
+    assert_eq!((longest.len(), MOST_BYTES), (10_528, 10_528));
+    assert_eq!(pooled(&sheet("-500000"), &sheet("-499999.5")), longest);
+    let short = answer(&sheet("-999999"), &sheet("-0.5"), MOST_BYTES - 1);
+    assert_eq!(short, "refused 14");
+}
+
 #[test]
 fn other_names() {
     let two = "A B\n0 0\n0 0\n";

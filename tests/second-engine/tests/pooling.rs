@@ -2,7 +2,7 @@
 //! are not.
 
 use second_engine::engine::{listing, read};
-use second_engine::generate::{Random, Table, MARK};
+use second_engine::generate::{Random, Table, FAR, MARK};
 use second_engine::pool::{pool, refusal};
 use second_engine::pooling::{
     cases, check_groups, compare, tables, MOST_BYTES, OF_A_POOL, OF_A_SHEET,
@@ -91,7 +91,27 @@ fn right_sums_pass() {
 #[test]
 fn wrong_sums_do_not() {
     rejected("by their places", with_sums(false, right));
-    let wrong: [(&str, Sum); 5] = [
+    let wrong: [(&str, Sum); 8] = [
+        (
+            "halves are cut off the sum",
+            |score, added, own| match right(score, added, own) {
+                MARK => MARK,
+                sum => sum / 2 * 2,
+            },
+        ),
+        ("halves are cut off each", |score, added, own| {
+            match right(score, added, own) {
+                MARK => MARK,
+                _ => score / 2 * 2 + added / 2 * 2,
+            }
+        }),
+        (
+            "the half of the first alone",
+            |score, added, own| match right(score, added, own) {
+                MARK => MARK,
+                _ => score + added / 2 * 2,
+            },
+        ),
         ("the larger", |score, added, own| {
             match right(score, added, own) {
                 MARK => MARK,
@@ -132,6 +152,32 @@ fn wrong_sums_do_not() {
     }
 }
 
+/// The pool with its text changed.
+fn written_otherwise(
+    first: &[u8],
+    second: &[u8],
+    out: &mut [u8],
+    change: impl Fn(String) -> String,
+) -> i64 {
+    let mut bytes = vec![0; MOST_BYTES];
+    let Ok(length) = usize::try_from(pool(first, second, &mut bytes)) else {
+        return pool(first, second, out);
+    };
+    let text = change(String::from_utf8_lossy(&bytes[..length]).into());
+    match out.get_mut(..text.len()) {
+        Some(room) => room.copy_from_slice(text.as_bytes()),
+        None => return -14,
+    }
+    text.len() as i64
+}
+
+fn doubled_text(cell: &str) -> String {
+    match cell.parse::<f64>() {
+        Ok(points) => (2.0 * points).to_string(),
+        Err(_) => cell.into(),
+    }
+}
+
 #[test]
 fn wrong_bytes_do_not_pass() {
     rejected("refuses all", |_, _, _| -2);
@@ -140,6 +186,24 @@ fn wrong_bytes_do_not_pass() {
     });
     rejected("a line feed less", |first, second, out| {
         pool(first, second, out) - 1
+    });
+    rejected("a half as 0.50", |first, second, out| {
+        written_otherwise(first, second, out, |text| text.replace(".5", ".50"))
+    });
+    rejected("no 0 before the point", |first, second, out| {
+        written_otherwise(first, second, out, |text| {
+            text.replace(" 0.5", " .5").replace("-0.5", "-.5")
+        })
+    });
+    rejected("in half points", |first, second, out| {
+        written_otherwise(first, second, out, |text| {
+            let (line_1, values) = text.split_once('\n').unwrap();
+            let doubled = values.lines().map(|line| {
+                let cells = line.split(' ').map(doubled_text);
+                cells.collect::<Vec<_>>().join(" ") + "\n"
+            });
+            format!("{line_1}\n{}", doubled.collect::<String>())
+        })
     });
     rejected("the first's length", |first, second, out| {
         match pool(first, second, out) {
@@ -226,12 +290,45 @@ fn refusals_in_another_order_do_not_pass() {
             answer => answer,
         }
     });
+    rejected("no 18 for half a point", |first, second, out| {
+        match pool(first, second, out) {
+            -18 if greatest_sum(first, second) == FAR + 1 => -14,
+            answer => answer,
+        }
+    });
+    rejected(
+        "18 at the end of the range",
+        |first, second, out| match pool(first, second, out) {
+            0.. if greatest_sum(first, second) == FAR => -18,
+            answer => answer,
+        },
+    );
+    rejected(
+        "18 half a point before it",
+        |first, second, out| match pool(first, second, out) {
+            0.. if greatest_sum(first, second) == FAR - 1 => -18,
+            answer => answer,
+        },
+    );
     rejected("fewer names are enough", |first, second, out| {
         match pool(first, second, out) {
             -17 if parts(first).names.len() < parts(second).names.len() => -14,
             answer => answer,
         }
     });
+}
+
+/// The greatest sum of two scores, without its sign.
+fn greatest_sum(first: &[u8], second: &[u8]) -> i64 {
+    let (one, other) = (parts(first), parts(second));
+    let place = |name| other.names.iter().position(|x| x == name).unwrap();
+    let places: Vec<usize> = one.names.iter().map(place).collect();
+    let sums = (0..one.entries()).flat_map(|a| {
+        let (one, other, places) = (&one, &other, &places);
+        (0..=a).map(move |b| right(one.values[a][b], other.values[places[a]][places[b]], a == b))
+    });
+    let scored = sums.filter(|&sum| sum != MARK).map(i64::abs);
+    scored.max().unwrap_or(0)
 }
 
 fn marked(sheet: &[u8]) -> bool {

@@ -69,12 +69,20 @@ fn a_listing_of_each_kind() {
         b"A B\n- 1\n1 9\n",
         "set size index\n00000002 1 8\n",
     );
+    writes(
+        &["strong"],
+        b"A B\n0.5 -0.5\n-0.5 0\n",
+        "set size index\n00000001 1 1\n00000002 1 0.5\n",
+    );
 }
 
 #[test]
 fn refusals_of_one_digit_and_two() {
     writes(&["splits"], b"A B\n0 5\n4 0\n", "refused 9\n");
     writes(&["strong"], b"A\n1000001\n", "refused 11\n");
+    writes(&["clean"], b"A\n-1000000.5\n", "refused 11\n");
+    writes(&["strong"], b"A\n5.0\n", "refused 8\n");
+    writes(&["strong"], b"A.\n0\n", "refused 4\n");
     writes(&["splits"], FOUR, "refused 12\n");
     writes(&["clean"], b"A B\n- 1\n1 9\n", "refused 16\n");
 }

@@ -62,12 +62,12 @@ fn the_smallest_of_many() {
 fn the_ends_of_the_range() {
     let (n, odd) = (32, 0xaaaa_aaaa);
     let across = |a: usize, b: usize| a % 2 != b % 2;
-    let far = list(n, |a, b| if across(a, b) { 1_000_000 } else { 0 });
-    let near = list(n, |a, b| if across(a, b) { 0 } else { 1_000_000 });
-    let alike = list(n, |_, _| 1_000_000);
+    let far = list(n, |a, b| if across(a, b) { 2_000_000 } else { 0 });
+    let near = list(n, |a, b| if across(a, b) { 0 } else { 2_000_000 });
+    let alike = list(n, |_, _| 2_000_000);
     for side in [odd, !odd] {
-        assert_eq!(weight(n, &far, side), Ok(29 * 2_000_000));
-        assert_eq!(weight(n, &near, side), Ok(-29 * 2_000_000));
+        assert_eq!(weight(n, &far, side), Ok(29 * 4_000_000));
+        assert_eq!(weight(n, &near, side), Ok(-29 * 4_000_000));
         assert_eq!(weight(n, &alike, side), Ok(0));
     }
 }
@@ -120,7 +120,7 @@ fn refusals_in_order() {
     assert_eq!(weight(4, &pairs, 0b0011), Err(12));
     pairs[0] = MARK;
     assert_eq!(weight(4, &pairs, wrong), Err(16));
-    pairs[1] = 1_000_001;
+    pairs[1] = 2_000_001;
     assert_eq!(weight(4, &pairs, wrong), Err(11));
     pairs[1] = MARK + 1;
     assert_eq!(weight(4, &pairs, 0b0011), Err(11));

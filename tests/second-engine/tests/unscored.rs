@@ -20,7 +20,7 @@ fn answer(kind: i32, sheet: &str) -> String {
 
 /// The worked example of document 01, C and D never compared.
 const APART: &str = "A B C D\n9 8 6 2\n8 9 5 3\n6 5 9 -\n2 3 - 9\n";
-const APART_PAIRS: [i32; 10] = [9, 8, 9, 6, 5, 9, 2, 3, UNSCORED, 9];
+const APART_PAIRS: [i32; 10] = [18, 16, 18, 12, 10, 18, 4, 6, UNSCORED, 18];
 
 /// s(C,D) may be 1,000,000, far above what C and D have with anyone else.
 #[test]
@@ -58,10 +58,12 @@ fn all_pairs_unscored() {
 /// The own score is the greatest there is, and the unscored pair may have it too.
 #[test]
 fn the_ends_of_the_range_do_not_help() {
-    let far = format!("A B\n{GREATEST} -\n- {GREATEST}\n");
-    assert_eq!(answer(1, &far), "");
-    let low = format!("A B C\n9 - -{GREATEST}\n- 9 -{GREATEST}\n-{GREATEST} -{GREATEST} 0\n");
-    assert_eq!(answer(1, &low), format!("00000004 1 {GREATEST}\n"));
+    assert_eq!(answer(1, "A B\n1000000 -\n- 1000000\n"), "");
+    let low = "A B C\n9 - -1000000\n- 9 -1000000\n-1000000 -1000000 0\n";
+    assert_eq!(answer(1, low), "00000004 1 1000000\n");
+    // Half a point less is no help either.
+    let low = "A B C\n9 - -999999.5\n- 9 -1000000\n-999999.5 -1000000 0\n";
+    assert_eq!(answer(1, low), "00000004 1 999999.5\n");
 }
 
 #[test]
@@ -116,7 +118,7 @@ fn the_mark_in_the_pair_list() {
     assert_eq!(slots[10], 99);
     assert_eq!(name(APART.as_bytes(), 3), (6, &b"D"[..]));
     assert_eq!(score(4, &APART_PAIRS, 2, 3), Ok(-2_147_483_648));
-    assert_eq!(score(4, &APART_PAIRS, 3, 3), Ok(9));
+    assert_eq!(score(4, &APART_PAIRS, 3, 3), Ok(18));
 }
 
 #[test]
@@ -124,7 +126,7 @@ fn numbers_and_what_two_entries_share() {
     let (mut sets, mut indices) = ([99; 8], [99; 8]);
     assert_eq!(numbers(1, 4, &APART_PAIRS, &mut sets, &mut indices), Ok(3));
     assert_eq!(sets, [1, 2, 3, 0, 0, 0, 0, 0]);
-    assert_eq!(indices, [1, 1, 2, 0, 0, 0, 0, 0]);
+    assert_eq!(indices, [2, 2, 4, 0, 0, 0, 0, 0]);
     let share = |kind, a, b| smallest_shared(kind, 4, &APART_PAIRS, a, b);
     assert_eq!(share(1, 0, 1), Ok((0b0011, 3)));
     assert_eq!(share(1, 1, 1), Ok((0b0010, 2)));
@@ -138,7 +140,7 @@ fn numbers_and_what_two_entries_share() {
 /// Lists of two entries: out of range, unscored, no distances.
 #[test]
 fn the_place_of_16_in_each_call() {
-    let (far, low) = (1_000_001, UNSCORED + 1);
+    let (far, low) = (GREATEST + 1, UNSCORED + 1);
     let mut slots = [7; 3];
     for (pairs, number) in [
         ([UNSCORED, far, 0], 11),

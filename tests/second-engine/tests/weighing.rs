@@ -1,7 +1,7 @@
 //! The comparison of weights accepts an engine that is right and rejects ones
 //! that are not.
 
-use second_engine::engine::{numbers, SPLITS, UNSCORED};
+use second_engine::engine::{numbers, GREATEST, SPLITS, UNSCORED};
 use second_engine::generate::{distances, entries, order, Random};
 use second_engine::refined::weight;
 use second_engine::weighing::{
@@ -228,7 +228,7 @@ fn other_checks_do_not_pass() {
         let mut other = pairs.to_vec();
         (0..pairs.len())
             .filter(own)
-            .filter(|&place| (-1_000_000..=1_000_000).contains(&pairs[place]))
+            .filter(|&place| (-GREATEST..=GREATEST).contains(&pairs[place]))
             .for_each(|place| other[place] = 0);
         right(n, &other, side)
     });
