@@ -1,12 +1,14 @@
 //! This engine against itself: the two ways of finding sets, reorderings, the
 //! theorems of 003 that lead to the same listing by another route, what two
 //! entries share, unscored pairs by every filling, pools entry by entry, weights
-//! by every choice of quartets, and refusals against sheets and lists made to meet
-//! them.
+//! by every choice of quartets, sheets of whole points as they were listed before
+//! there were half points, doubled lists, and refusals against sheets and lists
+//! made to meet them.
 
-use crate::compare::{Tally, SHEET_REFUSALS};
+use crate::compare::{Case, Tally, SHEET_REFUSALS};
 use crate::engine::{self, Bounds, Method, Scores, Way, GREATEST, STRONG, UNSCORED};
-use crate::generate::{self, Random, Table, MARK, SHARES};
+use crate::generate::{self, Halves, Random, Table, BY_POINTS, FARTHEST, MARK, SHARES};
+use crate::halves::{check_doubled, check_whole, doubled, halved, sort};
 use crate::pool::pool;
 use crate::pooling::{self, check_groups, MOST_BYTES};
 use crate::refined::weight;
@@ -48,6 +50,15 @@ pub struct Report {
     pub chosen: [u64; 3],
     pub one_by_one: u64,
     pub weights: Found,
+    /// Sheets without a point, by what they were answered before there were half
+    /// points; groups of doubled lists, by kind, and weights of such lists.
+    pub whole: Tally,
+    pub doubled: [u64; 4],
+    pub doubled_weights: u64,
+    /// Lines by their index: half a point, whole points, any other.
+    pub lines: [u64; 3],
+    /// Sheets that a point alone makes wrong.
+    pub pointed: Tally,
     pub reorderings: u64,
     pub tally: Tally,
 }
@@ -92,6 +103,20 @@ impl fmt::Display for Report {
             "weights by every choice, below 0, 0, above: {:?}; one by one: {}; {:?}",
             self.chosen, self.one_by_one, self.weights,
         )?;
+        writeln!(
+            f,
+            "sheets without a point as before: {} listings, refused: {:?}; groups of doubled lists: {:?}, their weights: {}",
+            self.whole.listings,
+            SHEET_REFUSALS.map(|number| (number, self.whole.refusals[number])),
+            &self.doubled[1..],
+            self.doubled_weights,
+        )?;
+        writeln!(
+            f,
+            "lines of half a point, of whole points, others: {:?}; refused for a point: {:?}",
+            self.lines,
+            BY_POINTS.map(|number| (number, self.pointed.refusals[number])),
+        )?;
         writeln!(f, "reorderings: {}", self.reorderings)?;
         writeln!(
             f,
@@ -113,7 +138,11 @@ pub fn run(rounds: u64, seed: u64) -> Result<Report, String> {
     for _ in 0..rounds {
         round(&mut random, &mut report)?;
     }
-    match report.tally.missed(&SHEET_REFUSALS) {
+    let missed = [
+        report.tally.missed(&SHEET_REFUSALS),
+        report.pointed.missed(&BY_POINTS),
+    ];
+    match missed.concat() {
         missed if missed.is_empty() => Ok(report),
         missed => Err(format!("{report}refusals never met: {missed:?}")),
     }
@@ -154,6 +183,13 @@ pub fn round(random: &mut Random, report: &mut Report) -> Result<(), String> {
     for _ in 0..8 {
         every_choice(&mut own, report)?;
         weighed(&mut own, report)?;
+    }
+    let mut own = random.clone();
+    for _ in 0..4 {
+        as_before(&mut own, report)?;
+        twice(&mut own, report)?;
+        read_back(&mut own)?;
+        refused_for_a_point(&mut own, report)?;
     }
     let n = 1 + random.below(32);
     let mut unscored = generate::scores(random, n);
@@ -232,6 +268,9 @@ fn another_route(
     demand(found == wanted, || {
         format!("{found:x?}, wanted {wanted:x?}; {}", show(kind, table))
     })?;
+    for &(_, index) in &found {
+        report.lines[sort(index)] += 1;
+    }
     if engine::unscored(&table.pairs()) > 0 {
         report.unscored += 1;
         report.unscored_lines += found.len() as u64;
@@ -568,6 +607,85 @@ fn weighed(random: &mut Random, report: &mut Report) -> Result<(), String> {
     })
 }
 
+/// Good sheets of whole points, and any other without a point.
+fn as_before(random: &mut Random, report: &mut Report) -> Result<(), String> {
+    let n = generate::entries(random);
+    let mut scores = generate::scores_with(random, n, Halves::None);
+    if random.one_in(2) {
+        let share = random.of(&SHARES);
+        scores.unscore(random, share);
+    }
+    let distances = generate::distances_with(random, n, Halves::None);
+    let good = [(1, &scores), (2, &scores), (3, &distances)].map(|(kind, table)| Case {
+        kind,
+        sheet: table.sheet(),
+        room: 4096,
+    });
+    let any = [(); 3].map(|()| generate::case(random));
+    let flawed = [(); 3].map(|()| generate::flawed(random).0);
+    for case in good.into_iter().chain(any).chain(flawed) {
+        if !case.sheet.contains(&b'.') {
+            let answer = check_whole("this engine", engine::listing, case)?;
+            report.whole.count(answer);
+        }
+    }
+    Ok(())
+}
+
+/// A list and its double: the same groups, with twice the indices; and twice the
+/// weight of a split.
+fn twice(random: &mut Random, report: &mut Report) -> Result<(), String> {
+    let n = generate::entries(random);
+    let mut unscored = generate::scores(random, n);
+    let share = random.of(&SHARES);
+    unscored.unscore(random, share);
+    let tables = tables(random, n);
+    let distances = halved(&tables[2].1).pairs();
+    for (kind, table) in tables.into_iter().chain([(1, unscored)]) {
+        let found = |pairs: &[i32]| {
+            let (mut sets, mut indices) = (vec![0; 2 * n], vec![0; 2 * n]);
+            let count = engine::numbers(kind, n, pairs, &mut sets, &mut indices)
+                .map_err(|number| format!("refused {number}; {pairs:?}"))?;
+            Ok(sets.into_iter().zip(indices).take(count).collect())
+        };
+        let groups = check_doubled(found, &halved(&table).pairs())
+            .map_err(|message| format!("kind {kind}: {message}"))?;
+        report.doubled[kind as usize] += groups as u64;
+    }
+    let side = weighing::any_side(random, n, &weighing::listed(n, &distances));
+    let [once, again] = [&distances, &doubled(&distances)].map(|list| weight(n, list, side));
+    demand(once.map(|weight| 2 * weight) == again, || {
+        format!("{side:x} has {once:?}, doubled {again:?}; {distances:?}")
+    })?;
+    report.doubled_weights += u64::from(again.is_ok());
+    Ok(())
+}
+
+/// Any value, written and read back.
+fn read_back(random: &mut Random) -> Result<(), String> {
+    let value = match random.one_in(4) {
+        true => random.between(-30, 30),
+        false => random.between(-FARTHEST, FARTHEST),
+    };
+    let text = engine::in_points(value);
+    let mut slot = [0];
+    let read = engine::read(format!("A\n{text}\n").as_bytes(), &mut slot);
+    demand(read == Ok(1) && i64::from(slot[0]) == value, || {
+        format!("{value} is written {text} and read as {slot:?}, {read:?}")
+    })
+}
+
+/// A sheet that is good but for a point.
+fn refused_for_a_point(random: &mut Random, report: &mut Report) -> Result<(), String> {
+    let number = random.of(&BY_POINTS);
+    let case = generate::pointed(random, number);
+    let answer = engine::listing(case.kind, &case.sheet, &mut vec![0; case.room]);
+    report.pointed.count(answer);
+    demand(answer == -(number as i64), || {
+        format!("answer {answer}, wanted -{number}: {case:?}")
+    })
+}
+
 /// The blocks of a tree, ties broken at random, by size, then by set.
 fn blocks(
     random: &mut Random,
@@ -653,6 +771,15 @@ mod tests {
         assert!(report.chosen.iter().all(|&count| count > 50), "{report}");
         assert!(report.one_by_one > 200, "{report}");
         assert!(report.weights.has_all(), "{report}");
+        assert!(report.whole.listings > 500, "{report}");
+        assert!(report.whole.missed(&SHEET_REFUSALS).is_empty(), "{report}");
+        assert!(
+            report.doubled[1..].iter().all(|&count| count > 500),
+            "{report}"
+        );
+        assert!(report.doubled_weights > 100, "{report}");
+        assert!(report.lines.iter().all(|&count| count > 50), "{report}");
+        assert!(report.pointed.missed(&BY_POINTS).is_empty(), "{report}");
         for number in SHEET_REFUSALS {
             assert!(report.tally.refusals[number] > 100, "{report}");
         }
