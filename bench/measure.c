@@ -1,12 +1,13 @@
 /* Microseconds of four C calls, by the engine and by the plain engine, in turns
    on the same sheets.  Writes a line for each call, sort of sheets, kind and
-   number of entries, with tabs between: `listing`, `shared`, `pool` or `weight`,
-   the other three, what is told of the sheets, and the best and the median of
-   each engine.  Of a listing the bytes of a sheet are told, and the lines after
-   the first; of the smallest group that the first and the last entry share, the
-   share of the sheets that have one; of a pool, which has no kind, the bytes of
-   its two sheets and its own; of the refined weight of a split, where the side
-   stands in the place of the kind, the quartets of the split. */
+   number of entries, with tabs between: `listing`, `halves`, `shared`, `pool` or
+   `weight`, the other three, what is told of the sheets, and the best and the
+   median of each engine.  Of a listing the bytes of a sheet are told, and the
+   lines after the first, and so they are of one with half points, `halves`; of
+   the smallest group that the first and the last entry share, the share of the
+   sheets that have one; of a pool, which has no kind, the bytes of its two sheets
+   and its own; of the refined weight of a split, where the side stands in the
+   place of the kind, the quartets of the split. */
 
 #define _POSIX_C_SOURCE 199309L
 
@@ -311,28 +312,34 @@ static int most_lines(int32_t kind, int n)
                                      : 2 * n - 3;
 }
 
+static const char *const kinds[] = {"", "strong", "clean", "splits"};
+
+/* Of near-trees every possible group is listed. */
+static void measure_listing(const char *call, const char *sort, MakePairs *make,
+                            int32_t kind, int n)
+{
+    make_sheets(make, kind, n);
+    int lines = count_lines(kind);
+    if (make != unstructured && lines != SHEETS * most_lines(kind, n)) {
+        fprintf(stderr, "near-tree sheets with too few groups\n");
+        exit(1);
+    }
+    printf("%s\t%s\t%s\t%d\t%.0f\t%.1f", call, sort, kinds[kind], n,
+           mean_bytes(sheets), (double)lines / SHEETS);
+    measure(list_all, kind);
+}
+
 int main(void)
 {
     const struct {
         const char *name;
         MakePairs *make;
     } sorts[] = {{"near-tree", near_tree}, {"random", unstructured}};
-    const char *const kinds[] = {"", "strong", "clean", "splits"};
 
     for (size_t s = 0; s < sizeof sorts / sizeof sorts[0]; s++)
         for (int32_t kind = 1; kind <= 3; kind++)
             for (int n = 4; n <= MAX_ENTRIES; n *= 2) {
-                make_sheets(sorts[s].make, kind, n);
-                int lines = count_lines(kind);
-                if (sorts[s].make == near_tree &&
-                    lines != SHEETS * most_lines(kind, n)) {
-                    fprintf(stderr, "near-tree sheets with too few groups\n");
-                    return 1;
-                }
-                printf("listing\t%s\t%s\t%d\t%.0f\t%.1f", sorts[s].name,
-                       kinds[kind], n, mean_bytes(sheets),
-                       (double)lines / SHEETS);
-                measure(list_all, kind);
+                measure_listing("listing", sorts[s].name, sorts[s].make, kind, n);
                 if (kind == FARZHUDYL_SPLITS)
                     continue;
                 printf("shared\t%s\t%s\t%d\t%.2f", sorts[s].name, kinds[kind], n,
@@ -358,5 +365,9 @@ int main(void)
                    mean_quartets(picks[i].pick));
             measure(weigh_all, 0);
         }
+    /* Last, so that the sheets above are those of earlier figures. */
+    for (int32_t kind = 1; kind <= 3; kind++)
+        for (int n = 8; n <= MAX_ENTRIES; n *= 2)
+            measure_listing("halves", "near-tree", near_tree_halves, kind, n);
     return 0;
 }

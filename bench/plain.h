@@ -6,7 +6,8 @@
 #include <stddef.h>
 #include <stdint.h>
 
-/* Kinds of question: 1 strong groups, 2 clean groups, 3 Buneman splits. */
+/* Kinds of question: 1 strong groups, 2 clean groups, 3 Buneman splits.  A pair
+   list, and the indices and the weight found from it, count half points. */
 
 /* Writes the listing of a sheet and answers its length in bytes.  A refusal
    answers minus its number and writes nothing. */

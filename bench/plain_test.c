@@ -1,5 +1,6 @@
-/* Tests of the plain engine: the bench cases, the refusals, a check of random
-   sheets against the definitions over all sets, reordering, pools, and refined
+/* Tests of the plain engine: the bench cases, half points, the refusals, a check
+   of random sheets against the definitions over all sets, whole points in the
+   form that listings had before half points, reordering, pools, and refined
    weights.
 
    cc -std=c11 -O2 -Wall -Wextra -Werror -pedantic plain.c plain_test.c */
@@ -13,8 +14,8 @@
 #include <string.h>
 
 enum { MAX_N = 32, MAX_PAIRS = MAX_N * (MAX_N + 1) / 2, ROOM = 4096 };
-enum { MAX_SHEET = 12288, MAX_POOL = 9504 };
-enum { MAX_SCORE = 1000000, UNSCORED = INT32_MIN };
+enum { MAX_SHEET = 12288, MAX_POOL = 10528 };
+enum { POINT = 2, MAX_SCORE = 1000000 * POINT, UNSCORED = INT32_MIN };
 
 static int failures;
 
@@ -106,6 +107,14 @@ static void refuses(int32_t kind, const char *sheet, int number)
     expect_refusal(sheet, kind, sheet, strlen(sheet), number);
 }
 
+/* Writes half points as points; answers the length. */
+static int write_points(char *to, int64_t halves)
+{
+    int64_t size = halves < 0 ? -halves : halves;
+    return sprintf(to, "%s%" PRId64 "%s", halves < 0 ? "-" : "", size / POINT,
+                   size % POINT == 0 ? "" : ".5");
+}
+
 /* Writes the sheet of a pair list, in which entry i has the name Ei; the
    entries stand in the given order. */
 static size_t write_ordered(int n, const int *order, const int32_t *pairs,
@@ -119,8 +128,7 @@ static size_t write_ordered(int n, const int *order, const int32_t *pairs,
             int a = order[i], b = order[j];
             int high = a > b ? a : b, low = a > b ? b : a;
             int32_t value = pairs[high * (high + 1) / 2 + low];
-            to += value == UNSCORED ? sprintf(to, "-")
-                                    : sprintf(to, "%" PRId32, value);
+            to += value == UNSCORED ? sprintf(to, "-") : write_points(to, value);
             *to++ = j < n - 1 ? ' ' : '\n';
         }
     }
@@ -177,6 +185,87 @@ static void test_bench_cases(void)
     expect_listing("all unscored", 1, "A B\n- -\n- -\n", "");
     expect_listing("unscored at the greatest", 1,
                    "A B\n1000000 -\n- 1000000\n", "");
+}
+
+/* ---- half points ---- */
+
+static void test_half_points(void)
+{
+    const char *half = "A B C D\n9 8.5 6 2\n8.5 9 5.5 3\n6 5.5 9 -0.5\n"
+                       "2 3 -0.5 9\n";
+    expect_listing("four with halves, strong", 1, half,
+                   "00000001 1 0.5\n00000002 1 0.5\n00000004 1 3\n"
+                   "00000008 1 6\n00000003 2 2.5\n00000007 3 2.5\n");
+    expect_listing("four with halves, clean", 2, half,
+                   "00000003 2 2.5\n00000007 3 6.5\n");
+    expect_listing("half a point, strong", 1, "A B\n5.5 5\n5 5\n",
+                   "00000001 1 0.5\n");
+    expect_listing("nothing, strong", 1, "A B\n5 5\n5 4.5\n", "");
+    expect_listing("half a point, clean", 2,
+                   "A B C\n0 1.5 1\n1.5 0 1\n1 1 0\n", "00000003 2 0.5\n");
+    expect_listing("half a point, splits", 3,
+                   "A B C\n0 1 1\n1 0 1.5\n1 1.5 0\n",
+                   "00000002 1 1.5\n00000004 1 1.5\n00000006 2 0.5\n");
+    expect_listing("two copies at 0.5", 3, "A B\n0 0.5\n0.5 0\n",
+                   "00000002 1 1\n");
+    expect_listing("below 0", 1, "A B\n-0.5 -7.5\n-7.5 -7\n",
+                   "00000001 1 7\n00000002 1 0.5\n");
+    expect_listing("the ends of the range", 1,
+                   "A B\n1000000 -999999.5\n-999999.5 999999.5\n",
+                   "00000001 1 1999999.5\n00000002 1 1999999\n");
+    expect_listing("a mark beside halves", 1,
+                   "A B C\n1000000 - 0.5\n- 9 0.5\n0.5 0.5 1\n",
+                   "00000004 1 0.5\n");
+
+    const char *const bad[] = {".5",   "-.5",        "5.",          "-5.",
+                               "5.0",  "0.0",        "-0.0",        "00.5",
+                               "07.5", "-00.5",      "0.50",        "0.05",
+                               "1.4",  "1.6",        "12345678.5",  "5.5.5",
+                               "5..5", "5.-5",       "5.5-",        "--0.5",
+                               "-.",   ".",          "5 .5",        "5. 5",
+                               "0.5 ", "-12345678.5"};
+    char sheet[64];
+    for (size_t i = 0; i < sizeof bad / sizeof bad[0]; i++) {
+        snprintf(sheet, sizeof sheet, "A\n%s\n", bad[i]);
+        refuses(1, sheet, 8);
+        snprintf(sheet, sizeof sheet, "A B\n0 %s\n0 0\n", bad[i]);
+        refuses(3, sheet, 8);
+    }
+    const char *const far[] = {"1000000.5", "-1000000.5", "9999999.5",
+                               "-9999999.5"};
+    for (size_t i = 0; i < sizeof far / sizeof far[0]; i++) {
+        snprintf(sheet, sizeof sheet, "A\n%s\n", far[i]);
+        for (int32_t kind = 1; kind <= 3; kind++)
+            refuses(kind, sheet, 11);
+    }
+    refuses(1, "A.\n0\n", 4);
+    refuses(1, ".\n0\n", 4);
+    refuses(1, "A .5\n0 0\n0 0\n", 4);
+    refuses(1, ".", 4);
+    refuses(1, "A\n0.5", 7);
+    refuses(1, "A\n0.5\n.", 7);
+    refuses(1, "A B\n0 0.5\n-0.5 0\n", 9);
+    refuses(1, "A B\n0 7.5\n7 0\n", 9);
+    refuses(2, "A B\n0.5 -\n- 0.5\n", 16);
+    refuses(3, "A B\n0 -0.5\n-0.5 0\n", 12);
+    refuses(3, "A B\n0 1\n1 0.5\n", 12);
+}
+
+/* Every value of at most 7 digits before the point, of a few sorts, is read as
+   it is written: against a score of 0 it is the index of the first entry. */
+static void test_values(void)
+{
+    for (int64_t halves = 1; halves <= MAX_SCORE; halves += halves / 50 + 1) {
+        char sheet[128], line[128], value[32];
+        write_points(value, halves);
+        snprintf(sheet, sizeof sheet, "A B\n%s 0\n0 0\n", value);
+        snprintf(line, sizeof line, "00000001 1 %s\n", value);
+        expect_listing(sheet, 1, sheet, line);
+        snprintf(sheet, sizeof sheet, "A B\n0 -%s\n-%s 0\n", value, value);
+        snprintf(line, sizeof line, "00000001 1 %s\n00000002 1 %s\n", value,
+                 value);
+        expect_listing(sheet, 1, sheet, line);
+    }
 }
 
 /* ---- refusals ---- */
@@ -465,7 +554,7 @@ static void tree_pairs(bool distances, int n, int32_t step, int32_t noise,
     }
 }
 
-/* Independent values: few, so that ties abound, or the widest range. */
+/* Independent values: few, so that ties abound, or a wide range. */
 static void loose_pairs(bool distances, int n, int32_t *pairs)
 {
     int32_t values = random_below(4) == 0 ? 1000001 : 1 + random_below(6);
@@ -489,7 +578,8 @@ static void unscore(int n, int32_t *pairs)
                 pairs[a * (a + 1) / 2 + b] = UNSCORED;
 }
 
-static void random_pairs(int32_t kind, int n, int32_t *pairs)
+/* Numbers that are in range as points as well as half points. */
+static void random_numbers(int32_t kind, int n, int32_t *pairs)
 {
     int32_t step = 1 + random_below(8), noise = random_below(5);
     if (random_below(3) == 0)
@@ -498,6 +588,30 @@ static void random_pairs(int32_t kind, int n, int32_t *pairs)
         tree_pairs(kind == 3, n, step, noise, pairs);
     if (kind == 1 && random_below(2) == 0)
         unscore(n, pairs);
+}
+
+static void double_pairs(int n, int32_t *pairs)
+{
+    for (int i = 0; i < n * (n + 1) / 2; i++)
+        if (pairs[i] != UNSCORED)
+            pairs[i] *= POINT;
+}
+
+/* Half points: whole points only, any, or half a point less in every value that
+   may have it. */
+static void random_pairs(int32_t kind, int n, int32_t *pairs)
+{
+    random_numbers(kind, n, pairs);
+    int share = random_below(4);
+    if (share >= 2)
+        return;
+    double_pairs(n, pairs);
+    for (int a = 0; a < n && share == 1; a++)
+        for (int b = 0; b <= a; b++) {
+            int32_t *value = &pairs[a * (a + 1) / 2 + b];
+            if (*value != UNSCORED && (kind != 3 || (a != b && *value > 0)))
+                *value -= *value > -MAX_SCORE;
+        }
 }
 
 static void show_sheet(int32_t kind, int n, const int32_t *pairs)
@@ -526,9 +640,11 @@ static int run_engine(int32_t kind, int n, const int32_t *pairs, uint32_t *sets,
         fail("a slot beyond 2n was written");
 
     to += sprintf(to, "set size index\n");
-    for (int t = 0; t < count; t++)
-        to += sprintf(to, "%08" PRIx32 " %d %" PRId64 "\n", sets[t],
-                      size_of(sets[t]), indices[t]);
+    for (int t = 0; t < count; t++) {
+        to += sprintf(to, "%08" PRIx32 " %d ", sets[t], size_of(sets[t]));
+        to += write_points(to, indices[t]);
+        *to++ = '\n';
+    }
     size_t len = write_sheet(n, pairs, sheet);
     int64_t answer = call(kind, sheet, len, text, ROOM);
     if (answer != to - whole || memcmp(text, whole, (size_t)answer) != 0) {
@@ -539,6 +655,7 @@ static int run_engine(int32_t kind, int n, const int32_t *pairs, uint32_t *sets,
 }
 
 static long lines_seen[4], unscored_seen;
+static long indices_seen[3]; /* half a point, whole points, others */
 
 static bool has_unscored(int n, const int32_t *pairs)
 {
@@ -562,6 +679,10 @@ static void test_against_definitions(int sheets)
         lines_seen[kind] += wanted;
         if (has_unscored(n, pairs))
             unscored_seen += wanted;
+        for (int t = 0; t < wanted; t++)
+            indices_seen[expected_indices[t] == 1           ? 0
+                         : expected_indices[t] % POINT == 0 ? 1
+                                                            : 2]++;
         if (count != wanted ||
             memcmp(sets, expected, (size_t)count * sizeof *sets) != 0 ||
             memcmp(indices, expected_indices,
@@ -569,6 +690,66 @@ static void test_against_definitions(int sheets)
             show_sheet(kind, n, pairs);
             fail("engine and definitions");
         }
+    }
+}
+
+/* ---- whole points ---- */
+
+static long whole_seen, doubled_seen;
+
+/* The sheet of a list of points and its listing, as they were before there were
+   half points: numbers without a point. */
+static void test_whole_points(int sheets)
+{
+    for (int round = 0; round < sheets && failures == 0; round++) {
+        char sheet[4096], whole[ROOM], *to = sheet, *line = whole;
+        int32_t kind = 1 + round % 3, points[MAX_PAIRS];
+        int n = 1 + random_below(8);
+        uint32_t sets[2 * MAX_N];
+        int64_t indices[2 * MAX_N];
+        random_numbers(kind, n, points);
+        for (int i = 0; i < n; i++)
+            to += sprintf(to, "E%d%c", i, i < n - 1 ? ' ' : '\n');
+        for (int i = 0; i < n; i++)
+            for (int j = 0; j < n; j++) {
+                int64_t value = score(points, i, j);
+                to += value == UNSCORED ? sprintf(to, "-")
+                                        : sprintf(to, "%" PRId64, value);
+                *to++ = j < n - 1 ? ' ' : '\n';
+            }
+        *to = '\0';
+        int count = list_by_definition(kind, n, points, sets, indices);
+        for (int t = 0; t < count; t++)
+            line += sprintf(line, "%08" PRIx32 " %d %" PRId64 "\n", sets[t],
+                            size_of(sets[t]), indices[t]);
+        *line = '\0';
+        expect_listing("whole points", kind, sheet, whole);
+        if (failures > 0)
+            printf("kind %" PRId32 "\n%s", kind, sheet);
+        whole_seen += count;
+    }
+}
+
+/* A list and its double, of up to 32 entries: the same sets, each with twice the
+   index. */
+static void test_doubled_lists(int lists)
+{
+    for (int round = 0; round < lists && failures == 0; round++) {
+        int32_t kind = 1 + round % 3, pairs[MAX_PAIRS];
+        int n = 1 + random_below(MAX_N);
+        uint32_t sets[2 * MAX_N], twice_sets[2 * MAX_N];
+        int64_t indices[2 * MAX_N], twice[2 * MAX_N];
+        random_numbers(kind, n, pairs);
+        int64_t count = plain_numbers(kind, n, pairs, sets, indices);
+        double_pairs(n, pairs);
+        bool same = plain_numbers(kind, n, pairs, twice_sets, twice) == count;
+        for (int64_t t = 0; t < count && same; t++)
+            same = twice_sets[t] == sets[t] && twice[t] == POINT * indices[t];
+        if (!same) {
+            show_sheet(kind, n, pairs);
+            fail("a doubled list");
+        }
+        doubled_seen += count;
     }
 }
 
@@ -637,7 +818,7 @@ static void test_reordering(int sheets)
 /* Alters a few bytes of a sheet, or cuts it; answers its length. */
 static size_t alter(char *sheet, size_t len)
 {
-    const char bytes[] = "AZ019- \n\nx";
+    const char bytes[] = "AZ019- \n\nx.5";
     for (int change = random_below(3); change >= 0; change--)
         sheet[random_below((int32_t)len)] =
             bytes[random_below((int32_t)sizeof bytes - 1)];
@@ -724,6 +905,30 @@ static void test_pool_cases(void)
     expect_pool("1000000", "A\n999999\n", "A\n1\n", "A\n1000000\n");
     expect_pool("-1000000", "A\n-1000000\n", "A\n0\n", "A\n-1000000\n");
     expect_pool("1000000 and the mark", "A\n1000000\n", "A\n-\n", "A\n-\n");
+    expect_pool("halves", "A B\n0.5 -0.5\n-0.5 7\n", "B A\n6.5 0\n0 0.5\n",
+                "A B\n1 -0.5\n-0.5 13.5\n");
+    expect_pool("999999.5 and 0.5", "A\n999999.5\n", "A\n0.5\n",
+                "A\n1000000\n");
+    expect_pool("-1000000 and 0.5", "A\n-1000000\n", "A\n0.5\n",
+                "A\n-999999.5\n");
+}
+
+/* 32 names of 8 bytes and values of 9. */
+static void test_longest_pool(void)
+{
+    static char sheets[3][MAX_SHEET];
+    const char *const values[] = {"-500000", "-499999.5", "-999999.5"};
+    for (int t = 0; t < 3; t++) {
+        char *to = sheets[t];
+        for (int i = 0; i < MAX_N; i++)
+            to += sprintf(to, "ENTRY%03d%c", i, i < MAX_N - 1 ? ' ' : '\n');
+        for (int i = 0; i < MAX_N * MAX_N; i++)
+            to += sprintf(to, "%s%c", values[t],
+                          i % MAX_N < MAX_N - 1 ? ' ' : '\n');
+    }
+    if (strlen(sheets[2]) != MAX_POOL)
+        fail("the longest pool is another");
+    expect_pool("longest pool", sheets[0], sheets[1], sheets[2]);
 }
 
 static void test_pool_refusals(void)
@@ -758,6 +963,10 @@ static void test_pool_refusals(void)
     refuses_pool("A1\n0\n", "A11\n0\n", 17);
     refuses_pool("A\n1000000\n", "A\n1\n", 18);
     refuses_pool("A\n-1\n", "A\n-1000000\n", 18);
+    refuses_pool("A\n1000000\n", "A\n0.5\n", 18);
+    refuses_pool("A\n-999999.5\n", "A\n-1\n", 18);
+    refuses_pool("A\n1000000.5\n", "A\n-1\n", 11);
+    refuses_pool("A\n0\n", "A\n0.0\n", 8);
     refuses_pool("A B\n0 -\n- 600000\n", "B A\n600000 1\n1 0\n", 18);
 
     /* 17 before 18, and both before 14. */
@@ -783,6 +992,15 @@ static bool add_pairs(int n, const int32_t *s, const int32_t *t, int32_t *sums)
     return in_range;
 }
 
+/* One sum at an end of the range, or half a point or a point beyond. */
+static void far_sum(int n, int32_t *s, int32_t *t)
+{
+    int place = random_below(n * (n + 1) / 2);
+    int32_t sign = random_below(2) == 0 ? 1 : -1, part = random_below(MAX_SCORE);
+    s[place] = sign * (MAX_SCORE - part);
+    t[place] = sign * (part + random_below(POINT + 1));
+}
+
 /* Two lists, written in any two orders: the pool is their sum in the first's. */
 static void test_random_pools(int sheets)
 {
@@ -793,6 +1011,8 @@ static void test_random_pools(int sheets)
         uint8_t text[MAX_POOL];
         random_pairs(1, n, s);
         random_pairs(1, n, t);
+        if (random_below(8) == 0)
+            far_sum(n, s, t);
         random_order(n, p);
         random_order(n, q);
         size_t first_len = write_ordered(n, p, s, first);
@@ -1032,25 +1252,39 @@ int main(int argc, char **argv)
 {
     int sheets = argc > 1 ? atoi(argv[1]) : 6000;
     test_bench_cases();
+    test_half_points();
+    test_values();
     test_refusals();
     test_against_definitions(sheets);
+    test_whole_points(sheets / 2);
+    test_doubled_lists(sheets / 10);
     test_reordering(sheets / 10);
     test_altered_sheets(sheets * 10);
     test_pool_cases();
+    test_longest_pool();
     test_pool_refusals();
     test_random_pools(sheets);
     test_altered_pools(sheets);
     test_weight_cases();
     test_weight_refusals();
     test_weights(sheets / 10);
+    if (indices_seen[0] == 0 || indices_seen[1] == 0 || indices_seen[2] == 0 ||
+        whole_seen == 0 || doubled_seen == 0 || pools_seen == 0 ||
+        sums_refused == 0)
+        fail("lines of half a point, of whole points, others, of lists of points, "
+             "pools, or sums out of range: none of a sort was met");
     if (failures > 0) {
         printf("%d differences\n", failures);
         return 1;
     }
     printf("no difference; lines checked: strong %ld, %ld of them with unscored "
-           "pairs, clean %ld, splits %ld; pools %ld, refused for a sum %ld; "
-           "weights below 0 %ld, 0 %ld, above %ld\n",
-           lines_seen[1], unscored_seen, lines_seen[2], lines_seen[3], pools_seen,
-           sums_refused, weights_seen[0], weights_seen[1], weights_seen[2]);
+           "pairs, clean %ld, splits %ld; of half a point %ld, of whole points "
+           "%ld, others %ld; as before there were half points %ld, doubled %ld; "
+           "pools %ld, refused for a sum %ld; weights below 0 %ld, 0 %ld, above "
+           "%ld\n",
+           lines_seen[1], unscored_seen, lines_seen[2], lines_seen[3],
+           indices_seen[0], indices_seen[1], indices_seen[2], whole_seen,
+           doubled_seen, pools_seen, sums_refused, weights_seen[0],
+           weights_seen[1], weights_seen[2]);
     return 0;
 }

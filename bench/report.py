@@ -20,11 +20,14 @@ Microseconds of the whole C call: the sheet is read and checked, the groups are 
 process and take turns on the same 32 sheets, many short repeats each; the time is that which the process has had on a processor. Before
 that, `tests/comparison.sh` has held both against the second engine.
 
-The plain C engine (`plain.c`) stops the search for a set's index as soon as it is known to be below 1, since the set is then not listed.
-It is measured as it is. On near-tree sheets every set that it tries is listed, so nothing is stopped; on the larger random sheets most
-searches are.
+The plain C engine (`plain.c`) stops the search for a set's index as soon as it is known to be below half a point, since the set is then
+not listed. It is measured as it is. On near-tree sheets every set that it tries is listed, so nothing is stopped; on the larger random
+sheets most searches are.
 
 The ratio is that of the best times. Bytes and lines (after the first) are means over the sheets."""
+
+HALVES = """\
+The same call on near-tree sheets in which half of the values, chosen at random, end in `.5`."""
 
 SHARED = """\
 Microseconds of `farzhudyl_smallest_shared` on the same sheets' pair lists, for the first and the last entry; beside it, the plain engine's
@@ -44,6 +47,7 @@ these lists a listed split, and of negative weight. Quartets are means."""
 # What is told of the sheets beside the times of a call.
 FACTS = {
     "listing": ["bytes", "lines"],
+    "halves": ["bytes", "lines"],
     "shared": ["in a group"],
     "pool": ["bytes read", "bytes written"],
     "weight": ["quartets"],
@@ -109,10 +113,11 @@ def growth_table(cells, sort):
 
 
 def results(cells, machine):
-    listing, shared, pool, weight = (cells[call] for call in ("listing", "shared", "pool", "weight"))
+    listing, halves, shared, pool, weight = (cells[call] for call in FACTS)
     parts = ["# The engine beside plain C", METHOD, "![Times by number of entries](chart.svg)"]
     for sort, title in SORTS.items():
         parts += [f"## {title}", times_table(listing, "listing", sort), growth_table(listing, sort)]
+    parts += ["## Sheets with half points", HALVES, times_table(halves, "halves", "near-tree")]
     parts += ["## The smallest group that two entries share", SHARED]
     for sort in SORTS:
         parts += [f"{sort.capitalize()} lists:", times_table(shared, "shared", sort)]

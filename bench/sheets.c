@@ -3,6 +3,8 @@
 #include <inttypes.h>
 #include <stdio.h>
 
+enum { POINT = 2 }; /* in half points, the unit of a pair list */
+
 static int32_t random_below(int32_t bound)
 {
     static uint64_t seed = 1;
@@ -42,14 +44,23 @@ void near_tree(bool distances, int n, int32_t *pairs)
     }
     for (int a = 0; a < n; a++)
         for (int b = 0; b <= a; b++)
-            *pairs++ = value[a][b];
+            *pairs++ = POINT * value[a][b];
 }
 
 void unstructured(bool distances, int n, int32_t *pairs)
 {
     for (int a = 0; a < n; a++)
         for (int b = 0; b <= a; b++)
-            *pairs++ = distances && a == b ? 0 : random_below(1000001);
+            *pairs++ = distances && a == b ? 0 : POINT * random_below(1000001);
+}
+
+void near_tree_halves(bool distances, int n, int32_t *pairs)
+{
+    near_tree(distances, n, pairs);
+    for (int a = 0; a < n; a++)
+        for (int b = 0; b <= a; b++, pairs++)
+            if (!distances || a != b)
+                *pairs += random_below(POINT);
 }
 
 void any_order(int n, int *order)
@@ -69,6 +80,16 @@ size_t write_sheet(int n, const int32_t *pairs, uint8_t *text)
     return write_ordered(n, order, pairs, text);
 }
 
+/* Writes a value in points; answers its length. */
+static int write_value(char *to, int32_t value)
+{
+    if (value == INT32_MIN)
+        return sprintf(to, "-");
+    int32_t size = value < 0 ? -value : value;
+    return sprintf(to, "%s%" PRId32 "%s", value < 0 ? "-" : "", size / POINT,
+                   size % POINT == 0 ? "" : ".5");
+}
+
 size_t write_ordered(int n, const int *order, const int32_t *pairs, uint8_t *text)
 {
     char *to = (char *)text;
@@ -78,9 +99,7 @@ size_t write_ordered(int n, const int *order, const int32_t *pairs, uint8_t *tex
         for (int j = 0; j < n; j++) {
             int a = order[i], b = order[j];
             int high = a > b ? a : b, low = a + b - high;
-            int32_t value = pairs[high * (high + 1) / 2 + low];
-            to += value == INT32_MIN ? sprintf(to, "-")
-                                     : sprintf(to, "%" PRId32, value);
+            to += write_value(to, pairs[high * (high + 1) / 2 + low]);
             *to++ = j < n - 1 ? ' ' : '\n';
         }
     return (size_t)(to - (char *)text);
