@@ -1,5 +1,5 @@
 //! The bench of document 01, starred cases and others, and its worked example;
-//! unscored pairs (request 2.2).
+//! unscored pairs (request 2.2); half points (request 2.6).
 
 use second_engine::compare::{Case, Expected};
 
@@ -115,6 +115,59 @@ pub fn cases() -> Vec<(i32, String, Answer)> {
         for ill_formed in ["--", "- ", " -", "-2147483648"] {
             add(kind, &format!("A\n{ill_formed}\n"), Err(8));
         }
+    }
+
+    // The worked example with halves; then an index of half a point, and none.
+    let half = "A B C D\n9 8.5 6 2\n8.5 9 5.5 3\n6 5.5 9 -0.5\n2 3 -0.5 9\n";
+    let singles = "00000001 1 0.5\n00000002 1 0.5\n00000004 1 3\n00000008 1 6\n";
+    let strong = format!("{singles}00000003 2 2.5\n00000007 3 2.5\n");
+    add(1, half, Ok(&strong));
+    add(2, half, Ok("00000003 2 2.5\n00000007 3 6.5\n"));
+    add(1, "A B\n5.5 5\n5 5\n", Ok("00000001 1 0.5\n"));
+    add(1, "A B\n5 5\n5 4.5\n", Ok(""));
+    let pair = "A B C\n0 1.5 1\n1.5 0 1\n1 1 0\n";
+    add(2, pair, Ok("00000003 2 0.5\n"));
+    let three = "A B C\n0 1 1\n1 0 1.5\n1 1.5 0\n";
+    let lines = "00000002 1 1.5\n00000004 1 1.5\n00000006 2 0.5\n";
+    add(3, three, Ok(lines));
+    add(3, "A B\n0 0.5\n0.5 0\n", Ok("00000002 1 1\n"));
+    let below = "A B\n-0.5 -7.5\n-7.5 -7\n";
+    add(1, below, Ok("00000001 1 7\n00000002 1 0.5\n"));
+    let ends = "A B\n1000000 -999999.5\n-999999.5 999999.5\n";
+    let lines = "00000001 1 1999999.5\n00000002 1 1999999\n";
+    add(1, ends, Ok(lines));
+    let apart = "A B C\n1000000 - 0.5\n- 9 0.5\n0.5 0.5 1\n";
+    add(1, apart, Ok("00000004 1 0.5\n"));
+    for kind in 1..=3 {
+        for far in ["1000000.5", "-1000000.5", "9999999.5", "-9999999.5"] {
+            add(kind, &format!("A\n{far}\n"), Err(11));
+        }
+        for ill_formed in [
+            ".5",
+            "-.5",
+            "5.",
+            "5.0",
+            "00.5",
+            "0.50",
+            "12345678.5",
+            "5.5.5",
+        ] {
+            add(kind, &format!("A\n{ill_formed}\n"), Err(8));
+            add(kind, &format!("A B\n0 0\n0 {ill_formed}\n"), Err(8));
+        }
+        for line in ["A.", ".A", "A.5", ".", "A ."] {
+            add(kind, &format!("{line}\n0.5\n"), Err(4));
+        }
+        add(kind, "A\n0.5", Err(7));
+        add(kind, "A\n0.5\n.", Err(7));
+        add(kind, "A B\n0 0.5\n0 0\n", Err(9));
+        add(kind, "A B\n0 0.5\n-0.5 0\n", Err(9));
+        add(kind, "A\n0,5\n", Err(3));
+    }
+    add(3, "A B\n0 -0.5\n-0.5 0\n", Err(12));
+    add(3, "A B\n0 0.5\n0.5 0.5\n", Err(12));
+    for kind in [2, 3] {
+        add(kind, "A B\n0.5 -\n- 0.5\n", Err(16));
     }
     cases
 }

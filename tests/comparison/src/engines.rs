@@ -4,7 +4,7 @@
 use crate::calls::{farzhudyl_listing, farzhudyl_pool, farzhudyl_refined_weight};
 use crate::lent::{Lent, FLIPS};
 use crate::parts::Parts;
-use second_engine::{compare, pooling, weighing};
+use second_engine::{compare, halves, pooling, weighing};
 use std::hint::black_box;
 
 type ListingCall = unsafe extern "C" fn(i32, *const u8, usize, *mut u8, usize) -> i64;
@@ -110,6 +110,11 @@ impl Engine {
 
     pub fn check_listing(&self, expected: &compare::Expected) -> Result<(), String> {
         compare::check(self.name, |k, s, o| self.listing(k, s, o), expected)
+    }
+
+    /// A sheet without a point is answered as before there were half points.
+    pub fn check_whole(&self, case: &compare::Case) -> Result<i64, String> {
+        halves::check_whole(self.name, |k, s, o| self.listing(k, s, o), case.clone())
     }
 
     pub fn check_pool(&self, expected: &pooling::Expected) -> Result<(), String> {

@@ -2,12 +2,12 @@
 //! over with them.
 
 use crate::sheet_call::small_table;
-use second_engine::engine::{self, UNSCORED};
+use second_engine::engine::{self, GREATEST, UNSCORED};
 use second_engine::generate::{self, Random, Share, Table, MARK, SHARES};
 use std::hint::black_box;
 use std::ops::RangeInclusive;
 
-/// A list of values, said to be the pair list of n entries.
+/// A list of values, in half points, said to be the pair list of n entries.
 #[derive(Clone, Debug, PartialEq, Eq)]
 pub struct List {
     pub n: usize,
@@ -82,7 +82,7 @@ pub fn scores(random: &mut Random) -> List {
 pub fn scores_of(random: &mut Random, n: usize) -> List {
     let mut list = List::of(&generate::scores(random, n));
     if random.one_in(8) {
-        let ends = [-1_000_000, -999_999, -1, 0, 1, 999_999, 1_000_000];
+        let ends = [-GREATEST, 1 - GREATEST, -1, 0, 1, GREATEST - 1, GREATEST];
         list.pairs.fill_with(|| random.of(&ends));
     }
     if random.one_in(3) {
@@ -116,8 +116,9 @@ pub fn flawed(random: &mut Random, mut list: List) -> List {
 }
 
 fn flaw(random: &mut Random, list: &mut List) {
-    let far = [1_000_001, -1_000_001, i32::MAX, UNSCORED + 1, 2_000_000];
-    let few = [-1_000_000, -1, 1, 2, 1_000_000];
+    let near = [GREATEST + 1, -GREATEST - 1, GREATEST + 2];
+    let far = [&near[..], &[i32::MAX, UNSCORED + 1, 2 * GREATEST]].concat();
+    let few = [-GREATEST, -1, 1, 2, GREATEST];
     let n = list.n;
     match random.below(9) {
         0 => {

@@ -8,10 +8,12 @@
 //! * `weight_call`: the refined weight of a split.
 //! * `reader_calls`: the calls on a sheet that write no listing.
 //! * `unscored`: pairs never compared, and what follows where they are scored.
+//! * `halves`: half points in every share, whole points as before, doubled lists.
 
 mod bench;
 mod calls;
 mod engines;
+mod halves;
 mod lent;
 mod lists;
 mod number_calls;
@@ -43,6 +45,7 @@ fn main() -> ExitCode {
     weight_call::run(cases, seed, &mut parts);
     reader_calls::run(cases / 5, seed, &mut parts);
     unscored::run(cases / 30, seed, &mut parts);
+    halves::run(cases / 40, seed, &mut parts);
     parts.end()
 }
 

@@ -1,11 +1,12 @@
-//! The pool of two sheets by each engine: generated calls, every order of the
-//! second's names, names of all few choices, all small sheets, sums of all lengths
-//! and at the ends of the range, buffers of every length; and the groups of pools.
+//! The pool of two sheets by each engine: generated calls, sheets that a point makes
+//! wrong, every order of the second's names, names of all few choices, all small
+//! sheets, sums of all lengths and at the ends of the range, buffers of every
+//! length; and the groups of pools.
 
 use crate::engines::Outcomes;
 use crate::parts::{met, Parts};
 use crate::sheet_call::small_table;
-use second_engine::generate::{self, Random, Table, MARK};
+use second_engine::generate::{self, Random, Table, FAR, MARK};
 use second_engine::pooling::{
     self, check_groups, Case, Expected, Met, MOST_BYTES, OF_A_POOL, OF_A_SHEET,
 };
@@ -13,6 +14,7 @@ use second_engine::pooling::{
 pub fn run(cases: usize, seed: u64, parts: &mut Parts) {
     generated_calls(cases, seed, parts);
     let mut random = Random::new(!seed);
+    wrong_points(&mut random, cases / 50, parts);
     every_order(&mut random, parts);
     few_names(parts);
     small_sheets(parts);
@@ -74,6 +76,37 @@ fn generated_calls(cases: usize, seed: u64, parts: &mut Parts) {
     let outcome = met("pools of two refused sheets, of different numbers", *both);
     parts.add("pool, both sheets refused", outcome);
     calls.add_to(parts, "pool, generated calls", &OF_A_POOL);
+}
+
+/// The refusals of a sheet that a point can bring about.
+const BY_POINTS: [usize; 5] = [4, 7, 8, 9, 11];
+
+/// A sheet that a point makes wrong, as the first and as the second.
+fn wrong_points(random: &mut Random, cases: usize, parts: &mut Parts) {
+    let mut calls = Calls::default();
+    for number in BY_POINTS {
+        for _ in 0..cases {
+            let n = generate::entries(random);
+            let [good, partner] = pooling::tables(random, n);
+            let bad = generate::pointed(random, number).sheet;
+            for (first, second) in [
+                (bad.clone(), good.sheet()),
+                (good.sheet(), bad),
+                (good.sheet(), partner.sheet()),
+            ] {
+                let room = MOST_BYTES;
+                calls.check(&Expected::of(Case {
+                    first,
+                    second,
+                    room,
+                }));
+            }
+        }
+    }
+    let Met { first, second, .. } = &calls.met;
+    parts.add_refusals("pool, points on the first sheet", first, &BY_POINTS);
+    parts.add_refusals("pool, points on the second sheet", second, &BY_POINTS);
+    calls.add_to(parts, "pool, sheets that a point makes wrong", &[]);
 }
 
 /// The second sheet in every order gives the same bytes.
@@ -143,7 +176,7 @@ fn few_names(parts: &mut Parts) {
 
 /// Two entries in both orders, with every choice of these values.
 fn small_sheets(parts: &mut Parts) {
-    const VALUES: [i64; 4] = [-1, 0, 1, MARK];
+    const VALUES: [i64; 5] = [-2, -1, 0, 1, MARK];
     let sheets = VALUES.len().pow(3);
     let mut calls = Calls::default();
     for number in 0..sheets * sheets {
@@ -155,18 +188,19 @@ fn small_sheets(parts: &mut Parts) {
     calls.add_to(parts, "pool, all small sheets", &[]);
 }
 
-/// One entry: sums of each number of digits, and at the ends of the range and
-/// beyond, of several pairs of scores; and the mark on either sheet.
+/// One entry: sums of each number of digits, whole and with a half, and at the ends
+/// of the range and half a point or more beyond, of several pairs of scores; and
+/// the mark on either sheet.
 fn every_sum(parts: &mut Parts) {
-    let powers = (0..=6).map(|digits| 10i64.pow(digits));
-    let near = powers.flat_map(|power| [power - 1, power, power + 1]);
-    let sums = near.chain([2_000_000]).flat_map(|sum| [sum, -sum]);
+    let powers = (0..=6).map(|digits| 2 * 10i64.pow(digits));
+    let near = powers.flat_map(|power| (power - 3..=power + 3).collect::<Vec<_>>());
+    let sums = near.chain([2 * FAR]).flat_map(|sum| [sum, -sum]);
     let one = |value| small_table(1, true, &[value], 0);
     let mut calls = Calls::default();
     for sum in sums {
-        for added in [0, 1, -1, 7, 500_000, -500_000, 1_000_000, -1_000_000, MARK] {
+        for added in [0, 1, -1, 7, FAR / 2, -FAR / 2, FAR, -FAR, MARK] {
             let score = if added == MARK { sum } else { sum - added };
-            if (-1_000_000..=1_000_000).contains(&score) {
+            if (-FAR..=FAR).contains(&score) {
                 calls.pool(&one(score), &one(added));
                 calls.pool(&one(added), &one(score));
             }
@@ -190,19 +224,27 @@ fn every_room(parts: &mut Parts) {
         }
     };
     for n in [1, 2, 3, 5] {
-        let all: Vec<usize> = (0..=n * (9 + 9 * n) + 2).collect();
+        let all: Vec<usize> = (0..=n * (9 + 10 * n) + 2).collect();
         check(&pooling::tables(&mut random, n), &all);
     }
-    let mut widest = small_table(32, true, &[-999_999], 0);
+    let mut widest = small_table(32, true, &[2 - FAR], 0);
     for (entry, name) in widest.names.iter_mut().enumerate() {
         *name = format!("ENTRY{entry:03}");
     }
     let mut added = widest.clone();
+    // Minus half a point.
     added.values = vec![vec![-1; 32]; 32];
     let order = generate::order(&mut random, 32);
-    let near = [0, 1, 9_503, MOST_BYTES, 9_505, 12_288, 20_000];
-    check(&[widest, added.reordered(&order)], &near);
+    let near = [0, 1, 9_504, 10_527, 10_528, 10_529, 10_560, 12_288, 20_000];
+    let tables = [widest, added.reordered(&order)];
+    let longest = whole(&tables[0], &tables[1]).answer;
+    check(&tables, &near);
     calls.add_to(parts, "pool, buffers of every length", &[14]);
+    let outcome = match longest {
+        10_528 => Ok(()),
+        other => Err(format!("{other} bytes")),
+    };
+    parts.add("pool, the longest has 10,528 bytes", outcome);
 }
 
 /// What is strong in both sheets, by each engine's own listings and pools.

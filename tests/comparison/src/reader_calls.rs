@@ -1,5 +1,5 @@
-//! The calls on a sheet that write no listing: the pair list, and the name of an
-//! entry.
+//! The calls on a sheet that write no listing: the pair list, of values of all few
+//! bytes and of all lengths too, and the name of an entry.
 
 use crate::calls::{self, MOST_PAIRS};
 use crate::lent::{Lent, FLIPS};
@@ -24,6 +24,8 @@ const READER: Call = Call {
 pub fn run(cases: usize, seed: u64, parts: &mut Parts) {
     parts.add_generated(&READER, cases, seed);
     parts.add("reader, sheets of all few texts", sheets_of_texts());
+    parts.add("reader, values of all few bytes", values_of_few_bytes());
+    parts.add("reader, values of every length", values_of_every_length());
     let mut random = Random::new(!seed);
     let mut names = Names::default();
     let outcome = names.generated(&mut random, cases);
@@ -68,6 +70,53 @@ fn sheets_of_texts() -> Result<(), String> {
         unscored += usize::from(read && pairs.contains(&UNSCORED));
     }
     met("sheets with unscored pairs that are read", unscored)
+}
+
+/// A sheet of one entry.
+fn check_value(text: &str) -> Result<i64, String> {
+    check_reader(format!("A\n{text}\n").as_bytes())
+}
+
+/// Every text of up to five of these bytes: some are values, others are not.
+fn values_of_few_bytes() -> Result<(), String> {
+    let mut texts = vec![String::new()];
+    let mut tally = Tally::default();
+    for _ in 0..5 {
+        texts = texts
+            .iter()
+            .flat_map(|text| "-.057 ".chars().map(move |byte| format!("{text}{byte}")))
+            .collect();
+        for text in &texts {
+            tally.count(check_value(text)?);
+        }
+    }
+    met(
+        "texts of few bytes that are values",
+        tally.listings as usize,
+    )?;
+    met(
+        "texts of few bytes that are none",
+        tally.refusals[8] as usize,
+    )
+}
+
+/// Values of 1 to 7 digits and one more, whole and with a half, of either sign, as
+/// they are written; those of a digit too many are refused.
+fn values_of_every_length() -> Result<(), String> {
+    let mut tally = Tally::default();
+    for digits in 0..=7 {
+        let power = 10i64.pow(digits);
+        for points in [power - 1, power, power + 1, power + power / 2, 9 * power] {
+            for sign in [1, -1] {
+                for half in [0, 1] {
+                    let text = engine::in_points(sign * (2 * points + half));
+                    tally.count(check_value(&text)?);
+                }
+            }
+        }
+    }
+    met("values that are read", tally.listings as usize)?;
+    met("values of a digit too many", tally.refusals[8] as usize)
 }
 
 // -------------------------------------------------------------------- Names

@@ -8,7 +8,7 @@ use crate::lent::{Lent, FLIPS};
 use crate::lists::{self, call_on, marked, pair_count, small, List};
 use crate::parts::Parts;
 use second_engine::compare::Tally;
-use second_engine::engine::{self, Refusal, CLEAN, SPLITS, STRONG};
+use second_engine::engine::{self, Refusal, CLEAN, GREATEST, SPLITS, STRONG};
 use second_engine::generate::{self, Random, Table, MARK, SHARES};
 use second_engine::reordering::{image, parse_listing};
 
@@ -182,19 +182,21 @@ fn small_lists() -> Result<(), String> {
     Ok(())
 }
 
-/// Entries join one by one.
+/// Entries join one by one, by steps of half a point, of a point, or of more.
 fn most_groups() -> Result<(), String> {
     let mut met = Met::default();
     for n in (0..=13).chain(32..=34) {
-        let score = |a, b| match a == b {
-            true => 1_000_000,
-            false => 100 * (n - a) as i32,
-        };
-        let pairs = (0..n).flat_map(|a| (0..=a).map(move |b| score(a, b)));
-        met.check_all(&List {
-            n,
-            pairs: pairs.collect(),
-        })?;
+        for step in [1, 2, 99] {
+            let score = |a, b| match a == b {
+                true => GREATEST,
+                false => step * (n - a) as i32,
+            };
+            let pairs = (0..n).flat_map(|a| (0..=a).map(move |b| score(a, b)));
+            met.check_all(&List {
+                n,
+                pairs: pairs.collect(),
+            })?;
+        }
     }
     Ok(())
 }

@@ -124,9 +124,13 @@ fn sheets_of_texts(parts: &mut Parts) {
 
 /// Sheets of one entry and of two with every choice of these texts for values.
 pub fn small_texts() -> impl Iterator<Item = Vec<u8>> {
-    const TEXTS: [&str; 11] = [
+    const TEXTS: [&str; 15] = [
         "0",
         "1",
+        "0.5",
+        "-0.5",
+        ".5",
+        "1000000.5",
         "-",
         "-1",
         "--",
@@ -146,7 +150,8 @@ pub fn small_texts() -> impl Iterator<Item = Vec<u8>> {
     one.chain(two).map(String::into_bytes)
 }
 
-/// The digits of the number choose a value for each pair, own ones or not.
+/// The digits of the number choose a value, in half points, for each pair, own ones
+/// or not.
 pub fn small_table(n: usize, own: bool, values: &[i64], mut number: usize) -> Table {
     let mut table = Table {
         names: (0..n).map(|a| format!("E{a}")).collect(),

@@ -7,7 +7,7 @@ use crate::engines::{Engine, Outcomes};
 use crate::lists::{self, marked, pair_count, small, List};
 use crate::parts::{met, Parts};
 use second_engine::engine::{SPLITS, UNSCORED};
-use second_engine::generate::{self, Random, Table, MARK};
+use second_engine::generate::{self, Random, Table, FAR, MARK};
 use second_engine::reordering::parse_listing;
 use second_engine::weighing::{
     self, check_list, check_order, is_weighed, Case, Expected, Found, Met, OF_A_WEIGHT,
@@ -237,6 +237,10 @@ fn known_weights(parts: &mut Parts) {
     check(&copies, 0b1100, 8 - 4);
     check(&copies, 0b0101, 4 - 8);
     check(&copies, 0b1001, 4 - 8);
+    // In half points 2 and a half, 2 and 4 are 5, 4 and 8.
+    let halves = table(4, &[5, 8, 8, 8, 8, 4]);
+    check(&halves, 0b1100, 16 - 9);
+    check(&halves, 0b0101, 9 - 16);
     // 01|23 has 10 - 4, 01|24 has 11 - 5, 01|34 has 12 - 3.
     let equal = table(5, &[1, 5, 5, 6, 5, 3, 7, 6, 4, 2]);
     check(&equal, 0b00011, 6 + 6);
@@ -253,7 +257,7 @@ fn known_weights(parts: &mut Parts) {
             check(&row(n), whole(k), 10 * (n as i64 - 3));
         }
         let odd = 0xaaaa_aaaa & whole(n);
-        for (across, within) in [(1_000_000, 0), (0, 1_000_000), (7, 7)] {
+        for (across, within) in [(FAR, 0), (0, FAR), (FAR - 1, 0), (1, 0), (7, 7)] {
             let mut table = row(n);
             for a in 0..n {
                 for b in 0..a {
