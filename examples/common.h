@@ -1,5 +1,5 @@
-/* What the clients here do beside their calls: read a kind's number strictly, read the sheet, look into a set, see that the output is
-   written. */
+/* What the clients here do beside their calls: read a kind's number strictly, read the sheet, look into a set, write half points as
+   points, see that the output is written. */
 #ifndef COMMON_H
 #define COMMON_H
 
@@ -43,6 +43,21 @@ static inline bool read_sheet(const char *program, uint8_t sheet[FARZHUDYL_SHEET
 static inline bool has(uint32_t set, size_t entry)
 {
     return (set >> entry & 1) != 0;
+}
+
+/* Points as text. */
+typedef struct {
+    char text[24];
+} Points;
+
+/* Half points, the unit of the calls' numbers, in points as a listing writes them: 3 as `1.5`, 4 as `2`, -1 as `-0.5`. */
+static inline Points points(int64_t halves)
+{
+    Points written;
+    long long whole = halves / FARZHUDYL_POINT;
+    snprintf(written.text, sizeof written.text, "%s%lld%s", halves < 0 ? "-" : "", whole < 0 ? -whole : whole,
+             halves % FARZHUDYL_POINT == 0 ? "" : ".5");
+    return written;
 }
 
 /* The exit status, once all output is written. */

@@ -7,7 +7,7 @@
 
 static void print_line(const char *what, const Line *line)
 {
-    printf("%s: set %08lx, size %u, index %lld\n", what, (unsigned long)line->set, line->size, (long long)line->index);
+    printf("%s: set %08lx, size %u, index %s\n", what, (unsigned long)line->set, line->size, points(line->index).text);
 }
 
 int main(int argc, char **argv)

@@ -1,7 +1,8 @@
 /* Keeps the groups of a sheet as numbers: the pair list, the groups' sets and indices, and scores looked up in the pair list.
    usage: numbers KIND < SHEET     KIND is 1 (strong), 2 (clean) or 3 (splits)
-   Writes the count, then for each group its index, its entries, counted from 0, and the least value between two of them; or `refused N`,
-   and the exit status is 1. The sheet's checks come first here, the kind's after them. Bad usage, and input or output that fails: 2. */
+   Writes the count, then for each group its index, its entries, counted from 0, and the least value between two of them, in points as on
+   the sheet; or `refused N`, and the exit status is 1. The sheet's checks come first here, the kind's after them. Bad usage, and input
+   or output that fails: 2. */
 #include "common.h"
 
 /* Finds the least value between two members of a set. There is none if the set has fewer than two. */
@@ -43,12 +44,12 @@ int main(int argc, char **argv)
         return refused("numbers", answer);
     printf("groups %lld\n", (long long)answer);
     for (size_t g = 0; g < (size_t)answer; g++) {
-        printf("index %lld: entries", (long long)indices[g]);
+        printf("index %s: entries", points(indices[g]).text);
         for (size_t i = 0; i < n; i++)
             if (has(sets[g], i))
                 printf(" %zu", i);
         if (least_value(sets[g], n, pairs, &least))
-            printf(", least value between two of them %lld", (long long)least);
+            printf(", least value between two of them %s", points(least).text);
         printf("\n");
     }
     return finish("numbers", 0);

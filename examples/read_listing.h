@@ -7,6 +7,7 @@
 
 #include "farzhudyl.h"
 
+/* The index is in half points, as farzhudyl_numbers has it. */
 typedef struct {
     uint32_t set;
     unsigned size;
@@ -48,18 +49,28 @@ static bool read_set(Bytes *bytes, uint32_t *set)
     return true;
 }
 
-/* Reads a decimal number from 1 to 10^18 - 1, without a leading zero. */
+/* Reads a decimal number from 0 to 10^18 - 1, without a leading zero unless it is `0`. */
 static bool read_number(Bytes *bytes, int64_t *number)
 {
     int digits = 0;
     for (*number = 0; bytes->left > 0 && *bytes->at >= '0' && *bytes->at <= '9'; bytes->at++, bytes->left--) {
-        if (digits++ == 18)
+        if (digits == 18 || (digits > 0 && *number == 0))
             return false;
         *number = *number * 10 + (*bytes->at - '0');
-        if (*number == 0)
-            return false;
+        digits++;
     }
     return digits > 0;
+}
+
+/* Reads an index, which is in points and may end in `.5`, as half points: at least one. */
+static bool read_index(Bytes *bytes, int64_t *index)
+{
+    if (!read_number(bytes, index))
+        return false;
+    *index *= FARZHUDYL_POINT;
+    if (read_text(bytes, ".5"))
+        ++*index;
+    return *index > 0;
 }
 
 static unsigned members(uint32_t set)
@@ -81,10 +92,10 @@ static int read_listing(Bytes bytes, Line lines[FARZHUDYL_GROUPS_MAX])
         Line line;
         int64_t size;
         if (count == FARZHUDYL_GROUPS_MAX || !read_set(&bytes, &line.set) || !read_text(&bytes, " ") || !read_number(&bytes, &size) ||
-            !read_text(&bytes, " ") || !read_number(&bytes, &line.index) || !read_text(&bytes, "\n"))
+            !read_text(&bytes, " ") || !read_index(&bytes, &line.index) || !read_text(&bytes, "\n"))
             return -1;
         line.size = members(line.set);
-        if (size != (int64_t)line.size)
+        if (line.size == 0 || size != (int64_t)line.size)
             return -1;
         if (count > 0 && (line.size < lines[count - 1].size ||
                           (line.size == lines[count - 1].size && line.set <= lines[count - 1].set)))

@@ -34,7 +34,7 @@ static const char *reason(int64_t number)
 {
     switch (number) {
     case 2: return "the sheet has no bytes, or over 12,288";
-    case 3: return "a byte of the sheet is not A to Z, 0 to 9, minus, space or line feed";
+    case 3: return "a byte of the sheet is not A to Z, 0 to 9, minus, point, space or line feed";
     case 4: return "line 1 has no line feed, or is not one or more names, single spaces between";
     case 5: return "two names are equal";
     case 6: return "there are over 32 names";
@@ -50,7 +50,7 @@ static const char *reason(int64_t number)
 
 static void print_group(const Shown *shown, const Line *line, int depth)
 {
-    printf("%4u %9lld %*s", line->size, (long long)line->index, 2 * depth, "");
+    printf("%4u %9s %*s", line->size, points(line->index).text, 2 * depth, "");
     print_names(line->set, shown->entries, shown->names);
     printf("\n");
 }

@@ -1,8 +1,8 @@
 /* Weighs the splits of a sheet of distances: the refined weight of each.
    usage: weights [SET] < SHEET     SET is one side of a split, written as a listing writes it: 8 lower-case hexadecimal digits
-   Writes a line for each split of the listing that has two entries or more on each side: the set, the index, the weight, and the names
-   of the set. With SET, listed or not, the set, its weight and its names. Or `refused N`, and the exit status is 1. The sheet's checks
-   come first here, then the others. Bad usage, and input or output that fails: 2. */
+   Writes a line for each split of the listing that has two entries or more on each side: the set, the index and the weight in points,
+   and the names of the set. With SET, listed or not, the set, its weight and its names. Or `refused N`, and the exit status is 1. The
+   sheet's checks come first here, then the others. Bad usage, and input or output that fails: 2. */
 #include "common.h"
 #include "names.h"
 
@@ -26,7 +26,7 @@ static int64_t weigh_listed(size_t n, const int32_t *pairs, const Name *names)
     for (int64_t i = 0; i < count; i++) {
         if (farzhudyl_refined_weight(n, pairs, FARZHUDYL_PAIRS(n), sets[i], &weight) != 0)
             continue;
-        printf("%08lx index %lld weight %lld:", (unsigned long)sets[i], (long long)indices[i], (long long)weight);
+        printf("%08lx index %s weight %s:", (unsigned long)sets[i], points(indices[i]).text, points(weight).text);
         print_names(sets[i], n, names);
         printf("\n");
     }
@@ -40,7 +40,7 @@ static int64_t weigh_side(uint32_t side, size_t n, const int32_t *pairs, const N
     int32_t refusal = farzhudyl_refined_weight(n, pairs, FARZHUDYL_PAIRS(n), side, &weight);
     if (refusal != 0)
         return -refusal;
-    printf("%08lx weight %lld:", (unsigned long)side, (long long)weight);
+    printf("%08lx weight %s:", (unsigned long)side, points(weight).text);
     print_names(side, n, names);
     printf("\n");
     return 0;

@@ -45,7 +45,7 @@ mkdir "$built/c" "$built/c++" "$built/given" || exit 2
 words=('' strong clean splits)
 reasons=(
     [2]='the sheet has no bytes, or over 12,288'
-    [3]='a byte of the sheet is not A to Z, 0 to 9, minus, space or line feed'
+    [3]='a byte of the sheet is not A to Z, 0 to 9, minus, point, space or line feed'
     [4]='line 1 has no line feed, or is not one or more names, single spaces between'
     [5]='two names are equal'
     [6]='there are over 32 names'
@@ -195,17 +195,21 @@ on_names() { # FILE
     done
 }
 
-# Pools: in the order of either sheet, of a sheet with itself, and of as many bytes as there can be; 17, of two of four names too, and 18.
+# Pools: in the order of either sheet, of a sheet with itself, with half points, and of as many bytes as there can be; 17, of two of four
+# names too, and 18, for a whole point and for half a point.
 on_pools() { # COMMAND ..
     local four=examples/four.sheet two=$built/refused/12.own books=examples/books.sheet stones=examples/stones.sheet
     expect "$* of books and stones" 0 examples/pooled.sheet '' "$@" "$books" "$stones"
     expect "$* of stones and books" 0 tests/examples/pool/stones-books '' "$@" "$stones" "$books"
     expect "$* of four and four" 0 tests/examples/pool/four-four '' "$@" "$four" "$four"
+    expect "$* of halves and four" 0 tests/examples/pool/halves-four '' "$@" examples/halves.sheet "$four"
     expect "$* of 32 entries" 0 "$built/crowd.-1000000" '' "$@" "$built/crowd.-1" "$built/crowd.-999999"
+    expect "$* of the longest" 0 "$built/crowd.-999999.5" '' "$@" "$built/crowd.-0.5" "$built/crowd.-999999"
     expect_refusal "$* of other names" 17 pool "$@" "$four" examples/burials.sheet
     expect_refusal "$* of more names" 17 pool "$@" "$two" "$four"
     expect_refusal "$* of fewer names" 17 pool "$@" "$four" "$two"
     expect_refusal "$* of a sum out of range" 18 pool "$@" "$built/crowd.-1000000" "$built/crowd.-1"
+    expect_refusal "$* of a sum half a point out of range" 18 pool "$@" "$built/crowd.-1000000" "$built/crowd.-0.5"
 }
 
 # A refused sheet as the first and as the second to pool; where both are refused, it is the first that counts.
@@ -318,32 +322,46 @@ printf 'A B\n9 8\n8 9\r\n' >3.carriage-return
 printf 'A B\n9\t8\n8 9\n' >3.tab
 printf 'A b\n9 8\n8 9\n' >3.lower-case
 printf 'A B\n9 8\n8 9\n\0' >3.byte-0
+printf 'A B\n9 8,5\n8,5 9\n' >3.comma
 printf 'A B' >4.no-line-feed
 printf '\n' >4.no-name
 printf 'A  B\n9 8\n8 9\n' >4.two-spaces
 printf 'A LONGNAME9\n9 8\n8 9\n' >4.nine-bytes
+printf 'A B.\n9 8\n8 9\n' >4.point
 printf 'A B A\n9 8 7\n8 9 6\n7 6 9\n' >5.equal-names
 seq -f 'N%g' -s ' ' 33 >6.33-names
 printf 'A B\n9 8\n' >7.line-missing
 printf 'A B\n9 8\n8 9\n\n' >7.line-too-many
 printf 'A B\n9 8\n8 9' >7.no-line-feed
+printf 'A B\n9 8\n8 9\n.5' >7.point
 printf 'A B\n9 8\n8\n' >8.value-missing
 printf 'A B\n9 -0\n-0 9\n' >8.minus-zero
 printf 'A B\n9 8\n8 9 \n' >8.space-at-end
 printf 'A B\n9 --\n-- 9\n' >8.two-minus-signs
 printf 'A B\n9 -2147483648\n-2147483648 9\n' >8.ten-digits
+printf 'A B\n9 .5\n.5 9\n' >8.no-digit
+printf 'A B\n9 5.\n5. 9\n' >8.no-half
+printf 'A B\n9 5.0\n5.0 9\n' >8.no-half-but-0
+printf 'A B\n9 0.50\n0.50 9\n' >8.two-digits-behind
+printf 'A B\n9 12345678.5\n12345678.5 9\n' >8.eight-digits-and-half
 printf 'A B\n9 8\n7 9\n' >9.mirrored
+printf 'A B\n9 8.5\n8 9\n' >9.half-on-one-side
 printf 'A B\n9 -\n7 9\n' >9.mark-on-one-side
 printf 'A B\n0 1000001\n1000001 0\n' >11.over
 printf 'A B\n0 -1000001\n-1000001 0\n' >11.under
+printf 'A B\n0 1000000.5\n1000000.5 0\n' >11.over-by-half
+printf 'A B\n0 -1000000.5\n-1000000.5 0\n' >11.under-by-half
+printf 'A B\n0 9999999.5\n9999999.5 0\n' >11.seven-digits-and-half
 printf 'A B\n0 -1\n-1 0\n' >12.negative
+printf 'A B\n0 -0.5\n-0.5 0\n' >12.minus-half
 printf 'A B\n0 1\n1 1\n' >12.own
+printf 'A B\n0 1\n1 0.5\n' >12.own-half
 printf 'A B\n0 -\n- 0\n' >16.unscored
 printf 'A B\n- -1\n-1 1\n' >16.own-unscored
 cd "$root" || exit 2
 
 # 32 entries with names of 8 bytes, each value the same.
-for value in -1 -999999 -1000000; do
+for value in -1 -999999 -1000000 -0.5 -999999.5; do
     row=$(yes -- "$value" | head -n 32 | paste -sd ' ')
     { seq -f 'ENTRY%03g' -s ' ' 32 && yes -- "$row" | head -n 32; } >"$built/crowd.$value"
 done
@@ -397,7 +415,9 @@ for source in examples/*.c; do
         continue
     fi
     if [ "$program" = weights ]; then
-        for sheet in copies registers unscored; do on_weights "examples/$sheet.sheet" "${memory[@]}" "$file"; done
+        for sheet in examples/{copies,registers,unscored}.sheet tests/examples/spans.sheet; do
+            on_weights "$sheet" "${memory[@]}" "$file"
+        done
         for sheet in 2.12289-bytes 9.mirrored 12.own; do on_refused_weights "$sheet" "${memory[@]}" "$file"; done
         continue
     fi
@@ -407,6 +427,8 @@ for source in examples/*.c; do
     on_sheet "$program" examples/registers.sheet 3 "${memory[@]}" "$file"
     on_sheet "$program" tests/examples/full.sheet 1 "${memory[@]}" "$file"
     on_sheet "$program" examples/unscored.sheet 1 "${memory[@]}" "$file"
+    on_sheet "$program" examples/halves.sheet 1 "${memory[@]}" "$file"
+    on_sheet "$program" tests/examples/spans.sheet 3 "${memory[@]}" "$file"
     for sheet in 2.no-bytes 2.12289-bytes 9.mirrored 12.own 16.unscored; do on_refused "$program" "$sheet" 3 "${memory[@]}" "$file"; done
 done
 on_missing LONGNAMEX "${memory[@]}" "$built/c/shared"
@@ -429,6 +451,10 @@ no_listings=(
     "${first}0000001 1 1\\n" "${first}000000001 1 1\\n" "${first}0x000001 1 1\\n" "${first}0000000A 2 1\\n" "${first}0000000g 1 1\\n"
     "${first}00000000 0 1\\n" "${first}00000003 1 1\\n" "${first}00000003 3 1\\n" "${first}00000003 02 1\\n" "${first}00000003 +2 1\\n"
     "${first}00000003 4294967298 1\\n" "${first}00000001 1 0\\n" "${first}00000001 1 01\\n" "${first}00000001 1 -1\\n"
+    "${first}00000001 1 .5\\n" "${first}00000001 1 1.\\n" "${first}00000001 1 1.0\\n" "${first}00000001 1 0.0\\n"
+    "${first}00000001 1 00.5\\n" "${first}00000001 1 01.5\\n" "${first}00000001 1 -0.5\\n" "${first}00000001 1 1.50\\n"
+    "${first}00000001 1 1.4\\n" "${first}00000001 1 1.5.5\\n" "${first}00000001 1 1,5\\n" "${first}00000001 1 0.5"
+    "${first}00000001 1.5 1\\n" "${first}00000001 1 1000000000000000000.5\\n" "${first}00000000 0 0.5\\n"
     "${first}00000001 1 +1\\n" "${first}00000001 1 1x\\n" "${first}00000001 1 1000000000000000000\\n"
     "${first}00000001 1 18446744073709551617\\n" "${first}00000001 1 1\\n00000001 1 1\\n" "${first}00000002 1 1\\n00000001 1 1\\n"
     "${first}00000003 2 1\\n00000004 1 1\\n"
@@ -447,7 +473,7 @@ if [ "$status" = 0 ]; then
         expect "lines of $listing" 2 /dev/null 'lines: these bytes are no listing' "$file" 1 < <(printf '%b' "$listing")
     done
     for listing in '' 'set size' "${first}0" "${first}0000000" "${first}00000001" "${first}00000001 " "${first}00000001 1" \
-        "${first}00000001 1 " "${first}00000001 1 1"; do
+        "${first}00000001 1 " "${first}00000001 1 1" "${first}00000001 1 1." "${first}00000001 1 1.5"; do
         expect "lines of $listing, under valgrind" 2 /dev/null 'lines: these bytes are no listing' "${memory[@]}" "$file" 1 \
             < <(printf '%b' "$listing")
     done
@@ -455,10 +481,16 @@ if [ "$status" = 0 ]; then
     expect "lines of no group" 0 "$built/wanted" '' "$file" 1 < <(printf '%b' "$first")
     printf 'lines 64\nlargest: set 00000003, size 2, index 1\ngreatest index: set 00000001, size 1, index 1\n' >"$built/wanted"
     expect "lines of 64 groups" 0 "$built/wanted" '' "$file" 1 < <(printf '%b' "$first$rising")
-    printf '%s\n' 'lines 2' 'largest: set ffffffff, size 32, index 2' 'greatest index: set abcdef09, size 19, index 999999999999999999' \
-        >"$built/wanted"
-    expect "lines of the greatest numbers" 0 "$built/wanted" '' "$file" 1 \
-        < <(printf '%b' "${first}abcdef09 19 999999999999999999\\nffffffff 32 2\\n")
+    for index in 999999999999999999 999999999999999999.5; do
+        printf '%s\n' 'lines 2' 'largest: set ffffffff, size 32, index 2' "greatest index: set abcdef09, size 19, index $index" \
+            >"$built/wanted"
+        expect "lines of the greatest numbers" 0 "$built/wanted" '' "$file" 1 \
+            < <(printf '%b' "${first}abcdef09 19 $index\\nffffffff 32 2\\n")
+    done
+    # Indices that differ by half a point.
+    printf '%s\n' 'lines 3' 'largest: set 00000003, size 2, index 0.5' 'greatest index: set 00000002, size 1, index 1.5' >"$built/wanted"
+    expect "lines of half points" 0 "$built/wanted" '' "$file" 1 \
+        < <(printf '%b' "${first}00000001 1 1\\n00000002 1 1.5\\n00000003 2 0.5\\n")
 fi
 
 counted
