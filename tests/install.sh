@@ -105,7 +105,7 @@ else
     count 1 "the examples (status $status)"
 fi
 
-for sheet in four copies unscored; do
+for sheet in four copies unscored halves; do
     for kind in strong clean splits; do
         listed=tests/examples/client/$sheet.$kind
         [ -f "$listed" ] || listed=examples/$sheet.$kind
@@ -147,7 +147,8 @@ block() { # SECTION NUMBER
 }
 for case in '3 1 examples/four.sheet' '3 2 tests/examples/client/four.strong' '3 3 examples/books.sheet' '3 4 examples/stones.sheet' \
     '3 5 examples/pooled.sheet' '1 1 examples/four.sheet' '1 2 tests/examples/client/four.clean' '1 3 examples/unscored.sheet' \
-    '1 4 examples/unscored.strong' '1 5 examples/copies.sheet' '1 6 tests/examples/client/copies.splits'; do
+    '1 4 examples/unscored.strong' '1 5 examples/halves.sheet' '1 6 examples/halves.strong' '1 7 examples/copies.sheet' \
+    '1 8 tests/examples/client/copies.splits'; do
     read -r section number file <<<"$case"
     block "$section" "$number" | diff "$file" -
     count $? "block $number of farzhudyl.$section"

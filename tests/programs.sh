@@ -29,6 +29,9 @@ check 'strong groups with an unscored pair' strong "$(cat examples/unscored.stro
 check 'clean groups with an unscored pair' clean 'refused 16' <examples/unscored.sheet
 check 'splits with an unscored pair' splits 'refused 16' <examples/unscored.sheet
 check 'one entry, unscored' strong "$first" < <(printf 'A\n-\n')
+check 'strong groups with half points' strong "$(cat examples/halves.strong)" <examples/halves.sheet
+check 'clean groups with half points' clean "$(cat tests/examples/client/halves.clean)" <examples/halves.sheet
+check 'splits with half points' splits "$(cat tests/examples/client/spans.splits)" <tests/examples/spans.sheet
 for kind in strong clean splits; do
     check "one entry, $kind" "$kind" "$first" < <(printf 'A\n0\n')
     check "12,289 line feeds, $kind" "$kind" 'refused 2' < <(head -c 12289 /dev/zero | tr '\0' '\n')
@@ -39,8 +42,14 @@ for kind in strong clean splits; do
     check "two minus signs, $kind" "$kind" 'refused 8' < <(printf 'A\n--\n')
     check "a mark on one side, $kind" "$kind" 'refused 9' < <(printf 'A B\n0 -\n0 0\n')
     check "1000001, $kind" "$kind" 'refused 11' < <(printf 'A\n1000001\n')
+    check "1000000.5, $kind" "$kind" 'refused 11' < <(printf 'A\n1000000.5\n')
+    check "5.0, $kind" "$kind" 'refused 8' < <(printf 'A\n5.0\n')
+    check ".5, $kind" "$kind" 'refused 8' < <(printf 'A\n.5\n')
+    check "a point in line 1, $kind" "$kind" 'refused 4' < <(printf 'A.\n0\n')
 done
+check '1000000 and 999999.5' strong "$first"$'\n''00000001 1 0.5' < <(printf 'A B\n1000000 999999.5\n999999.5 999999.5\n')
 check 'an own value that is not 0' splits 'refused 12' < <(printf 'A B\n1 5\n5 0\n')
+check 'an own value of half a point' splits 'refused 12' < <(printf 'A B\n0.5 5\n5 0\n')
 
 # Runs a command, which is to end with a status, to write exactly what the file $room/expected has, and to say on standard error exactly
 # the line SAID; with SAID - it may say anything.
@@ -65,6 +74,10 @@ cp examples/unscored.strong "$room/expected"
 whole 'both engines, strong of unscored.sheet' 0 - ./run --second strong <examples/unscored.sheet
 cp tests/examples/client/unscored.clean "$room/expected"
 whole 'both engines, clean of unscored.sheet' 0 - ./run --second clean <examples/unscored.sheet
+cp examples/halves.strong "$room/expected"
+whole 'both engines, strong of halves.sheet' 0 - ./run --second strong <examples/halves.sheet
+cp tests/examples/client/spans.splits "$room/expected"
+whole 'both engines, splits of spans.sheet' 0 - ./run --second splits <tests/examples/spans.sheet
 cp tests/examples/client/four.strong "$room/expected"
 touch -d 2000-01-01 target/bin/strong
 whole 'a program that is looked at again' 0 'proving and building, once: strong' ./run strong <examples/four.sheet
@@ -83,6 +96,7 @@ names 'names of the clean groups' clean 1 '\bA B$' <examples/four.sheet
 names 'names of the larger clean group' clean 1 '\bA B C$' <examples/four.sheet
 names 'names of the splits' splits 1 '\b4 +C D$' <examples/copies.sheet
 names 'names of the strong groups with an unscored pair' strong 3 ' [AB]$' <examples/unscored.sheet
+names 'names of the strong groups of half a point' strong 2 '^ +1 +0\.5 +[AB]$' <examples/halves.sheet
 
 : >"$room/expected"
 usage='usage: ./run [--names|--second] strong|clean|splits < SHEET'
