@@ -20,6 +20,9 @@
 
 enum { STACK = 1 << 20, GAP = 1024, KNOWN = 20000, SHEETS = 10 };
 
+/* The greatest value of a pair list, in half points. */
+enum { FAR = 1000000 * FARZHUDYL_POINT };
+
 typedef void Call(void);
 
 /* ---- painting ---- */
@@ -170,7 +173,7 @@ static void ladder(bool distances, int entries, int32_t *to)
 {
     for (int a = 0; a < entries; a++)
         for (int b = 0; b <= a; b++)
-            *to++ = distances ? (a == b ? 0 : 6 + 5 * (a - b)) : (a == b ? 1000000 : 100 * (entries - a));
+            *to++ = distances ? (a == b ? 0 : 6 + 5 * (a - b)) : (a == b ? FAR : 101 * (entries - a));
 }
 
 /* All values alike: every link ties, and no set has an index above 0 but the ends of a star. */
@@ -178,7 +181,15 @@ static void alike(bool distances, int entries, int32_t *to)
 {
     for (int a = 0; a < entries; a++)
         for (int b = 0; b <= a; b++)
-            *to++ = distances && a == b ? 0 : 1000000;
+            *to++ = distances && a == b ? 0 : FAR;
+}
+
+/* Values of 9 bytes, such as -999998.5; with minus half of it added, that is -499999.5, of 9 bytes too. */
+static void longest(bool distances, int entries, int32_t *to)
+{
+    for (int a = 0; a < entries; a++)
+        for (int b = 0; b <= a; b++)
+            *to++ = !distances ? 3 - FAR : a == b ? 0 : FAR - 3;
 }
 
 /* A ladder whose last entry has no own score, so no strong group holds that entry. */
@@ -255,7 +266,8 @@ static void full_sheets(void)
     const struct {
         const char *begin;
         char rest;
-    } sheets[] = {{"", '\n'}, {"", 'A'}, {"A ", 'A'}, {"A\n", '1'}, {"A\n0\n", ' '}, {"A B\n-1", '-'}, {"a", '0'}};
+    } sheets[] = {{"", '\n'},       {"", 'A'},      {"A ", 'A'}, {"A\n", '1'}, {"A\n0", '.'},
+                  {"A\n0\n", ' '}, {"A B\n-1", '-'}, {"a", '0'}};
     for (size_t i = 0; i < sizeof sheets / sizeof sheets[0]; i++) {
         text(sheets[i].begin, sheets[i].rest, most);
         each_kind();
@@ -285,7 +297,7 @@ static void refused_ones(void)
     pairs_len = MAX_PAIRS;
     near_tree(false, MAX_ENTRIES, pairs);
     const size_t length = write_sheet(MAX_ENTRIES, pairs, sheet);
-    const char *const ends[] = {"-0\n", "0 \n", "00\n", " 7\n", "77\n\n", "77", "7a\n", "7\t\n"};
+    const char *const ends[] = {"-0\n", "0 \n", "00\n", " 7\n", ".7\n", "7.\n", "77\n\n", "77", "7a\n", "7\t\n"};
     for (size_t i = 0; i < sizeof ends / sizeof ends[0]; i++) {
         memcpy(sheet + length - 3, ends[i], strlen(ends[i]));
         sheet_len = length - 3 + strlen(ends[i]);
@@ -298,7 +310,7 @@ static void refused_ones(void)
     sheet[3] = sheet[3] == '1' ? '2' : '1';
     sheet_len = length;
     each_kind();
-    pairs[MAX_PAIRS - 1] = 1000001;
+    pairs[MAX_PAIRS - 1] = FAR + 1;
     sheet_len = write_sheet(MAX_ENTRIES, pairs, sheet);
     each_kind();
     pairs_len = MAX_PAIRS - 1;
@@ -322,6 +334,8 @@ static void *run(void *unused)
         good(near_tree, sizes[i]);
         good(ladder, sizes[i]);
         good(alike, sizes[i]);
+        good(longest, sizes[i]);
+        good(near_tree_halves, sizes[i]);
         good(own_unscored, sizes[i]);
         good(all_unscored, sizes[i]);
     }

@@ -22,6 +22,9 @@ static bool list_unchanged(int32_t *lent, const List *list) { return unchanged(l
 static const int32_t mark = UNSCORED;
 static const List apart_list = {"C and D unscored", 4, apart_pairs, 10}, unscored_one = {"one entry, unscored", 1, &mark, 1};
 
+/* The worked example with half points. */
+static const List halves_list = {"half points", 4, halves_pairs, 10};
+
 /* Lists that checks 6 and 10 refuse, each with its number. */
 typedef void VisitList(const List *list, int number);
 
@@ -132,6 +135,9 @@ static void numbers(void)
     const List example = {"worked example", 4, four_pairs, 10};
     found(FARZHUDYL_STRONG, &example, &groups);
     expect_numbers(FARZHUDYL_SPLITS, &example, 0, 0, -12, &no_groups);
+    groups = no_groups;
+    put_halves_groups(&groups);
+    found(FARZHUDYL_STRONG, &halves_list, &groups);
 
     const int32_t zero = 0;
     const List one = {"one entry", 1, &zero, 1};
@@ -142,7 +148,7 @@ static void numbers(void)
         put_pairs(pairs, ladder(kind));
         put_ladder_groups(&groups, kind);
         found(kind, &large, &groups);
-        ladder_but(pairs, ladder(kind), PAIRS - 1, 1000001);
+        ladder_but(pairs, ladder(kind), PAIRS - 1, FAR + 1);
         expect_numbers(kind, &large, 0, 0, -11, &no_groups);
         found(kind, &one, &no_groups);
     }
@@ -273,9 +279,10 @@ static void shared(void)
     Groups groups = no_groups;
     put_four_groups(&groups);
     entries_shared(FARZHUDYL_STRONG, &example, four_strong_line, &groups);
+    entries_shared(FARZHUDYL_STRONG, &halves_list, four_strong_line, &groups);
     groups = no_groups;
-    add_group(&groups, 3, 2);
-    add_group(&groups, 7, 6);
+    add_group(&groups, 3, 4);
+    add_group(&groups, 7, 12);
     entries_shared(FARZHUDYL_CLEAN, &example, four_clean_line, &groups);
 
     const int32_t own = -7;
@@ -288,9 +295,9 @@ static void shared(void)
         entries_shared(kind, &large, kind == FARZHUDYL_STRONG ? ladder_strong_line : ladder_clean_line, &groups);
         entries_shared(kind, &one, no_line, &no_groups);
     }
-    ladder_but(pairs, ladder_score, PAIRS - 1, 1000001);
+    ladder_but(pairs, ladder_score, PAIRS - 1, FAR + 1);
     refused_shared(&large, 11);
-    ladder_but(pairs, ladder_score, 0, -1000001);
+    ladder_but(pairs, ladder_score, 0, -FAR - 1);
     refused_shared(&large, 11);
     unscored_shared();
     refused_lists(refused_shared);
@@ -343,8 +350,8 @@ static void wrong_sides(const List *list)
 }
 
 /* All of two values, across the split of even and odd entries, and within its sides. */
-static int far_across(int a, int b) { return (a + b) % 2 == 1 ? 1000000 : 0; }
-static int far_within(int a, int b) { return a != b && (a + b) % 2 == 0 ? 1000000 : 0; }
+static int far_across(int a, int b) { return (a + b) % 2 == 1 ? FAR : 0; }
+static int far_within(int a, int b) { return a != b && (a + b) % 2 == 0 ? FAR : 0; }
 
 static void weights_of_32(void)
 {
@@ -358,13 +365,13 @@ static void weights_of_32(void)
         weighed(&large, first(k), quartets * 10);
     wrong_sides(&large);
     put_pairs(pairs, far_across);
-    weighed(&large, odd, quartets * INT64_C(2000000));
+    weighed(&large, odd, quartets * INT64_C(2) * FAR);
     put_pairs(pairs, far_within);
-    weighed(&large, odd, quartets * INT64_C(-2000000));
+    weighed(&large, odd, quartets * INT64_C(-2) * FAR);
     put_pairs(pairs, zero);
     weighed(&large, odd, 0);
 
-    ladder_but(pairs, ladder_distance, PAIRS - 2, 1000001);
+    ladder_but(pairs, ladder_distance, PAIRS - 2, FAR + 1);
     refused_weight(&large, 11);
     ladder_but(pairs, ladder_distance, 1, UNSCORED + 1);
     refused_weight(&large, 11);
@@ -378,13 +385,18 @@ static void weights_of_32(void)
 
 static void weights(void)
 {
-    /* The header's example: d(0,1) = d(2,3) = 2, other distances 4. */
-    const int32_t copies[] = {0, 2, 0, 4, 4, 0, 4, 4, 2, 0};
+    /* The header's example: d(0,1) = d(2,3) = 4, other distances 8. */
+    const int32_t copies[] = {0, 4, 0, 8, 8, 0, 8, 8, 4, 0};
     const List four_copies = {"four copies", 4, copies, 10};
-    weighed(&four_copies, 0xc, 4);
-    weighed(&four_copies, 0x5, -4);
-    weighed(&four_copies, 0x9, -4);
+    weighed(&four_copies, 0xc, 8);
+    weighed(&four_copies, 0x5, -8);
+    weighed(&four_copies, 0x9, -8);
     wrong_sides(&four_copies);
+    /* The same with half a point more between the first two. */
+    const int32_t half_more[] = {0, 5, 0, 8, 8, 0, 8, 8, 4, 0};
+    const List copies_and_half = {"four copies and half a point", 4, half_more, 10};
+    weighed(&copies_and_half, 0xc, 16 - 9);
+    weighed(&copies_and_half, 0x5, 9 - 16);
     /* The entry 0 twice against 2 and 3 would have 1. */
     const int32_t twice[] = {0, 1, 0, 1, 9, 0, 1, 9, 1, 0};
     const List no_entry_twice = {"no entry twice", 4, twice, 10};
@@ -445,6 +457,7 @@ static void linkages(void)
     const uint32_t four_blocks[] = {0x3, 0x7, 0xf};
     const List example = {"worked example", 4, four_pairs, 10};
     merged(&example, four_blocks);
+    merged(&halves_list, four_blocks);
 
     const int32_t own = -7;
     const List one = {"one entry", 1, &own, 1};
@@ -458,7 +471,7 @@ static void linkages(void)
         blocks[k - 2] = first(k);
     put_pairs(pairs, ladder_score);
     merged(&large, blocks);
-    ladder_but(pairs, ladder_score, 0, -1000001);
+    ladder_but(pairs, ladder_score, 0, -FAR - 1);
     refused_linkages(&large, 11);
     ladder_but(pairs, ladder_score, PAIRS - 1, UNSCORED);
     refused_linkages(&large, 16);
@@ -521,7 +534,7 @@ static void anchored(void)
     }
     scores[PAIRS - 2] = INT32_MIN;
     expect_anchored(farzhudyl_distances_back, &back, ENTRIES - 1, PAIRS, 15, NULL);
-    ladder_but(distances, ladder_distance, PAIRS - 2, 1000001);
+    ladder_but(distances, ladder_distance, PAIRS - 2, FAR + 1);
     expect_anchored(farzhudyl_anchored_scores, &there, 0, 0, 11, NULL);
     ladder_but(distances, ladder_distance, PAIRS - 2, UNSCORED);
     expect_anchored(farzhudyl_anchored_scores, &there, 0, 0, 16, NULL);
@@ -531,6 +544,19 @@ static void anchored(void)
     expect_anchored(farzhudyl_anchored_scores, &there, 0, 0, 12, NULL);
     ladder_but(distances, ladder_distance, PAIRS - 1, 1);
     expect_anchored(farzhudyl_anchored_scores, &there, 0, 0, 12, NULL);
+
+    /* Two entries as far apart as can be, and at half a point; beyond that there are no such distances. */
+    const int32_t pair_distances[][3] = {{0, FAR, 0}, {0, 1, 0}}, pair_scores[][3] = {{0, 0, 2 * FAR}, {0, 0, 2}};
+    const int32_t no_scores[][3] = {{0, 0, 2 * FAR + 2}, {0, 0, 1}, {0, 0, -2}};
+    for (int i = 0; i < 2; i++) {
+        const List two = {"two entries", 2, pair_distances[i], 3}, two_back = {"two entries", 2, pair_scores[i], 3};
+        transformed(farzhudyl_anchored_scores, &two, 0, pair_scores[i]);
+        transformed(farzhudyl_distances_back, &two_back, 0, pair_distances[i]);
+    }
+    for (int i = 0; i < 3; i++) {
+        const List none = {"no distances", 2, no_scores[i], 3};
+        expect_anchored(farzhudyl_distances_back, &none, 0, 3, 15, NULL);
+    }
 
     const int32_t zero = 0;
     const List one = {"one entry", 1, &zero, 1};
@@ -578,6 +604,7 @@ static void scores(void)
     const List example = {"worked example", 4, four_pairs, 10};
     all_scores(&example);
     all_scores(&apart_list);
+    all_scores(&halves_list);
 
     /* Whether values are in range is not asked. */
     const int32_t least = INT32_MIN;

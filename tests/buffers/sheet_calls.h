@@ -74,10 +74,24 @@ static void unscored_listings(void)
     refused_listings("1000001 and a mark", "A B\n- 1000001\n1000001 0\n", 24, 11);
 }
 
+/* In buffers of every length, so that a line is cut before the point, behind it, and behind the half. */
+static void half_listings(void)
+{
+    Text sheet = {{0}, 0}, listing = {{0}, 0};
+    Groups groups = {0, {0}, {0}};
+    put(&sheet, "%s", halves);
+    put_halves_groups(&groups);
+    listed("half points", FARZHUDYL_STRONG, &sheet, &groups);
+    put_listing(&listing, &groups);
+    for (size_t room = 0; room < listing.length; room++)
+        expect_listing("half points, short", FARZHUDYL_STRONG, sheet.bytes, sheet.length, room, -14, NULL);
+    refused_listing("half points", FARZHUDYL_SPLITS, halves, sizeof halves - 1, 12);
+}
+
 static void listings(void)
 {
     const Groups none = {0, {0}, {0}};
-    Text sheet = {{0}, 0}, one = {{0}, 0}, widest = {{0}, 0};
+    Text sheet = {{0}, 0}, one = {{0}, 0}, widest = {{0}, 0}, wider = {{0}, 0};
     Groups groups = none;
     put(&sheet, "%s", four);
     put_four_groups(&groups);
@@ -86,7 +100,9 @@ static void listings(void)
     refused_listing("kind 0", 0, four, sizeof four - 1, 1);
     refused_listing("kind 4, no sheet", 4, four, 0, 1);
     refused_listings("1000001", "A\n1000001\n", 10, 11);
+    refused_listings("1000000.5", "A\n1000000.5\n", 12, 11);
     unscored_listings();
+    half_listings();
 
     put(&one, "A\n0\n");
     for (int32_t kind = 1; kind <= 3; kind++) {
@@ -98,13 +114,15 @@ static void listings(void)
         listed("one entry", kind, &one, &none);
     }
 
-    /* Names and values of 8 bytes: no sheet that passes is longer. */
-    put_sheet(&widest, "EEEEEE", least_score);
-    if (widest.length != 9504)
+    /* Names of 8 bytes and values of 9: no sheet that passes is longer. Values of 10 bytes are out of range. */
+    put_sheet(&widest, "EEEEEE", longest_score);
+    put_sheet(&wider, "EEEEEE", longest_value);
+    if (widest.length != 10528 || wider.length != 11552)
         abort();
     listed("widest sheet", FARZHUDYL_STRONG, &widest, &none);
     listed("widest sheet", FARZHUDYL_CLEAN, &widest, &none);
     refused_listing("widest sheet", FARZHUDYL_SPLITS, widest.bytes, widest.length, 12);
+    refused_listings("wider sheet", wider.bytes, wider.length, 11);
 
     refused_sheets(refused_listings);
 }
@@ -134,12 +152,14 @@ static void pair_lists(void)
 {
     expect_pair_list("worked example", four, sizeof four - 1, 4, four_pairs);
     expect_pair_list("C and D unscored", apart, sizeof apart - 1, 4, apart_pairs);
+    expect_pair_list("half points", halves, sizeof halves - 1, 4, halves_pairs);
 
     /* Whether values are in range is not asked. */
-    const int32_t far = 9999999;
+    const int32_t far = 19999998, farther = -19999999;
     expect_pair_list("one entry", "A\n9999999\n", 10, 1, &far);
+    expect_pair_list("one entry", "A\n-9999999.5\n", 13, 1, &farther);
 
-    Value *const values[] = {ladder_score, ladder_distance, least_score, ladder_apart, unscored};
+    Value *const values[] = {ladder_score, ladder_distance, longest_score, longest_value, least_score, ladder_apart, unscored};
     for (size_t i = 0; i < sizeof values / sizeof values[0]; i++) {
         Text sheet = {{0}, 0};
         int32_t pairs[PAIRS];
@@ -186,6 +206,7 @@ static void names(void)
 {
     all_names("worked example", four, sizeof four - 1, 4, 1);
     all_names("C and D unscored", apart, sizeof apart - 1, 4, 1);
+    all_names("half points", halves, sizeof halves - 1, 4, 1);
     all_names("one entry", "A1\n0\n", 5, 1, 2);
     const char *const within = "BAA AA A\n0 0 0\n0 0 0\n0 0 0\n";
     expect_name("a name within a name", within, strlen(within), 1, 4, 2);
@@ -194,7 +215,7 @@ static void names(void)
     Text sheet = {{0}, 0}, widest = {{0}, 0};
     put_sheet(&sheet, "E", ladder_score);
     all_names("32 entries", sheet.bytes, sheet.length, ENTRIES, 3);
-    put_sheet(&widest, "EEEEEE", least_score);
+    put_sheet(&widest, "EEEEEE", longest_value);
     all_names("widest sheet", widest.bytes, widest.length, ENTRIES, 8);
     refused_sheets(no_name);
 }
@@ -250,12 +271,12 @@ static void pooled_large(const char *what, Value *first, Value *second, Value *s
     pooled(what, whole(&one), whole(&other), whole(&pool));
 }
 
-/* One sum out of range, that of the last two of 32 entries. */
+/* One sum out of range by half a point, that of the last two of 32 entries. */
 static void refused_large(void)
 {
     Text one = {{0}, 0}, other = {{0}, 0};
     put_sheet(&one, "E", last_far);
-    put_ordered(&other, "E", last_far, reversed);
+    put_ordered(&other, "E", last_half, reversed);
     refused_pool("the last sum out of range", whole(&one), whole(&other), 18);
 }
 
@@ -265,8 +286,11 @@ static void pools(void)
            bytes("C A D B\n8 2 - 1\n2 9 3 6\n- 3 7 2\n1 6 2 9\n"),
            bytes("A B C D\n18 13 4 4\n13 17 4 3\n4 4 17 -\n4 3 - 13\n"));
     pooled("one entry", bytes("A\n0\n"), bytes("A\n0\n"), bytes("A\n0\n"));
+    pooled("half points", bytes("A B\n0.5 -0.5\n-0.5 7\n"), bytes("B A\n6.5 0\n0 0.5\n"), bytes("A B\n1 -0.5\n-0.5 13.5\n"));
+    pooled("up to the end of the range", bytes("A\n999999.5\n"), bytes("A\n0.5\n"), bytes("A\n1000000\n"));
     pooled("a name within a name", bytes("AA A\n1 2\n2 3\n"), bytes("A AA\n30 20\n20 10\n"), bytes("AA A\n11 22\n22 33\n"));
-    pooled_large("the longest pool", half_least, half_least, least_score);
+    pooled_large("the longest pool", half_longest, other_half, longest_score);
+    pooled_large("the least scores", zero, least_score, least_score);
     pooled_large("all sums 0", ladder_score, against_ladder, zero);
     pooled_large("unscored on the first", ladder_apart, zero, ladder_apart);
     pooled_large("unscored on the second", zero, ladder_apart, ladder_apart);
@@ -277,7 +301,10 @@ static void pools(void)
     refused_pool("a name more on the second", bytes("A\n0\n"), bytes("B A\n0 0\n0 0\n"), 17);
     refused_pool("a name more on the first", bytes("A B\n0 0\n0 0\n"), bytes("A\n0\n"), 17);
     refused_pool("another name", bytes("A B\n0 0\n0 0\n"), bytes("A B1\n0 0\n0 0\n"), 17);
+    refused_pool("one sum too great by half a point", bytes("A\n0.5\n"), bytes("A\n1000000\n"), 18);
+    refused_pool("one sum too low by half a point", bytes("A\n-1000000\n"), bytes("A\n-0.5\n"), 18);
     refused_pools("1000001", "A\n1000001\n", 10, 11);
+    refused_pools("-1000000.5", "A\n-1000000.5\n", 13, 11);
     refused_sheets(refused_pools);
 }
 
