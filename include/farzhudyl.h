@@ -125,7 +125,7 @@ enum {
 /* Room that always serves: bytes for a listing; bytes for the pool of two sheets; slots for the groups of farzhudyl_numbers; slots for
    the blocks of a linkage. */
 #define FARZHUDYL_LISTING_MAX 2048
-#define FARZHUDYL_POOL_MAX 10560
+#define FARZHUDYL_POOL_MAX 10528
 #define FARZHUDYL_GROUPS_MAX 64
 #define FARZHUDYL_BLOCKS_MAX 31
 

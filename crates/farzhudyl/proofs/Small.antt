@@ -46,7 +46,7 @@ abbrev pub Small : Answer → Type 0
 Small a = (numberOf a < 2 ^ 63) × (countOf a < 2 ^ 63)
 
 small : (checks : List (ℕ × Bool)) {a : Answer} {c : ℕ} → T (all (λ k. leb (k .0) 18) checks)
-    → a ≡ answer (firstOf checks) c → (firstOf checks ≡ 0 → c ≤ 10560) → Small a
+    → a ≡ answer (firstOf checks) c → (firstOf checks ≡ 0 → c ≤ 10528) → Small a
 small checks {a} {c} t e h =
     (omega (arith, ap numberOf e, number-answer (firstOf checks) c, first-le 18 checks t), omega (arith, ap countOf e, count-most (firstOf checks) h))
 

@@ -330,7 +330,7 @@ module _ {first second bytes : List ℕ} (x : Written first second bytes) where
   unfolding entries
   pool-entries = ap length pool-names
 
-  pool-most : length (poolText first second) ≤ 10560
+  pool-most : length (poolText first second) ≤ 10528
   unfolding poolText
   pool-most = sheetText-most formed (x .one .count)
 
@@ -402,8 +402,8 @@ pub pool-buffer : (first second : List ℕ) (buffer other : ℕ) → poolRefusal
     → poolRefusal first second other ≡ cond (ltb other (length (poolText first second))) 14 0
 pool-buffer first second buffer other e = accepted first second buffer e refl .left other
 
--- a pool that is not refused has at most 10,560 bytes
-pub pool-room : (first second : List ℕ) (buffer : ℕ) → poolRefusal first second buffer ≡ 0 → length (poolText first second) ≤ 10560
+-- a pool that is not refused has at most 10,528 bytes
+pub pool-room : (first second : List ℕ) (buffer : ℕ) → poolRefusal first second buffer ≡ 0 → length (poolText first second) ≤ 10528
 pool-room first second buffer e = pool-most (accepted first second buffer e refl)
 
 -- the answer for a buffer, beside a pool that was written
@@ -421,7 +421,7 @@ pool-fits {first} {second} {lent} {bytes = bytes} {r = r} c x = (
 
 -- and a buffer of so many bytes is not short
 pool-counted : {first second lent after : List ℕ} {r : ℤ} → InC (λ a. PoolCall first second lent a after) r → T (none (sheetChecks first ++ sheetChecks second))
-    → SameNames first second → (SumOutOfRange first second → ⊥) → 10560 ≤ length lent → r ≡ pos (length (poolText first second))
+    → SameNames first second → (SumOutOfRange first second → ⊥) → 10528 ≤ length lent → r ≡ pos (length (poolText first second))
 pool-counted {first} {second} {lent} {r = r} c t m f h = go (T-or-not (scoresInRange (poolPairs first second)))
   where
     both : Sound first × Sound second

@@ -60,7 +60,7 @@ row-count : (n : ℕ) (s : Similarity) (i : ℕ) → length (rowWords n s i) ≡
 row-count n s i = length-map (below n) (λ j. pairText (carried (s i j))) ∙ count-below n
 
 -- words with single spaces between
-module _ (ws : List (List ℕ)) (f : (w : List ℕ) → w ∈ ws → Word w) where
+module _ {most : ℕ} (ws : List (List ℕ)) (f : (w : List ℕ) → w ∈ ws → Word most w) where
   words-no-feed : free lineFeed (joined space ws)
   words-no-feed = all-joined space (λ b. not (eqb b lineFeed)) tt ws (λ w m. word-no-feed (f w m))
 
@@ -71,8 +71,8 @@ module _ (ws : List (List ℕ)) (f : (w : List ℕ) → w ∈ ws → Word w) whe
   words-cut : 0 < length ws → cut space (joined space ws) ≡ ws
   words-cut h = cut-joined space ws h (λ w m. word-no-space (f w m))
 
-  words-length : 0 < length ws → length (joined space ws) < length ws * 10
-  words-length h = length-joined space 10 ws h (λ w m. omega (arith, f w m .short))
+  words-length : 0 < length ws → length (joined space ws) < length ws * suc most
+  words-length h = length-joined space (suc most) ws h (λ w m. omega (arith, f w m .short))
 
 module _ {ns : List (List ℕ)} {s : Similarity} (a : WellFormed ns s) where
   abbrev n : ℕ
@@ -101,13 +101,13 @@ module _ {ns : List (List ℕ)} {s : Similarity} (a : WellFormed ns s) where
   few-digits : scoreLimit < 20000000
   few-digits = omega (arith, few-bytes)
 
-  name-words : (w : List ℕ) → w ∈ ns → Word w
+  name-words : (w : List ℕ) → w ∈ ns → Word 8 w
   name-words w m = name-word w (all-in isName ns (a .named) m)
 
-  row-words : (i : ℕ) → i < n → (w : List ℕ) → w ∈ rowWords n s i → Word w
+  row-words : (i : ℕ) → i < n → (w : List ℕ) → w ∈ rowWords n s i → Word 9 w
   row-words i h w m =
       let (j, k, e) = of-map (λ j. pairText (carried (s i j))) (below n) m in
-      subst Word (sym e) (pair-word (carried (s i j)) few-bytes (scores-allowed i j h (below-lt n k)))
+      subst (Word 9) (sym e) (pair-word (carried (s i j)) few-bytes (scores-allowed i j h (below-lt n k)))
 
   row-form : (i : ℕ) → i < n → T (isRow n (rowWords n s i))
   unfolding isRow
@@ -118,20 +118,20 @@ module _ {ns : List (List ℕ)} {s : Similarity} (a : WellFormed ns s) where
       subst (λ (w : List ℕ). T (isCell w)) (sym e) (pair-form (carried (s i j)) few-digits (scores-allowed i j h (below-lt n k))))
 
   -- each line is n words with single spaces between
-  line-words : (l : List ℕ) → l ∈ sheetLines ns s → (ws : List (List ℕ)) × ((w : List ℕ) → w ∈ ws → Word w) × (length ws ≡ n) × (l ≡ joined space ws)
+  line-words : (l : List ℕ) → l ∈ sheetLines ns s → (most : ℕ) × (ws : List (List ℕ)) × ((w : List ℕ) → w ∈ ws → Word most w) × (l ≡ joined space ws)
   unfolding sheetLines rowText
   line-words l m = go (List·Memᴰ·cases-cons m)
     where
       go : (l ≡ joined space ns) ⊎ (l ∈ map (rowText n s) (below n))
-          → (ws : List (List ℕ)) × ((w : List ℕ) → w ∈ ws → Word w) × (length ws ≡ n) × (l ≡ joined space ws)
-      go (inl e) = (ns, name-words, refl, e)
-      go (inr k) = let (i, h, e) = of-map (rowText n s) (below n) k in (rowWords n s i, row-words i (below-lt n h), row-count n s i, e)
+          → (most : ℕ) × (ws : List (List ℕ)) × ((w : List ℕ) → w ∈ ws → Word most w) × (l ≡ joined space ws)
+      go (inl e) = (8, ns, name-words, e)
+      go (inr k) = let (i, h, e) = of-map (rowText n s) (below n) k in (9, rowWords n s i, row-words i (below-lt n h), e)
 
   -- the pieces: the lines, and nothing behind the last line feed
   text-lines : lines text ≡ sheetLines ns s ++ ([] ∷ [])
   unfolding lines sheetText
   text-lines = cut-ended lineFeed (sheetLines ns s) λ l m.
-      let (ws, f, _, e) = line-words l m in subst (λ (t : List ℕ). free lineFeed t) (sym e) (words-no-feed ws f)
+      let (_, ws, f, e) = line-words l m in subst (λ (t : List ℕ). free lineFeed t) (sym e) (words-no-feed ws f)
 
   lines-count : length (sheetLines ns s) ≡ n + 1
   unfolding sheetLines
@@ -168,21 +168,36 @@ module _ {ns : List (List ℕ)} {s : Similarity} (a : WellFormed ns s) where
   sheetText-pairs =
       ap (λ (m : ℕ). pairList m (value text)) sheetText-entries ∙ pairList-cong n (value text) s (λ i j h k. sheetText-value i j h (omega arith))
 
-  pub sheetText-length : length (sheetText ns s) ≤ (length ns + 1) * (length ns * 10)
-  unfolding sheetText
+  -- line 1 has at most 9 bytes for each name, a row at most 10 for each value
+  pub sheetText-length : length (sheetText ns s) ≤ length ns * 9 + length ns * (length ns * 10)
+  unfolding sheetText sheetLines rowText each
   sheetText-length =
-      let short = length-ended lineFeed (n * 10) (sheetLines ns s) λ l m.
-      let (ws, f, c, e) = line-words l m in
-      subst (λ (m : ℕ). length l < m * 10) c (subst (λ (t : List ℕ). length t < length ws * 10) (sym e) (words-length ws f (omega (arith, a .some)))) in
-      subst (λ (m : ℕ). length text ≤ m * (n * 10)) lines-count short
+      let rows = map (rowText n s) (below n) in
+      let all-rows = subst (λ (m : ℕ). length (each rows (λ line. line ++ (lineFeed ∷ []))) ≤ m * (n * 10)) rows-count (length-ended lineFeed (n * 10) rows row-length) in
+      omega (
+        arith,
+        length-append (joined space ns ++ (lineFeed ∷ [])) (each rows (λ line. line ++ (lineFeed ∷ []))),
+        length-append (joined space ns) (lineFeed ∷ []),
+        words-length ns name-words (a .some),
+        all-rows,
+      )
+    where
+      rows-count : length (map (rowText n s) (below n)) ≡ n
+      rows-count = length-map (below n) (rowText n s) ∙ count-below n
 
-  -- at the limit of 32 entries there are at most 10,560 bytes
-  pub sheetText-most : wrongCount (length ns) ≡ false → length (sheetText ns s) ≤ 10560
+      row-length : (l : List ℕ) → l ∈ map (rowText n s) (below n) → length l < n * 10
+      row-length l m =
+          let (i, h, e) = of-map (rowText n s) (below n) m in
+          let ws = rowWords n s i in
+          subst (λ (t : List ℕ). length t < n * 10) (sym e)
+          (subst (λ (k : ℕ). length (joined space ws) < k * 10) (row-count n s i) (words-length ws (row-words i (below-lt n h)) (omega (arith, row-count n s i, a .some))))
+
+  -- at the limit of 32 entries there are at most 10,528 bytes
+  pub sheetText-most : wrongCount (length ns) ≡ false → length (sheetText ns s) ≤ 10528
   sheetText-most count =
       let few : n ≤ 32 = right-count n count in
-      let more : n + 1 ≤ 33 = omega arith in
       let tens : n * 10 ≤ 320 = omega arith in
-      omega (arith, sheetText-length, mul-le-mul more tens)
+      omega (arith, sheetText-length, mul-le-mul few tens)
 
   -- checks 2 to 5, 7 to 9 and 11, each in turn
   text-some : 0 < length text
@@ -201,7 +216,7 @@ module _ {ns : List (List ℕ)} {s : Similarity} (a : WellFormed ns s) where
   bytes-right : wrongByte text ≡ false
   unfolding wrongByte sheetText isAllowed isUpper isDigit
   bytes-right = ap not (T-true {b = all isAllowed text} (all-ended lineFeed isAllowed tt (sheetLines ns s) λ l m.
-      let (ws, f, _, e) = line-words l m in subst (λ (t : List ℕ). T (all isAllowed t)) (sym e) (words-allowed ws f)))
+      let (_, ws, f, e) = line-words l m in subst (λ (t : List ℕ). T (all isAllowed t)) (sym e) (words-allowed ws f)))
 
   names-right : wrongNames text ≡ false
   unfolding wrongNames

@@ -58,12 +58,12 @@ use Rattle.interface.proofs.Points.{ending, odd, points-parts, points-w
 isPlain : ℕ → Bool
 isPlain b = isUpper b || isDigit b || eqb b minus || eqb b point
 
--- at most 9 such bytes
-pub record Word (w : List ℕ) : Type 0 where
+-- some such bytes, and how many at most
+pub record Word (most : ℕ) (w : List ℕ) : Type 0 where
   plain : T (all isPlain w)
-  pub short : length w ≤ 9
+  pub short : length w ≤ most
 
-module _ {w : List ℕ} (is : Word w) where
+module _ {most : ℕ} {w : List ℕ} (is : Word most w) where
   -- check 3 allows its bytes, and none is a space or a line feed
   pub word-allowed : T (all isAllowed w)
   unfolding isAllowed isPlain
@@ -83,7 +83,7 @@ name-plain : (b : ℕ) → T (isUpper b || isDigit b) → T (isPlain b)
 unfolding isPlain
 name-plain b t = T-or-left (isUpper b || isDigit b || eqb b minus) (eqb b point) (T-or-left (isUpper b || isDigit b) (eqb b minus) t)
 
-pub name-word : (w : List ℕ) → T (isName w) → Word w
+pub name-word : (w : List ℕ) → T (isName w) → Word 8 w
 unfolding isName isPlain all
 name-word [] t = absurd t
 name-word (b ∷ w) t =
@@ -205,12 +205,12 @@ points-short k h = omega (arith, ap length (points-parts k), length-append (deci
     go (inl e) = rw (T-true {b = eqb (k % 2) 0} e) (omega (arith, length-decimal 6 (k / 2) (omega arith)))
     go (inr e) = let f = eqb-no (k % 2) 0 e in rw (T-false {b = eqb (k % 2) 0} e) (omega (arith, length-decimal 5 (k / 2) (omega (arith, f))))
 
-signed-word : {k : ℕ} (z : ℤ) → k ≤ 2000000 → Within k z → Word (signedPoints z)
+signed-word : {k : ℕ} (z : ℤ) → k ≤ 2000000 → Within k z → Word 9 (signedPoints z)
 unfolding signedPoints all isPlain isUpper isDigit up dn
 signed-word (pos k) h i = record { plain = points-plain k; short = omega (arith, points-short k (omega (arith, up-le i))) }
 signed-word (negsuc k) h i = record { plain = points-plain (suc k); short = omega (arith, points-short (suc k) (omega (arith, dn-le i))) }
 
-pub pair-word : {k : ℕ} (c : Carried) → k ≤ 2000000 → T (isAllowedPair k c) → Word (pairText c)
+pub pair-word : {k : ℕ} (c : Carried) → k ≤ 2000000 → T (isAllowedPair k c) → Word 9 (pairText c)
 unfolding pairText all isPlain isUpper isDigit
 pair-word (Scored z) h t = signed-word z h (allowed-within t)
 pair-word Unscored h t = record { plain = tt; short = omega arith }

@@ -229,7 +229,7 @@ pub record PoolJudged (first second lent : List ℕ) (r one other : ℤ) : Type 
   pub second-sheet : (count : ℕ) → one ≡ pos count
       → (k : ℕ) → 0 < k → k ≢ 14 → other ≡ negℤ (pos k) → r ≡ negℤ (pos k)
   pub passed : (count count′ : ℕ) → one ≡ pos count → other ≡ pos count′ → SameNames first second
-      → (SumOutOfRange first second → ⊥) → 10560 ≤ length lent → (length : ℕ) × (r ≡ pos length)
+      → (SumOutOfRange first second → ⊥) → 10528 ≤ length lent → (length : ℕ) × (r ≡ pos length)
 
 pub record Request-2-4 : Type 0 where
   -- each number is given if and only if its line holds and none before it does; nothing is then written
@@ -242,7 +242,7 @@ pub record Request-2-4 : Type 0 where
       → (count : ℕ) → r ≡ pos count → (length (take count after) ≡ count) × (drop count after ≡ drop count lent)
   pub either : {first second lent after : List ℕ} {r : ℤ} → InC (λ a. PoolCall first second lent a after) r
       → ((k : ℕ) × (0 < k) × (r ≡ negℤ (pos k))) ⊎ ((count : ℕ) × (r ≡ pos count))
-  -- "The first sheet passes 2 to 9 and 11, then the second"; a buffer of 10,560 bytes is never short
+  -- "The first sheet passes 2 to 9 and 11, then the second"; a buffer of 10,528 bytes is never short
   pub judged : {first second lent after : List ℕ} {r : ℤ} → InC (λ a. PoolCall first second lent a after) r
       → {lent₁ after₁ lent₂ after₂ : List ℕ} {one other : ℤ}
       → CCall (pos 1) first lent₁ one after₁ → CCall (pos 1) second lent₂ other after₂
