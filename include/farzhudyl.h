@@ -23,9 +23,10 @@
 
    THE PAIR LIST
    The calls that take numbers take the lower triangle of the values, row by row, own pairs included: FARZHUDYL_PAIRS(n) numbers.
-   They are half points, FARZHUDYL_POINT to a point: a value of 9 on the sheet is 18 in the list, 7.5 is 15. Entry i is counted from 0.
-   The value of i and j, where j <= i, stands at FARZHUDYL_PAIRS(i) + j; of the sheet above: 18, 16 18, 12 10 18, 4 6 2 18. The value of
-   an unscored pair is FARZHUDYL_UNSCORED. All that the calls find from a list, indices, weights and scores, is half points too.
+   They are half points, FARZHUDYL_POINT to a point, from -2000000 to 2000000: a value of 9 on the sheet is 18 in the list, 7.5 is 15.
+   Entry i is counted from 0. The value of i and j, where j <= i, stands at FARZHUDYL_PAIRS(i) + j; of the sheet above:
+   18, 16 18, 12 10 18, 4 6 2 18. The value of an unscored pair is FARZHUDYL_UNSCORED. All that the calls find from a list, indices,
+   weights and scores, is half points too.
 
    SETS OF ENTRIES
    A set is a uint32_t in which entry i, counted from 0, is bit i: 0x5 is the first and the third entry.
