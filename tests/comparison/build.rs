@@ -18,25 +18,25 @@ fn folder(variable: &str) -> PathBuf {
 }
 
 fn link_engine(root: &Path) {
-    println!("cargo::rerun-if-env-changed=FARZHUDYL_LIB_DIR");
+    println!("cargo:rerun-if-env-changed=FARZHUDYL_LIB_DIR");
     let folder: PathBuf = match env::var_os("FARZHUDYL_LIB_DIR") {
         Some(folder) => folder.into(),
         None => root.join("target/staticlib"),
     };
     let library = folder.join("libfarzhudyl.a");
-    println!("cargo::rerun-if-changed={}", library.display());
+    println!("cargo:rerun-if-changed={}", library.display());
     assert!(
         library.is_file(),
         "no {}: `rt staticlib farzhudyl` makes it",
         library.display()
     );
-    println!("cargo::rustc-link-search=native={}", folder.display());
-    println!("cargo::rustc-link-lib=static=farzhudyl");
+    println!("cargo:rustc-link-search=native={}", folder.display());
+    println!("cargo:rustc-link-lib=static=farzhudyl");
 }
 
 fn link_plain(bench: &Path) {
     for file in ["plain.c", "plain.h"] {
-        println!("cargo::rerun-if-changed={}", bench.join(file).display());
+        println!("cargo:rerun-if-changed={}", bench.join(file).display());
     }
     let out = folder("OUT_DIR");
     let (object, library) = (out.join("plain.o"), out.join("libplain.a"));
@@ -45,11 +45,14 @@ fn link_plain(bench: &Path) {
         .args(flags.split(' '))
         .args([&object, &bench.join("plain.c")]));
     run(Command::new("ar").arg("rcs").args([&library, &object]));
-    println!("cargo::rustc-link-search=native={}", out.display());
-    println!("cargo::rustc-link-lib=static=plain");
+    println!("cargo:rustc-link-search=native={}", out.display());
+    println!("cargo:rustc-link-lib=static=plain");
 }
 
 fn run(command: &mut Command) {
     let ended = command.status();
-    assert!(ended.is_ok_and(|status| status.success()), "{command:?}");
+    assert!(
+        matches!(ended, Ok(status) if status.success()),
+        "{command:?}"
+    );
 }

@@ -5,7 +5,6 @@ use crate::calls::{farzhudyl_listing, farzhudyl_pool, farzhudyl_refined_weight};
 use crate::lent::{Lent, FLIPS};
 use crate::parts::Parts;
 use second_engine::{compare, halves, pooling, weighing};
-use std::hint::black_box;
 
 type ListingCall = unsafe extern "C" fn(i32, *const u8, usize, *mut u8, usize) -> i64;
 type PoolCall = unsafe extern "C" fn(*const u8, usize, *const u8, usize, *mut u8, usize) -> i64;
@@ -94,9 +93,9 @@ impl Engine {
             let (values, length) = (list.as_ptr(), list.len());
             let number =
                 unsafe { (self.weight)(n, values, length, side, lent.slice().as_mut_ptr()) };
-            let weight = black_box(&mut lent).slice()[0];
+            let weight = lent.slice()[0];
             lent.check(&[weight])?;
-            match black_box(list) == pairs {
+            match compare::equal(&list, pairs) {
                 true => Ok((i64::from(number), weight)),
                 false => Err("changed the list itself".to_string()),
             }

@@ -1,7 +1,7 @@
 //! Slices lent to a call, with guard slots on both sides.
 
+use second_engine::compare::equal;
 use std::fmt::Debug;
-use std::hint::black_box;
 
 /// What a slot can hold.
 pub trait Slot: Copy + PartialEq + Debug {
@@ -48,7 +48,10 @@ impl<T: Slot> Lent<T> {
     pub fn check(&self, written: &[T]) -> Result<(), String> {
         let mut wanted: Lent<T> = Lent::new(self.slots.len() - 2 * GUARD, self.flip);
         wanted.slice()[..written.len()].copy_from_slice(written);
-        let mut both = black_box(&self.slots).iter().zip(&wanted.slots);
+        if equal(&self.slots, &wanted.slots) {
+            return Ok(());
+        }
+        let mut both = self.slots.iter().zip(&wanted.slots);
         match both.position(|(found, wanted)| found != wanted) {
             None => Ok(()),
             Some(at) => Err(format!(

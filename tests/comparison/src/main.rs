@@ -32,9 +32,12 @@ const CASES: usize = 15_000;
 const SEED: u64 = 1;
 
 fn main() -> ExitCode {
-    let Some((cases, seed)) = numbers() else {
-        eprintln!("usage: comparison [CASES [SEED]]");
-        return ExitCode::from(2);
+    let (cases, seed) = match numbers() {
+        Some(numbers) => numbers,
+        None => {
+            eprintln!("usage: comparison [CASES [SEED]]");
+            return ExitCode::from(2);
+        }
     };
     println!("{cases} generated calls, seed {seed}");
     let mut parts = Parts::default();

@@ -442,8 +442,9 @@ fn score(list: &List, a: usize, b: usize) -> Option<i64> {
 }
 
 fn same_anchored(old: &List, new: &List, anchor: usize, p: &[usize]) -> bool {
-    let (Some(here), Some(there)) = (anchored(old, anchor), anchored(new, p[anchor])) else {
-        return false;
+    let (here, there) = match (anchored(old, anchor), anchored(new, p[anchor])) {
+        (Some(here), Some(there)) => (here, there),
+        _ => return false,
     };
     let at = |scores: &[i32], a, b| engine::score(old.n, scores, a, b);
     (0..old.n).all(|a| (0..=a).all(|b| at(&here, a, b) == at(&there, p[a], p[b])))

@@ -132,7 +132,7 @@ impl Met {
             println!("kind {kind}, entries that no group, one, several hold:");
             println!("different ones: {different:?}, one twice: {same:?}");
         }
-        let outcome = match self.holding.as_flattened().as_flattened().contains(&0) {
+        let outcome = match self.holding.iter().flatten().flatten().any(|&n| n == 0) {
             true => Err("one of these was never met".into()),
             false => Ok(()),
         };
@@ -268,8 +268,9 @@ fn bench_cases() -> Result<(), String> {
     let mut met = Met::default();
     for (kind, sheet, answer) in bench::cases() {
         let mut pairs = vec![0; MOST_PAIRS];
-        let Ok(n) = usize::try_from(calls::pair_list(sheet.as_bytes(), &mut pairs)) else {
-            continue;
+        let n = match usize::try_from(calls::pair_list(sheet.as_bytes(), &mut pairs)) {
+            Ok(n) => n,
+            Err(_) => continue,
         };
         pairs.truncate(pair_count(n));
         let groups = match answer {

@@ -16,7 +16,7 @@ pub fn run(cases: usize, seed: u64, parts: &mut Parts) {
     small_sheets(parts);
     sheets_of_texts(parts);
     bench_cases(parts);
-    reorderings(cases.div_ceil(10), seed, parts);
+    reorderings((cases + 9) / 10, seed, parts);
 }
 
 fn generated_calls(cases: usize, seed: u64, parts: &mut Parts) -> Tally {

@@ -272,7 +272,7 @@ pub(crate) fn index(kind: i32, s: Scores, whole: u32, set: u32) -> Option<i64> {
 
 /// A group or split is listed if its index is half a point or more.
 fn is_listed(kind: i32, s: Scores, whole: u32, set: u32) -> bool {
-    index(kind, s, whole, set).is_some_and(|index| index >= 1)
+    matches!(index(kind, s, whole, set), Some(index) if index >= 1)
 }
 
 /// S(a,b) = d(a,x) + d(b,x) - d(a,b), over all of X, the anchor x included.

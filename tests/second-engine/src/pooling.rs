@@ -247,8 +247,9 @@ pub fn check_groups(
     let (found, others, pool) = (strong(first)?, strong(second)?, strong(&sheet)?);
     let mut count = 0;
     for (names, index) in &found {
-        let Some(other) = others.get(names) else {
-            continue;
+        let other = match others.get(names) {
+            Some(other) => other,
+            None => continue,
         };
         match pool.get(names) {
             Some(sum) if *sum >= index + other => count += 1,

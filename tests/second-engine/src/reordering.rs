@@ -84,7 +84,8 @@ pub fn parse_listing(text: &str) -> Option<Vec<(u32, i64)>> {
         .split_terminator('\n');
     lines
         .map(|line| {
-            let [set, size, index] = line.split(' ').collect::<Vec<_>>().try_into().ok()?;
+            let words: Vec<&str> = line.split(' ').collect();
+            let [set, size, index] = <[&str; 3]>::try_from(words).ok()?;
             let digits = u32::from_str_radix(set, 16).ok()?;
             let sized = size.parse() == Ok(digits.count_ones());
             (set.len() == 8 && sized).then_some((digits, parse_index(index)?))

@@ -214,7 +214,7 @@ pub fn flawed(random: &mut Random, choice: Option<usize>) -> (Case, i64) {
     });
     let chosen = |number| {
         let place = OF_A_WEIGHT.iter().position(|&other| other == number);
-        place.is_some_and(|place| choice >> place & 1 == 1)
+        matches!(place, Some(place) if choice >> place & 1 == 1)
     };
     let n = match chosen(6) {
         true => random.of(&[0, 33, 33, 34, 40, (1 << 32) + 6, usize::MAX]),

@@ -160,8 +160,9 @@ fn written_otherwise(
     change: impl Fn(String) -> String,
 ) -> i64 {
     let mut bytes = vec![0; MOST_BYTES];
-    let Ok(length) = usize::try_from(pool(first, second, &mut bytes)) else {
-        return pool(first, second, out);
+    let length = match usize::try_from(pool(first, second, &mut bytes)) {
+        Ok(length) => length,
+        Err(_) => return pool(first, second, out),
     };
     let text = change(String::from_utf8_lossy(&bytes[..length]).into());
     match out.get_mut(..text.len()) {

@@ -163,7 +163,7 @@ fn other_answers_do_not_pass() {
     let minus = answered(|number, weight| (-number, weight));
     rejected("minus the number", minus);
     let refused = answered(|number, weight| match (number, weight) {
-        (0, ..=0) => (19, 0),
+        (0, weight) if weight <= 0 => (19, 0),
         given => given,
     });
     rejected("19 for weights of 0 or less", refused);

@@ -7,7 +7,7 @@ use second_engine::engine::{self, CLEAN, MOST_BYTES, SPLITS, STRONG};
 use std::ffi::OsString;
 use std::fs::File;
 use std::io::{self, Read, Write};
-use std::os::fd::AsFd;
+use std::os::unix::io::AsFd;
 use std::process::ExitCode;
 
 /// Room for every listing.
