@@ -1,7 +1,8 @@
 # shellcheck shell=bash
 # Sourced by the commands of this repository: runs `rt`, and says on standard error which crate is being proved.
 # usage: prove ROOT WORD ..             runs `rt WORD ..` in the folder ROOT; what rt writes and its exit status are kept
-#        prove_quietly ROOT WORD ..     the same; of what rt writes only the last 20 lines are shown, and only if it fails
+#        prove_quietly ROOT WORD ..     the same; of what rt writes only the last 20 lines are shown, and only if it fails. Where target/ is
+#                                       not whole, as a run that was cut off may leave it, all is proved anew
 # WORD .. is `check NAME ..`, `staticlib NAME` or `ci`. FARZHUDYL_PROGRESS is the number of the descriptor to say it on, 2 without it:
 # ./test sets it, as it puts the standard error of its tests on standard output.
 
@@ -88,10 +89,12 @@ say_progress() { # MARKER ROOT COMMAND NAME ..     MARKER is a file made before 
     done
 }
 
-# rt gets a process group of its own, so that all of it can be ended; only this shell holds the pipe to say_progress.
+# rt gets a process group of its own, so that all of it can be ended; only this shell holds the pipe to say_progress. `rt ci` removes
+# target/. The stamps, by which rt knows what is proved, go first: cut off at any moment, it leaves none without its library.
 prove() { # ROOT WORD ..
     local root=$1 marker pipe progress rt status
     shift
+    if [ "$1" = ci ]; then rm -rf "$root/target/stamp"; fi
     marker=$(mktemp) || return 2
     exec {pipe}> >(say_progress "$marker" "$root" "$@" >/dev/null)
     progress=$!
@@ -111,16 +114,29 @@ prove() { # ROOT WORD ..
     return "$status"
 }
 
+# Whether rt found a library of target/rlib missing or damaged.
+is_not_whole() { # WHAT_RT_WROTE
+    grep -q '^rattle: .*\.rlib' <<<"$1"
+}
+
 # The log has no name once it is open, so nothing is left of it whatever happens.
 prove_quietly() { # ROOT WORD ..
-    local log out in progress status
-    log=$(mktemp) || return 2
-    exec {out}>"$log" {progress}>&"$(progress_descriptor)"
-    exec {in}<"$log"
-    rm -f "$log"
-    FARZHUDYL_PROGRESS=$progress prove "$@" >&"$out" 2>&1
-    status=$?
-    if [ "$status" != 0 ]; then tail -n 20 <&"$in" >&2; fi
-    exec {out}>&- {in}<&- {progress}>&-
+    local root=$1 log out in progress status said again
+    exec {progress}>&"$(progress_descriptor)"
+    for again in '' 1; do
+        log=$(mktemp) || return 2
+        exec {out}>"$log"
+        exec {in}<"$log"
+        rm -f "$log"
+        FARZHUDYL_PROGRESS=$progress prove "$@" >&"$out" 2>&1
+        status=$?
+        said=$(cat <&"$in")
+        exec {out}>&- {in}<&-
+        if [ "$status" = 0 ] || [ -n "$again" ] || ! is_not_whole "$said"; then break; fi
+        echo "target/ is not whole, as after a run that was cut off: proving anew" >&2
+        rm -rf "$root/target/stamp" && rm -rf "$root/target/rlib"
+    done
+    if [ "$status" != 0 ]; then tail -n 20 <<<"$said" >&2; fi
+    exec {progress}>&-
     return "$status"
 }

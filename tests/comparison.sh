@@ -9,7 +9,7 @@ root=$(cd "$(dirname "$0")/.." && pwd) || exit 2
 . "$root/scripts/tools.sh"
 # shellcheck source=scripts/library.sh
 . "$root/scripts/library.sh"
-need cargo cargo
+need_cargo
 need gcc gcc
 need ar binutils
 find_library "$root"

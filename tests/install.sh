@@ -15,7 +15,7 @@ need pkg-config pkg-config
 need groff groff
 need man man-db
 need nm binutils
-need cargo cargo
+need_cargo
 cd "$root" || exit 2
 unset DESTDIR
 room=$(mktemp -d) || exit 2
@@ -30,9 +30,10 @@ tree() { # FOLDER
 # What is to be in a prefix that did not exist.
 expected() {
     local name
-    printf 'drwxr-xr-x ./%s \n' bin include lib lib/pkgconfig share share/farzhudyl share/man share/man/man1 share/man/man3
-    printf -- '-rw-r--r-- ./%s \n' include/farzhudyl.h lib/libfarzhudyl.a lib/pkgconfig/farzhudyl.pc share/farzhudyl/installed \
-        share/man/man1/farzhudyl.1 share/man/man3/farzhudyl.3
+    printf 'drwxr-xr-x ./%s \n' bin include lib lib/pkgconfig share share/doc share/doc/farzhudyl share/farzhudyl share/man \
+        share/man/man1 share/man/man3
+    printf -- '-rw-r--r-- ./%s \n' include/farzhudyl.h lib/libfarzhudyl.a lib/pkgconfig/farzhudyl.pc share/doc/farzhudyl/LICENSE \
+        share/farzhudyl/installed share/man/man1/farzhudyl.1 share/man/man3/farzhudyl.3
     for name in strong clean splits show second; do
         printf -- '-rwxr-xr-x ./bin/farzhudyl-%s \n' "$name"
         printf 'lrwxrwxrwx ./share/man/man1/farzhudyl-%s.1 farzhudyl.1\n' "$name"
@@ -68,6 +69,8 @@ diff <(expected | sort) <(tree "$prefix")
 count $? "the files and their modes"
 cmp include/farzhudyl.h "$prefix/include/farzhudyl.h"
 count $? "the header is the repository's"
+cmp LICENSE "$prefix/share/doc/farzhudyl/LICENSE"
+count $? "the licence is the repository's"
 if [ -n "${FARZHUDYL_LIB_DIR:-}" ]; then library=$FARZHUDYL_LIB_DIR; else library=target/staticlib; fi
 cmp "$library/libfarzhudyl.a" "$prefix/lib/libfarzhudyl.a"
 count $? "the library is the one that was proved"
@@ -237,16 +240,47 @@ for line in "file $room/bad/file" 'file ../file' 'file bin/../../file' 'director
     refused "installing over a manifest with the line '$line'" 1 'is damaged' ./install "$room/bad/damaged"
 done
 
-# Commands without rt, and without cargo.
+# Without rt, and without a cargo that can build the second engine: all is put as long as it is built.
 mkdir "$room/few"
-for name in bash awk basename cat chmod cmp cp cut dirname env find gcc cc head id ln mkdir mktemp mv rm rmdir sed sort tail touch wc; do
+for name in bash awk basename cat chmod cmp cp cut dirname env find gcc cc grep head id ln mkdir mktemp mv rm rmdir sed sort stat tail touch wc; do
     found=$(command -v "$name") && ln -s "$found" "$room/few/$name"
 done
-refused "no rt" 2 'missing: the command rt' env PATH="$room/few" ./install "$room/bad/new"
-ln -s "$(command -v rt)" "$room/few/rt"
-PATH=$room/few ./install "$room/bad/new" 2>"$room/err" >/dev/null && grep -q '^left out: farzhudyl-second' "$room/err" &&
-    diff <(expected | sort | grep -v bin/farzhudyl-second) <(tree "$room/bad/new") && ./install --remove "$room/bad/new"
-count $? "no cargo: all but farzhudyl-second"
+PATH=$room/few ./install "$room/bad/new" >/dev/null 2>"$room/err" && [ ! -s "$room/err" ] && diff <(expected | sort) <(tree "$room/bad/new") &&
+    ./install --remove "$room/bad/new"
+count $? "neither rt nor cargo, where all is built: $(cat "$room/err")"
+rm -f target/bin/strong.made
+refused "no rt" 2 'the command rt is missing' env PATH="$room/few" ./install "$room/bad/new"
+# Each stand-in for cargo or rustc, what is said of it in one line, and all but the second engine is put.
+left_out() { # NAME TEXT
+    rm -f tests/second-engine/target/release/farzhudyl-second.made
+    PATH=$room/few:$room/tools ./install "$room/bad/new" 2>"$room/err" >/dev/null &&
+        [ "$(grep -v '^building' "$room/err")" = "left out: farzhudyl-second, as $2" ] &&
+        diff <(expected | sort | grep -v bin/farzhudyl-second) <(tree "$room/bad/new") && ./install --remove "$room/bad/new"
+    count $? "$1: all but farzhudyl-second: $(cat "$room/err")"
+}
+stand_in() { # COMMAND VERSION [ERROR]     with ERROR it says that, and fails, where it is asked for more than its version
+    # shellcheck disable=SC2016 # the word is the stand-in's
+    printf '#!/bin/sh\nif [ "$1" = --version ]; then echo "%s"; else echo "error: %s" >&2; exit 101; fi\n' "$1 $2" "${3:-}" >"$room/tools/$1"
+    chmod +x "$room/tools/$1"
+}
+mkdir "$room/tools"
+./run strong <examples/four.sheet >/dev/null 2>&1
+left_out 'no cargo' 'the command cargo is missing'
+stand_in cargo 1.48.0
+stand_in rustc 1.63.0
+left_out 'an older cargo' 'cargo 1.48.0 is too old: 1.56 or later is needed'
+stand_in cargo 1.65.0
+stand_in rustc '1.62.1 (e092d0b6b 2022-07-16)'
+left_out 'an older rustc' 'rustc 1.62.1 is too old: 1.63 or later is needed'
+rm "$room/tools/rustc"
+left_out 'no rustc' 'the command rustc is missing'
+stand_in rustc ''
+left_out 'a rustc that does not say its version' 'the command rustc does not say its version: 1.63 or later is needed'
+stand_in rustc 1.100.0
+stand_in cargo 2.0.0 'failed to parse lock file'
+left_out 'a cargo that fails' 'cargo cannot build it: error: failed to parse lock file'
+./install "$prefix" >/dev/null 2>&1 && [ -x "$prefix/bin/farzhudyl-second" ] && ./install --remove "$prefix"
+count $? "the second engine is put again"
 
 # A copy that fails midway: by the limit of the size of a file, and by a command that fails on its tenth call; once into nothing, and
 # once over an earlier installation.
@@ -290,7 +324,7 @@ done
 
 # No right to write: as nobody if this is root. nobody may have no right to read this folder, so it is a copy.
 mkdir "$room/copy"
-cp -R install scripts include man VERSION crates.txt "$room/copy"
+cp -R install scripts include man LICENSE VERSION crates.txt "$room/copy"
 chmod -R a+rX "$room/copy"
 other=()
 if [ "$(id -u)" = 0 ]; then other=(setpriv --reuid=65534 --regid=65534 --clear-groups); fi

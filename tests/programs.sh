@@ -10,8 +10,10 @@ cd "$(dirname "$0")/.." || exit 2
 . tests/counts.sh
 # shellcheck source=scripts/agree.sh
 . scripts/agree.sh
+# shellcheck source=scripts/made.sh
+. scripts/made.sh
 need gcc gcc
-need cargo cargo
+need_cargo
 room=$(mktemp -d) || exit 2
 trap 'rm -rf "$room"' EXIT
 check() { # NAME KIND EXPECTED   the sheet on standard input
@@ -79,7 +81,7 @@ whole 'both engines, strong of halves.sheet' 0 - ./run --second strong <examples
 cp tests/examples/client/spans.splits "$room/expected"
 whole 'both engines, splits of spans.sheet' 0 - ./run --second splits <tests/examples/spans.sheet
 cp tests/examples/client/four.strong "$room/expected"
-touch -d 2000-01-01 target/bin/strong
+rm -f target/bin/strong.made
 whole 'a program that is looked at again' 0 'proving and building, once: strong' ./run strong <examples/four.sheet
 echo 'refused 2' >"$room/expected"
 whole 'both engines, no byte' 0 '' ./run --second strong </dev/null
@@ -106,9 +108,33 @@ whole 'an unknown kind of names' 2 "$usage" ./run --names other </dev/null
 whole 'no kind for both engines' 2 "$usage" ./run --second </dev/null
 whole 'an unknown option' 2 "$usage" ./run --other strong </dev/null
 whole 'two kinds' 2 "$usage" ./run strong clean </dev/null
-mkdir "$room/few"
-for name in bash dirname; do ln -s "$(command -v "$name")" "$room/few/$name"; done
-whole 'no cargo' 2 'missing: the command cargo, which builds the second engine' env PATH="$room/few" ./run --second strong </dev/null
+said=$(./run --help 2>"$room/err") && [ "$said" = "$usage" ] && [ ! -s "$room/err" ]
+count $? "./run --help"
+
+# ./test starts nothing for a word that it does not know; here it could not, since there is no rt.
+mkdir -p "$room/few" "$room/other/target"
+for name in bash cat dirname find grep mkdir rm stat; do ln -s "$(command -v "$name")" "$room/few/$name"; done
+cp -R test scripts "$room/other"
+usage=$(sed -n "s/^usage='\(.*\)'$/\1/p" test)
+for word in all --version ''; do whole "./test '$word'" 2 "$usage" env PATH="$room/few" "$room/other/test" "$word" </dev/null; done
+whole './test with two words' 2 "$usage" env PATH="$room/few" "$room/other/test" --help --help </dev/null
+echo "$usage" >"$room/expected"
+whole './test --help' 0 '' env PATH="$room/few" "$room/other/test" --help </dev/null
+: >"$room/expected"
+whole './test without rt' 2 'the command rt is missing; it is of the Rattle kit, and proves and builds this repository' \
+    env PATH="$room/few" "$room/other/test" </dev/null
+[ -d "$room/other/target" ] && [ -n "$usage" ]
+count $? "./test leaves target/ alone"
+
+# A tool that is too old is named, with the version that is needed.
+printf '#!/bin/sh\necho "cargo 1.41.0"\n' >"$room/few/cargo"
+chmod +x "$room/few/cargo"
+needed() { (PATH=$room/few need_cargo); }
+whole 'an older cargo for the tests' 2 "cargo 1.41.0 is too old: 1.56 or later is needed (Debian's package cargo)" needed
+for case in '1.56 1.56 0' '1.56.0 1.56 0' '1.100.2 1.56 0' '2.0 1.56 0' '1.55.9 1.56 1' '0.99 1.56 1' '1.6 1.56 1'; do
+    read -r version least status <<<"$case"
+    whole "version $version beside $least" "$status" '' is_at_least "$version" "$least"
+done
 
 # Engines that differ: ./run with two stand-ins that are up to date.
 mkdir -p "$room/repo/crates" "$room/repo/target/bin" "$room/repo/tests/second-engine/"{src,target/release}
@@ -117,8 +143,19 @@ touch "$room/repo/crates.txt" "$room/repo/tests/second-engine/Cargo."{toml,lock}
 printf '#!/bin/sh\nprintf "set size index\\n00000001 1 1\\n"\n' >"$room/repo/target/bin/strong"
 printf '#!/bin/sh\nprintf "set size index\\n00000001 1 2\\n"\n' >"$room/repo/tests/second-engine/target/release/farzhudyl-second"
 chmod +x "$room/repo/target/bin/strong" "$room/repo/tests/second-engine/target/release/farzhudyl-second"
+for file in target/bin/strong tests/second-engine/target/release/farzhudyl-second; do
+    sources=("$room/repo/crates" "$room/repo/crates.txt")
+    if [ "$file" != target/bin/strong ]; then sources=("$room/repo"/tests/second-engine/{src,Cargo.toml,Cargo.lock}); fi
+    making "$room/repo/$file" "${sources[@]}" && made "$room/repo/$file"
+done
 whole 'engines that differ' 1 "the engines differ at line 2: the engine has \`00000001 1 1\`, the second engine has \`00000001 1 2\`" \
     "$room/repo/run" --second strong </dev/null
+rm "$room/repo/tests/second-engine/target/release/farzhudyl-second"
+: >"$room/expected"
+whole 'both engines, an older cargo' 2 'no second engine, as cargo 1.41.0 is too old: 1.56 or later is needed' \
+    env PATH="$room/few" "$room/repo/run" --second strong </dev/null
+rm "$room/few/cargo"
+whole 'both engines, no cargo' 2 'no second engine, as the command cargo is missing' env PATH="$room/few" "$room/repo/run" --second strong </dev/null
 
 # Two files that are equal or differ, as ./run --second compares them.
 printf 'a\nb\nc\n' >"$room/first"

@@ -5,7 +5,7 @@ set -u
 root=$(cd "$(dirname "$0")/.." && pwd) || exit 2
 # shellcheck source=scripts/tools.sh
 . "$root/scripts/tools.sh"
-need cargo cargo
+need_cargo
 need gcc gcc
 cd "$root/tests/second-engine" || exit 2
 out=$(cargo test --quiet --release --offline --locked 2>&1)
