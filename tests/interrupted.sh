@@ -16,6 +16,7 @@ need_rattle
 need gcc gcc
 need_cargo
 cd "$root" || exit 2
+ulimit -c 0
 unset DESTDIR FARZHUDYL_PROGRESS
 room=$(mktemp -d) || exit 2
 trap 'rm -rf "$room"' EXIT
@@ -149,6 +150,26 @@ done
 echo "left as it was: ${outcomes[before]:-0}, and nothing where nothing was: ${outcomes[nothing]:-0}; the later installation: ${outcomes[after]:-0}"
 [ "${outcomes[before]:-0}" -gt 30 ] && [ "${outcomes[nothing]:-0}" -gt 10 ] && [ "${outcomes[after]:-0}" -gt 30 ]
 count $? "both outcomes are met"
+
+# While rt proves, which is a stand-in here. What becomes of it then, tests/progress.sh sees.
+cat >"$room/bin/rt" <<'STAND_IN'
+#!/bin/sh
+: >"$CALLS.rt"
+exec sleep 60
+STAND_IN
+chmod +x "$room/bin/rt"
+for to in '-' ''; do
+    start nothing
+    rm -f target/bin/strong.made "$CALLS.rt"
+    begin
+    until [ -f "$CALLS.rt" ]; do sleep 0.1; done
+    kill -s INT -- "$to$command"
+    end
+    [ "$ended" = 130 ] && [ "$(tail -n 1 "$room/err")" = "interrupted: nothing is changed in $prefix" ] && [ ! -e "$prefix" ]
+    count $? "INT while rt proves: status $ended; $(cat "$room/err")"
+done
+rm "$room/bin/rt"
+(build_programs "$root" strong clean splits) 2>/dev/null || exit 2
 
 # ---- killed: the next ./install makes it whole, and --remove takes all of it
 
