@@ -4,9 +4,9 @@
 # FARZHUDYL_LIB_DIR is the folder of the library libfarzhudyl.a to take as it is. Without it that is target/staticlib, and the library is
 # made anew if the crates have changed since; FARZHUDYL_LIB_DIR is then set.
 # shellcheck source=scripts/made.sh
-. "$(dirname "${BASH_SOURCE[0]}")/made.sh"
+. "${BASH_SOURCE[0]%/*}/made.sh" || exit 2
 # shellcheck source=scripts/prove.sh
-. "$(dirname "${BASH_SOURCE[0]}")/prove.sh"
+. "${BASH_SOURCE[0]%/*}/prove.sh" || exit 2
 
 find_library() {
     local root=$1 given=${FARZHUDYL_LIB_DIR:-} folder library

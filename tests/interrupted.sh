@@ -19,7 +19,8 @@ cd "$root" || exit 2
 ulimit -c 0
 unset DESTDIR FARZHUDYL_PROGRESS
 room=$(mktemp -d) || exit 2
-trap 'rm -rf "$room"' EXIT
+# A command that was just started may get its signal while it still is this shell.
+trap 'if [ "$BASHPID" = $$ ]; then rm -rf "$room"; fi' EXIT
 prefix=$room/prefix
 mkdir "$room/tmp" "$room/bin" || exit 2
 
