@@ -227,7 +227,6 @@ done
 start before
 for folder in bin lib share/man/man3; do echo half >"$prefix/$folder/.farzhudyl-new.half"; done
 mv "$prefix/lib/libfarzhudyl.a" "$prefix/lib/.farzhudyl-old."
-cp "$prefix/share/farzhudyl/installed" "$prefix/share/farzhudyl/.farzhudyl-new.installed"
 mv "$prefix/share/farzhudyl/installed" "$prefix/share/farzhudyl/.farzhudyl-old.installed"
 cp -a "$prefix" "$room/interrupted"
 ./install --remove "$prefix" && [ ! -e "$prefix" ]
