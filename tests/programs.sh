@@ -143,11 +143,11 @@ touch "$room/repo/crates.txt" "$room/repo/tests/second-engine/Cargo."{toml,lock}
 printf '#!/bin/sh\nprintf "set size index\\n00000001 1 1\\n"\n' >"$room/repo/target/bin/strong"
 printf '#!/bin/sh\nprintf "set size index\\n00000001 1 2\\n"\n' >"$room/repo/tests/second-engine/target/release/farzhudyl-second"
 chmod +x "$room/repo/target/bin/strong" "$room/repo/tests/second-engine/target/release/farzhudyl-second"
-for file in target/bin/strong tests/second-engine/target/release/farzhudyl-second; do
-    sources=("$room/repo/crates" "$room/repo/crates.txt")
-    if [ "$file" != target/bin/strong ]; then sources=("$room/repo"/tests/second-engine/{src,Cargo.toml,Cargo.lock}); fi
-    making "$room/repo/$file" "${sources[@]}" && made "$room/repo/$file"
-done
+up_to_date() { # FILE SOURCE ..
+    making "$@" && made "$1"
+}
+up_to_date "$room/repo/target/bin/strong" "$room/repo"/{crates,crates.txt}
+up_to_date "$room/repo/tests/second-engine/target/release/farzhudyl-second" "$room/repo"/tests/second-engine/{src,Cargo.toml,Cargo.lock}
 whole 'engines that differ' 1 "the engines differ at line 2: the engine has \`00000001 1 1\`, the second engine has \`00000001 1 2\`" \
     "$room/repo/run" --second strong </dev/null
 rm "$room/repo/tests/second-engine/target/release/farzhudyl-second"
