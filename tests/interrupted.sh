@@ -13,6 +13,7 @@ root=$(cd "$(dirname "$0")/.." && pwd) || exit 2
 # shellcheck source=tests/counts.sh
 . "$root/tests/counts.sh"
 need_rattle
+need env coreutils 8.31
 need gcc gcc
 need_cargo
 cd "$root" || exit 2
@@ -74,11 +75,11 @@ chmod +x "$room/bin/any"
 for name in cat chmod cp find ln mkdir mktemp mv rm rmdir sed sort stat; do ln -s any "$room/bin/$name"; done
 export CALLS=$room/calls AT=0 SIGNAL=TERM WHEN=before MORE=''
 
-# Starts ./install in a process group of its own.
+# Starts ./install in a process group of its own, which ignores no signal, whatever this command was started to ignore.
 begin() {
     echo 0 >"$CALLS"
     set -m
-    TMPDIR=$room/tmp PATH=$room/bin:$PATH ./install "$prefix" >"$room/out" 2>"$room/err" </dev/null &
+    TMPDIR=$room/tmp PATH=$room/bin:$PATH env --default-signal=HUP,INT,QUIT,TERM ./install "$prefix" >"$room/out" 2>"$room/err" </dev/null &
     command=$!
     set +m
 }
