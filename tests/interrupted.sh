@@ -51,22 +51,27 @@ start() { # before|nothing
     if [ "$1" = before ]; then cp -a "$room/earlier" "$prefix"; fi
 }
 
-# A stand-in for each command that ./install starts. The call with the number AT sends SIGNAL to the process group, before or after it does
-# its work; with MORE the twenty after it do too.
+# A stand-in for each command that ./install starts. The call with the number AT sends SIGNAL to the process group of ./install, before or
+# after it does its work; with MORE the twenty after it do too. KILL goes to the stand-in's own group as well, which may be another.
 cat >"$room/bin/any" <<'STAND_IN'
 #!/bin/sh
 read -r calls <"$CALLS"
 calls=$((calls + 1))
 echo "$calls" >"$CALLS"
 PATH=${PATH#*:}
+send() {
+    read -r group <"$CALLS.group"
+    kill -s "$SIGNAL" -- "-$group" 2>/dev/null
+    if [ "$SIGNAL" = KILL ]; then kill -s KILL 0; fi
+}
 if [ "$calls" = "$AT" ] || { [ -n "$MORE" ] && [ "$calls" -gt "$AT" ] && [ "$calls" -le $((AT + 20)) ]; }; then
     if [ "$WHEN" = before ]; then
-        kill -s "$SIGNAL" 0
+        send
         exec "${0##*/}" "$@"
     fi
     "${0##*/}" "$@"
     ended=$?
-    kill -s "$SIGNAL" 0
+    send
     exit "$ended"
 fi
 exec "${0##*/}" "$@"
@@ -79,7 +84,9 @@ export CALLS=$room/calls AT=0 SIGNAL=TERM WHEN=before MORE=''
 begin() {
     echo 0 >"$CALLS"
     set -m
-    TMPDIR=$room/tmp PATH=$room/bin:$PATH env --default-signal=HUP,INT,QUIT,TERM ./install "$prefix" >"$room/out" 2>"$room/err" </dev/null &
+    # shellcheck disable=SC2016 # the words are the inner shell's
+    TMPDIR=$room/tmp PATH=$room/bin:$PATH env --default-signal=HUP,INT,QUIT,TERM sh -c 'echo $$ >"$CALLS.group" && exec ./install "$1"' sh \
+        "$prefix" >"$room/out" 2>"$room/err" </dev/null &
     command=$!
     set +m
 }
