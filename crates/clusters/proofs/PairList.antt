@@ -2,6 +2,7 @@
 use mathlib.Core.Path.{_≡_, refl, sym, ap, ap₂, _∙_, subst}
 use mathlib.Core.List.{List, _++_, map}
 use Prim.Native.Nat.{ℕ, zero, suc, _+_, _-_, _*_, _≤_, _<_}
+use native.Mathlib.Numerals.{add-one}
 use native.Mathlib.Nat.{max-comm, min-comm, max-eq-left, min-eq-right, mul-le-mul}
 use native.Mathlib.Decide.{ℕ-discrete, decLe, decLt}
 use native.Mathlib.Omega.{arith}
@@ -37,6 +38,10 @@ row-lt (suc n) a b h k = go (ℕ-discrete a n) (row-lt n a b)
     go : Dec (a ≡ n) → (a < n → b ≤ a → rowStart a + b < rowStart n) → rowStart a + b < rowStart (suc n)
     go (yes e) ih = omega (arith, ap rowStart e, rowStart-suc n)
     go (no f) ih = omega (arith, ih (omega arith) k, rowStart-suc n)
+
+-- where the row after row i starts
+pub next-start : {start : ℕ} (i : ℕ) → start ≡ rowStart i → start + (i + 1) ≡ rowStart (i + 1)
+next-start i e = omega (arith, rowStart-suc i, ap rowStart (add-one i))
 
 pub place-comm : (a b : ℕ) → place a b ≡ place b a
 unfolding place

@@ -64,7 +64,7 @@ number-one : (base b : ℕ) → numberFrom base 0 (b ∷ []) ≡ digitValue b
 unfolding numberFrom
 number-one base b = rw (zero-mul base, zero-add (digitValue b))
 
-number-last : (base k : ℕ) (w : List ℕ) (b : ℕ) → numberFrom base k (w ++ (b ∷ [])) ≡ numberFrom base k w * base + digitValue b
+pub number-last : (base k : ℕ) (w : List ℕ) (b : ℕ) → numberFrom base k (w ++ (b ∷ [])) ≡ numberFrom base k w * base + digitValue b
 unfolding numberFrom
 number-last base k [] b = refl
 number-last base k (c ∷ w) b = number-last base (k * base + digitValue c) w b

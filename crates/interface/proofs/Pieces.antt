@@ -5,7 +5,7 @@ use mathlib.Core.List.{List, [], _∷_, _++_, append-assoc, List·Memᴰ·head, 
 use Prim.Native.Nat.{ℕ, _*_, _<_, _≤_}
 use native.Mathlib.Omega.{arith}
 use lib.Dec.{T, eqb, eqb→eq, eqb-refl, not-T, T-not}
-use lib.ListN.{length, length-append}
+use lib.ListN.{length, getD, drop, length-append}
 use Rattle.lists.specs.Lists.{_∈_, each, all}
 use Rattle.lists.proofs.Tests.{and-T, T-and, T-true, T-false, cond-elim}
 use Rattle.lists.proofs.Lists.{in-all, all-in}
@@ -64,6 +64,18 @@ module _ (c : ℕ) where
   cut-first (b ∷ w) t f =
       let (h, r) = and-T (not (eqb b c)) (all (λ b. not (eqb b c)) w) f in
       cut-inside b (w ++ (c ∷ t)) h ∙ ap (longer b) (cut-first w t r)
+
+  -- before another text it belongs to the first piece of that
+  pub cut-front : (w t : List ℕ) → free c w → cut c (w ++ t) ≡ (w ++ getD (cut c t) 0 []) ∷ drop 1 (cut c t)
+  unfolding longer all
+  cut-front [] t f = go (cut c t) (some-piece c t)
+    where
+      go : (ws : List (List ℕ)) → 0 < length ws → ws ≡ getD ws 0 [] ∷ drop 1 ws
+      go [] h = absurd (omega arith)
+      go (v ∷ ws) h = refl
+  cut-front (b ∷ w) t f =
+      let (h, r) = and-T (not (eqb b c)) (all (λ b. not (eqb b c)) w) f in
+      cut-inside b (w ++ t) h ∙ ap (longer b) (cut-front w t r)
 
   -- pieces without the byte c, put together, are cut again
   pub cut-joined : (ws : List (List ℕ)) → 0 < length ws → ((w : List ℕ) → w ∈ ws → free c w) → cut c (joined c ws) ≡ ws

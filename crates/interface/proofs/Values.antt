@@ -1,17 +1,17 @@
 -- What is written for a name and for a pair: its bytes, its length, its form, and the pair read back.
 use mathlib.Core.Path.{_≡_, refl, sym, ap, _∙_, subst}
-use mathlib.Core.Bool.{Bool, true, false, not, _&&_, _||_}
-use mathlib.Core.Logic.{_⊎_, inl, inr}
+use mathlib.Core.Bool.{Bool, true, false, not, cond, _&&_, _||_}
+use mathlib.Core.Logic.{_⊎_, inl, inr, ⊎-elim}
 use mathlib.Core.List.{List, [], _∷_, _++_}
 use Prim.Native.Nat.{ℕ, suc, _+_, _/_, _%_, _≤_, _<_}
 use native.Mathlib.Omega.{arith}
 use borrow.Author.Tests.{ne-eqb}
-use lib.Dec.{T, eqb, leb, leb→le, le→leb, not-T}
+use lib.Dec.{T, eqb, eqb→eq, leb, leb→le, le→leb, not-T}
 use lib.IntN.{ℤ, pos, negsuc, negℤ}
 use lib.ListN.{length, length-append, getD}
 use Rattle.lists.specs.Lists.{all}
-use Rattle.lists.proofs.Tests.{and-T, T-and, T-true, true-T, T-false, T-or-left, T-or-right, T-or-not, eqb-no}
-use Rattle.lists.proofs.Lists.{in-all, all-in}
+use Rattle.lists.proofs.Tests.{and-T, T-and, T-true, true-T, T-false, or-T, T-or-left, T-or-right, T-or-not, eqb-no}
+use Rattle.lists.proofs.Lists.{no-length, in-all, all-in}
 use Rattle.integers.specs.Range.{Within}
 use Rattle.integers.proofs.Linear.{up, dn}
 use Rattle.integers.proofs.Range.{up-le, dn-le}
@@ -52,7 +52,7 @@ use Rattle.interface.specs.Refusals.{isAllowed}
 use Rattle.interface.proofs.Pieces.{free, all-free, all-append, same-bytes}
 use Rattle.interface.proofs.Digits.{length-decimal, decimal-some}
 use Rattle.interface.proofs.Numerals.{decimal-run, decimal-form}
-use Rattle.interface.proofs.Points.{ending, odd, points-parts, points-whole, points-well, read-points}
+use Rattle.interface.proofs.Points.{ending, ended, odd, points-parts, points-whole, points-well, read-points}
 
 -- a byte of a name or of a pair: those of check 3 but the space and the line feed
 isPlain : ℕ → Bool
@@ -94,6 +94,68 @@ name-word (b ∷ w) t =
       plain = T-and (isPlain b) (all isPlain w) (name-plain b (T-or-left (isUpper b) (isDigit b) u)) (in-all isPlain w (λ c m. name-plain c (all-in test w r m)));
       short = omega (arith, leb→le (length w) 7 few);
     }
+
+digits-plain : (w : List ℕ) → T (all isDigit w) → T (all isPlain w)
+digits-plain w t = in-all isPlain w λ b m. name-plain b (T-or-right (isUpper b) (isDigit b) (all-in isDigit w t m))
+
+ending-plain : (h : Bool) → T (all isPlain (ending h))
+unfolding isPlain isUpper isDigit all halfText
+ending-plain true = tt
+ending-plain false = tt
+
+-- a well-formed cell: a minus, 7 digits and `.5` at most
+minus-plain : (b : ℕ) → T (eqb b minus) → T (isPlain b)
+unfolding isPlain
+minus-plain b t = T-or-left (isUpper b || isDigit b || eqb b minus) (eqb b point) (T-or-right (isUpper b || isDigit b) (eqb b minus) t)
+
+numeral-parts : (w : List ℕ) → T (isNumeral w) → T (all isDigit w) × (length w ≤ 7)
+unfolding isNumeral
+numeral-parts [] t = absurd t
+numeral-parts (b ∷ w) t =
+    let (front, _) = and-T (all isDigit (b ∷ w) && leb (length w) 6) (not (eqb b 48) || eqb (length w) 0) t in
+    let (run, few) = and-T (all isDigit (b ∷ w)) (leb (length w) 6) front in
+    (run, omega (arith, leb→le (length w) 6 few))
+
+points-word : (w : List ℕ) → T (isPoints w) → Word 9 w
+unfolding isPoints halfText
+points-word w t =
+    let (n, h) = and-T (isNumeral (wholePart w)) (isWholeOrHalf w) t in
+    let (run, few) = numeral-parts (wholePart w) n in
+    let e = ended w h in
+    record {
+      plain = subst (λ (v : List ℕ). T (all isPlain v)) e
+          (all-append isPlain (wholePart w) (ending (hasHalf w)) (digits-plain (wholePart w) run) (ending-plain (hasHalf w)));
+      short = omega (arith, few, ap length e, length-append (wholePart w) (ending (hasHalf w)), short (hasHalf w));
+    }
+  where
+    short : (h : Bool) → length (ending h) ≤ 2
+    short true = omega arith
+    short false = omega arith
+
+value-word : (w : List ℕ) → T (isValue w) → Word 10 w
+unfolding isValue all
+value-word [] t = absurd t
+value-word (b ∷ w) t = go (eqb b minus) refl t
+  where
+    go : (x : Bool) → eqb b minus ≡ x → T (cond x (isPoints w && not (sameBytes w (48 ∷ []))) (isPoints (b ∷ w))) → Word 10 (b ∷ w)
+    go true e t =
+        let r = points-word w (and-T (isPoints w) (not (sameBytes w (48 ∷ []))) t .0) in
+        record { plain = T-and (isPlain b) (all isPlain w) (minus-plain b (true-T e)) (r .plain); short = omega (arith, r .short) }
+    go false e t = let r = points-word (b ∷ w) t in record { plain = r .plain; short = omega (arith, r .short) }
+
+pub cell-word : (w : List ℕ) → T (isCell w) → Word 10 w
+unfolding isCell isLoneMinus all
+cell-word w t = ⊎-elim (lone w) (value-word w) (or-T (isLoneMinus w) (isValue w) t)
+  where
+    lone : (v : List ℕ) → T (isLoneMinus v) → Word 10 v
+    lone [] t = absurd t
+    lone (b ∷ v) t =
+        let (m, l) = and-T (eqb b minus) (eqb (length v) 0) t in
+        let none = no-length v (eqb→eq (length v) 0 l) in
+        record {
+          plain = T-and (isPlain b) (all isPlain v) (minus-plain b m) (subst (λ (u : List ℕ). T (all isPlain u)) (sym none) tt);
+          short = omega (arith, ap length none);
+        }
 
 -- a text that does not start with a minus: its form, what it stands for, and that it is not the mark
 pub plain-test : (w : List ℕ) → eqb (getD w 0 0) minus ≡ false → isValue w ≡ isPoints w
@@ -186,16 +248,11 @@ pair-form (Scored z) h t = let w = signedPoints z in T-or-right (isLoneMinus w) 
 pair-form Unscored h t = tt
 
 -- its bytes, and how many: 1,000,000 points have 7 digits, a half less has 6 and `.5`
-ending-plain : (h : Bool) → T (all isPlain (ending h))
-unfolding isPlain isUpper isDigit all halfText
-ending-plain true = tt
-ending-plain false = tt
-
 points-plain : (k : ℕ) → T (all isPlain (pointsText k))
 points-plain k =
     let w = decimal (k / onePoint) in
-    subst (λ (w : List ℕ). T (all isPlain w)) (sym (points-parts k)) (all-append isPlain w (ending (odd k))
-    (in-all isPlain w (λ b m. name-plain b (T-or-right (isUpper b) (isDigit b) (all-in isDigit w (decimal-run (k / onePoint)) m)))) (ending-plain (odd k)))
+    subst (λ (w : List ℕ). T (all isPlain w)) (sym (points-parts k))
+    (all-append isPlain w (ending (odd k)) (digits-plain w (decimal-run (k / onePoint))) (ending-plain (odd k)))
 
 points-short : (k : ℕ) → k ≤ 2000000 → length (pointsText k) ≤ 8
 unfolding onePoint halfText

@@ -20,13 +20,15 @@ use mathlib.Core.List.{
   append-nil,
   append-assoc,
   map-append,
+  map-id,
 }
-use Prim.Native.Nat.{ℕ, zero, suc, _<_, _*_}
+use Prim.Native.Nat.{ℕ, zero, suc, _+_, _<_, _*_}
+use native.Mathlib.Numerals.{add-one}
 use native.Mathlib.Omega.{arith}
 use native.Mathlib.Decide.{ℕ-discrete, decLt}
 use lib.Dec.{T, eqb, eqb→eq, not-T}
-use lib.ListN.{length, length-append, length-map, take, getD, List·getD-append}
-use lib.Seq.{getD-at, take-append-seam, take-append-le}
+use lib.ListN.{length, length-append, length-map, take, drop, getD, length-drop, List·getD-append}
+use lib.Seq.{drop-cons, getD-at, take-append-seam, take-append-le}
 use Rattle.lists.specs.Lists.{_∈_, below, each, keep, all}
 use Rattle.lists.proofs.Tests.{T-or-not, and-T, T-and, eqb-yes}
 
@@ -239,6 +241,33 @@ getD-below f (suc n) i d h = ap (λ l. getD l i d) (map-append f (below n) (n �
     go : Dec (i ≡ n) → (i < n → getD (map f (below n)) i d ≡ f i) → getD (map f (below n) ++ (f n ∷ [])) i d ≡ f i
     go (yes e) ih = rw e (getD-at (map f (below n)) (f n) [] d n long)
     go (no g) ih = List·getD-append (map f (below n)) (f n ∷ []) d i (omega (arith, long)) ∙ ih (omega arith)
+
+pub below-at : (n i : ℕ) → i < n → getD (below n) i 0 ≡ i
+below-at n i h = rw (map-id (below n)) at (getD-below (λ i. i) n i 0 h)
+
+pub all-places {ℓ} : {A : Type ℓ} (p : A → Bool) (l : List A) (d : A) → ((i : ℕ) → i < length l → T (p (getD l i d))) → T (all p l)
+unfolding all
+all-places p [] d f = tt
+all-places p (x ∷ l) d f = T-and (p x) (all p l) (f 0 (omega arith)) (all-places p l d (λ i h. f (suc i) (omega arith)))
+
+-- a list that is an element and others from place j on
+module _ {A : Type 0} (l : List A) (j : ℕ) (d : A) {x : A} {t : List A} (e : drop j l ≡ x ∷ t) where
+  drop-inside : j < length l
+  drop-inside = omega (arith, ap length e, length-drop j l)
+
+  pub drop-first : getD l j d ≡ x
+  drop-first = ap (λ (v : List A). getD v 0 d) (sym (drop-cons l j d drop-inside) ∙ e)
+
+  pub drop-others : drop (j + 1) l ≡ t
+  drop-others = rw (add-one j) (ap (drop 1) (sym (drop-cons l j d drop-inside) ∙ e))
+
+-- what holds of each number below j and of j
+pub below-more : {P : ℕ → Type 0} {j : ℕ} → ((i : ℕ) → i < j → P i) → P j → (i : ℕ) → i < j + 1 → P i
+below-more {P} {j} f x i h = go (ℕ-discrete i j)
+  where
+    go : Dec (i ≡ j) → P i
+    go (yes e) = subst P (sym e) x
+    go (no q) = f i (omega arith)
 
 -- the first k elements, and what is made of them
 pub of-take {ℓ} : {A : Type ℓ} (k : ℕ) (l : List A) {x : A} → x ∈ take k l → x ∈ l

@@ -1,14 +1,14 @@
 -- A test of every element of a list, made from the front: the elements before place i have passed.
 use mathlib.Core.Path.{_≡_, refl, sym, ap, _∙_}
 use mathlib.Core.Bool.{Bool, true, false, _&&_}
-use mathlib.Core.List.{List, map-id}
+use mathlib.Core.List.{List}
 use Prim.Native.Nat.{ℕ, _+_, _≤_, _<_}
 use native.Mathlib.Numerals.{add-one}
 use native.Mathlib.Omega.{arith}
 use lib.ListN.{length, drop, getD, drop-of-length-le}
 use lib.Seq.{drop-cons}
 use Rattle.lists.specs.Lists.{all, below}
-use Rattle.lists.proofs.Lists.{count-below, getD-below}
+use Rattle.lists.proofs.Lists.{count-below, below-at}
 
 pub record Passed {A : Type 0} (p : A → Bool) (l : List A) (i : ℕ) : Type 0 where
   pub rest : all p (drop i l) ≡ all p l
@@ -34,9 +34,6 @@ unfolding all
 ended {l} s h = rw (drop-of-length-le l h) at (s .rest)
 
 -- the same over the numbers below n
-below-at : (n i : ℕ) → i < n → getD (below n) i 0 ≡ i
-below-at n i h = rw (map-id (below n)) at (getD-below (λ i. i) n i 0 h)
-
 module _ {p : ℕ → Bool} {n i : ℕ} (s : Passed p (below n) i) where
   pub next-below : i < n → p i ≡ true → Passed p (below n) (i + 1)
   next-below h t = next s 0 (omega (arith, count-below n)) (ap p (below-at n i h) ∙ t)

@@ -35,6 +35,7 @@ use Rattle.interface.specs.Refusals.{
 use Rattle.interface.specs.Calls.{ReaderCall, hasName, nameOf, startOf, nameStart, behind, NameCall}
 use Rattle.interface.proofs.Refusals.{Gives, no-first, right-count}
 use Rattle.interface.proofs.Pieces.{some-piece}
+use Rattle.accept.specs.Accepted.{Accepted}
 use Rattle.reader.specs.Square.{square, Holds}
 use Rattle.reader.specs.Names.{NamePart}
 
@@ -124,6 +125,27 @@ passes-few s e₁ =
 pub slots-pairs : (s : List ℕ) (l : List ℤ) → readerRefusal s ≡ 0
     → take (rowStart (entries s)) (slots (readerRefusal s) (pairs s) l) ≡ pairs s
 slots-pairs s l e = rw (e, slots-written (pairs s) l) (take-at (pairs s) _ (rowStart (entries s)) (pairs-length s))
+
+-- a sheet that was accepted in one pass
+module _ {s : List ℕ} {n : ℕ} {lent after : List ℤ} (a : Accepted s n lent after) where
+  pub accepted-answer : answer (readerRefusal s) (entries s) ≡ Count n
+  unfolding answer
+  accepted-answer = sym (ap₂ answer (sym (a .passed)) (a .count))
+
+  pub accepted-pairs : {count : ℕ} → count ≡ rowStart n → take count after ≡ pairs s
+  accepted-pairs {count} c =
+      ap₂ (λ (k : ℕ) (l : List ℤ). take k l) (c ∙ ap rowStart (a .count)) (a .written)
+      ∙ take-at (pairs s) _ (rowStart (entries s)) (pairs-length s)
+
+  pub accepted-call : (slot : List ℤ) {written o : List ℤ} → written ≡ pairs s → o ≡ written ++ drop (length written) slot → ReaderCall s slot (Count n) o
+  accepted-call slot e w = record {
+    answered = sym accepted-answer;
+    written =
+        w
+        ∙ ap (λ (l : List ℤ). l ++ drop (length l) slot) e
+        ∙ sym (slots-written (pairs s) slot)
+        ∙ ap (λ (r : ℕ). slots r (pairs s) slot) (sym (a .passed));
+  }
 
 -- the entries and the pair list of a sheet that was read
 module _ (s : List ℕ) {n : ℕ} (e : answer (readerRefusal s) (entries s) ≡ Count n) where

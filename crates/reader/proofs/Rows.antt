@@ -1,5 +1,5 @@
 -- A line of values, piece by piece.
-use mathlib.Core.Path.{_≡_, refl, sym, ap, _∙_}
+use mathlib.Core.Path.{_≡_, refl}
 use mathlib.Core.Bool.{Bool, true, false, not, cond, and-true, and-false}
 use mathlib.Core.List.{List, map}
 use Prim.Native.Nat.{ℕ, suc, _+_, _≤_, _<_}
@@ -12,50 +12,13 @@ use lib.ListN.{length, set, drop}
 use lib.Seq.{sets}
 use Rattle.lists.specs.Lists.{all}
 use Rattle.lists.proofs.Tests.{true-T, and-T}
-use Rattle.pairs.specs.declared.Pair.{Pair}
-use Rattle.pairs.specs.Pairs.{listNumber}
-use Rattle.interface.specs.Sheet.{cut, isCell, pairSaid}
+use Rattle.interface.specs.Sheet.{cut, isCell}
 use Rattle.interface.specs.Refusals.{isRow}
 use Rattle.interface.proofs.Pieces.{some-piece}
-use Rattle.text.specs.Reading.{pieceAt, ValueCall}
-use Rattle.text.specs.declared.Cursor.{Cursor}
-use Rattle.text.specs.declared.ValueRead.{ValueRead}
-use Rattle.text.specs.declared.ValueRead.the-variants.{Value, Refused}
+use Rattle.text.specs.Reading.{pieceAt}
 use Rattle.text.proofs.Pieces.{pieces-more, pieces-last}
-use Rattle.text.proofs.Values.{valueIf, valueAt, call-value}
 use Rattle.sheet.proofs.Lines.{pieces-from}
 use Rattle.reader.specs.Square.{numberSaid}
-
--- what an answer of `read_value` says
-pub record Got (s : List ℕ) (at : ℕ) (p : Pair) (next : Cursor) : Type 0 where
-  pub good : isCell (pieceAt 32 s at) ≡ true
-  pub number : listNumber p ≡ numberSaid (pieceAt 32 s at)
-  pub end : next .at ≡ at + length (pieceAt 32 s at)
-
-pub value-got : {s : List ℕ} {at : ℕ} {r : ValueRead} (p : Pair) (next : Cursor) → ValueCall s at r → r ≡ Value p next → Got s at p next
-unfolding valueAt numberSaid
-value-got {s} {at} p next h q = go (isCell w) refl (sym q ∙ call-value h)
-  where
-    w : List ℕ
-    w = pieceAt 32 s at
-
-    go : (b : Bool) → isCell w ≡ b → Value p next ≡ valueIf b (pairSaid w) (at + length w) → Got s at p next
-    go true t e =
-        let is : p ≡ pairSaid w = cc in
-        let x : next ≡ record { at = at + length w } = cc in
-        record { good = t; number = ap listNumber is; end = ap (λ (c : Cursor). c .at) x }
-    go false t e = let z : _≡_ {A = ℕ} 0 1 = cc in absurd (omega arith)
-
-pub value-not : {s : List ℕ} {at : ℕ} {r : ValueRead} → ValueCall s at r → r ≡ Refused → isCell (pieceAt 32 s at) ≡ false
-unfolding valueAt
-value-not {s} {at} h q = go (isCell w) refl (sym q ∙ call-value h)
-  where
-    w : List ℕ
-    w = pieceAt 32 s at
-
-    go : (b : Bool) → isCell w ≡ b → Refused ≡ valueIf b (pairSaid w) (at + length w) → isCell w ≡ false
-    go true t e = let z : _≡_ {A = ℕ} 0 1 = cc in absurd (omega arith)
-    go false t e = t
 
 pub row-none : (m : ℕ) (t : List ℕ) → m ≡ 0 → isRow m (cut 32 t) ≡ false
 unfolding isRow

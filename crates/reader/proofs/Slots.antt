@@ -2,7 +2,6 @@
 use mathlib.Core.Path.{_≡_, refl, sym, ap, _∙_}
 use mathlib.Core.Bool.{Bool, true, false}
 use Prim.Native.Nat.{ℕ, _+_, _≤_, _<_}
-use native.Mathlib.Numerals.{add-one}
 use native.Mathlib.Omega.{arith}
 use lib.IntN.{ℤ}
 use mir.Val.{SFits, toZ, ofZ}
@@ -12,7 +11,7 @@ use Rattle.lists.proofs.Tests.{T-true, true-T}
 use Rattle.integers.specs.Integers.{eqZ}
 use Rattle.integers.proofs.Linear.{eqZ-yes, yes-eqZ}
 use Rattle.clusters.specs.PairList.{rowStart}
-use Rattle.clusters.proofs.PairList.{rowStart-le, rowStart-suc, row-lt}
+use Rattle.clusters.proofs.PairList.{rowStart-le, row-lt}
 
 -- two signed numbers are equal where their bits are
 pub bits-same : (x y : ℤ) → SFits w32 x → SFits w32 y → ofZ w32 x ≡ ofZ w32 y → eqZ x y ≡ true
@@ -27,7 +26,3 @@ bits-other x y d = go (eqZ x y) refl
 
 pub row-room : (i : ℕ) → i ≤ 31 → rowStart i + i < 528
 row-room i h = omega (arith, row-lt 32 i i (omega arith) (omega arith), rowStart-le 32 (omega arith))
-
--- where the next row starts
-pub next-start : {start : ℕ} (i : ℕ) → start ≡ rowStart i → start + (i + 1) ≡ rowStart (i + 1)
-next-start i e = omega (arith, rowStart-suc i, ap rowStart (add-one i))

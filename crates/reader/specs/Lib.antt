@@ -1,2 +1,3 @@
 pub mod Square
 pub mod Names
+pub mod Own

@@ -12,6 +12,7 @@ ghost use Rattle.interface.specs.Refusals.{isRow, wrongLines, wrongValues, read
 ghost use Rattle.interface.specs.Calls.{ReaderCall, startOf, NameCall};
 ghost use Rattle.reader.specs.Square.{numberSaid, square, Holds};
 ghost use Rattle.reader.specs.Names.{NamePart};
+ghost use Rattle.reader.specs.Own.{SheetRead};
 use answers::Answer;
 use text::ValueRead;
 
@@ -116,8 +117,9 @@ fn fill(pairs: &mut [i32], values: &[i32], n: usize)
     }
 }
 
-// Checks 2 to 9 and, if none refuses, the number of entries, and the pair list in the first slots.
-pub fn read(sheet: &[u8], pairs: &mut [i32; 528]) -> Answer
+// Checks 2 to 9, one after the other, and, if none refuses, the number of entries, and the pair list in the first
+// slots: for sheets that were not accepted in one pass.
+pub fn read_checked(sheet: &[u8], pairs: &mut [i32; 528]) -> Answer
     ensures { λ r. ⌜ ReaderCall (now (sheet .entry)) (now (pairs .entry)) r (now (pairs .exit)) ⌝ }
 {
     if sheet::wrong_length(sheet) {
@@ -150,12 +152,49 @@ pub fn read(sheet: &[u8], pairs: &mut [i32; 528]) -> Answer
     Answer::Count(n)
 }
 
+// The same in one pass where that will do, into slots of the caller's own: nothing is known of those if the sheet is
+// refused.
+pub fn read_own(pairs: &mut [i32; 528], sheet: &[u8]) -> Answer
+    ensures { λ r. ⌜ SheetRead (now (sheet .entry)) r (now (pairs .exit)) ⌝ }
+{
+    let n = accept::accept(pairs, sheet);
+    if n > 0 {
+        return Answer::Count(n);
+    }
+    read_checked(sheet, pairs)
+}
+
+// Writes the numbers to the first slots.
+fn put(out: &mut [i32], numbers: &[i32])
+    requires { ⌜ length (now numbers) ≤ length (now out) ⌝ }
+    ensures { λ _. ⌜ now (out .exit) ≡ now (numbers .entry) ++ drop (length (now (numbers .entry))) (now (out .entry)) ⌝ }
+{
+    for i in 0..numbers.len() {
+        out[i] = numbers[i];
+    }
+}
+
+// Checks 2 to 9 and, if none refuses, the number of entries, and the pair list in the first slots. A refusal writes no
+// slot, so one pass goes into slots of its own.
+pub fn read(sheet: &[u8], pairs: &mut [i32; 528]) -> Answer
+    ensures { λ r. ⌜ ReaderCall (now (sheet .entry)) (now (pairs .entry)) r (now (pairs .exit)) ⌝ }
+{
+    let mut own = [0i32; 528];
+    let n = accept::accept(&mut own, sheet);
+    if n == 0 {
+        return read_checked(sheet, pairs);
+    }
+    let count = matrix::pair_count(n);
+    put(pairs, &own[..count]);
+    Answer::Count(n)
+}
+
 // The number of the first of checks 2 to 9 that refuses the sheet, 0 if none does.
 pub fn refusal(sheet: &[u8]) -> usize
     ensures { λ r. ⌜ r ≡ readerRefusal (now (sheet .entry)) ⌝ }
 {
     let mut pairs = [0i32; 528];
-    let Answer::Refused(number) = read(sheet, &mut pairs) else {
+    let Answer::Refused(number) = read_own(&mut pairs, sheet) else {
         return 0;
     };
     number
@@ -187,7 +226,7 @@ pub fn name_part(sheet: &[u8], entry: usize) -> Part
 {
     let none: usize = 0;
     let mut pairs = [0i32; 528];
-    let Answer::Count(n) = read(sheet, &mut pairs) else {
+    let Answer::Count(n) = read_own(&mut pairs, sheet) else {
         return Part {
             start: none,
             end: none,

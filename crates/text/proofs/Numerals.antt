@@ -189,7 +189,7 @@ module _ (s : List ℕ) (from end : ℕ) (is : end ≡ from + length (digits 7 (
       numeral-is ds h ∙ rw (r .run, b, n)
 
 -- the size of the number that digits stand for
-number-small : (k v : ℕ) (w : List ℕ) → v < 10 ^ k → all isDigit w ≡ true → numberFrom 10 v w < 10 ^ (k + length w)
+pub number-small : (k v : ℕ) (w : List ℕ) → v < 10 ^ k → all isDigit w ≡ true → numberFrom 10 v w < 10 ^ (k + length w)
 unfolding numberFrom all
 number-small k v [] p e = let z : k + 0 ≡ k = omega arith in rw z p
 number-small k v (b ∷ w) p e =

@@ -1,5 +1,5 @@
 -- What is read at a place of a line, as one value, by which the proofs go.
-use mathlib.Core.Path.{_≡_, refl, sym, ap₂, subst}
+use mathlib.Core.Path.{_≡_, refl, sym, ap, ap₂, _∙_, subst}
 use mathlib.Core.Bool.{Bool, true, false, cond}
 use mathlib.Core.List.{List}
 use Prim.Native.Nat.{ℕ, _+_}
@@ -8,8 +8,10 @@ use lib.IntN.{pos}
 use lib.ListN.{length}
 use Rattle.pairs.specs.declared.Carried.the-variants.{Scored}
 use Rattle.pairs.specs.declared.Pair.{Pair}
+use Rattle.pairs.specs.Pairs.{listNumber}
 use Rattle.interface.specs.Sheet.{space, isCell, pairSaid}
 use Rattle.text.specs.Reading.{pieceAt, refusalOf, pairIn, placeIn, ValueCall}
+use Rattle.text.specs.declared.Cursor.{Cursor}
 use Rattle.text.specs.declared.ValueRead.{ValueRead}
 use Rattle.text.specs.declared.ValueRead.the-variants.{Value, Refused}
 
@@ -51,3 +53,34 @@ module _ {line : List ℕ} {at : ℕ} {r : ValueRead} where
   call-value c =
       let w = pieceAt space line at in
       told (isCell w) (pairSaid w) (at + length w) r (c .number, c .pair, c .place)
+
+-- what an answer of `read_value` says
+pub record Got (s : List ℕ) (at : ℕ) (p : Pair) (next : Cursor) : Type 0 where
+  pub good : isCell (pieceAt space s at) ≡ true
+  pub number : listNumber p ≡ listNumber (pairSaid (pieceAt space s at))
+  pub end : next .at ≡ at + length (pieceAt space s at)
+
+pub value-got : {s : List ℕ} {at : ℕ} {r : ValueRead} (p : Pair) (next : Cursor) → ValueCall s at r → r ≡ Value p next → Got s at p next
+unfolding valueAt
+value-got {s} {at} p next h q = go (isCell w) refl (sym q ∙ call-value h)
+  where
+    w : List ℕ
+    w = pieceAt space s at
+
+    go : (b : Bool) → isCell w ≡ b → Value p next ≡ valueIf b (pairSaid w) (at + length w) → Got s at p next
+    go true t e =
+        let is : p ≡ pairSaid w = cc in
+        let x : next ≡ record { at = at + length w } = cc in
+        record { good = t; number = ap listNumber is; end = ap (λ (c : Cursor). c .at) x }
+    go false t e = let z : _≡_ {A = ℕ} 0 1 = cc in absurd (omega arith)
+
+pub value-not : {s : List ℕ} {at : ℕ} {r : ValueRead} → ValueCall s at r → r ≡ Refused → isCell (pieceAt space s at) ≡ false
+unfolding valueAt
+value-not {s} {at} h q = go (isCell w) refl (sym q ∙ call-value h)
+  where
+    w : List ℕ
+    w = pieceAt space s at
+
+    go : (b : Bool) → isCell w ≡ b → Refused ≡ valueIf b (pairSaid w) (at + length w) → isCell w ≡ false
+    go true t e = let z : _≡_ {A = ℕ} 0 1 = cc in absurd (omega arith)
+    go false t e = t

@@ -48,19 +48,19 @@ struct Digits {
     end: usize,
 }
 
-fn is_upper(b: u8) -> bool
+pub fn is_upper(b: u8) -> bool
     ensures { λ r. ⌜ r ≡ isUpper b ⌝ }
 {
     (b'A' <= b) & (b <= b'Z')
 }
 
-fn is_digit(b: u8) -> bool
+pub fn is_digit(b: u8) -> bool
     ensures { λ r. ⌜ r ≡ isDigit b ⌝ }
 {
     (b'0' <= b) & (b <= b'9')
 }
 
-fn is_name_byte(b: u8) -> bool
+pub fn is_name_byte(b: u8) -> bool
     ensures { λ r. ⌜ r ≡ inClass Class.NameByte b ⌝ }
 {
     is_upper(b) | is_digit(b)

@@ -7,7 +7,8 @@ use Rattle.clusters.specs.PairList.{rowStart}
 use Rattle.clusters.proofs.PairList.{rowStart-le}
 use Rattle.clusters.proofs.Rows.{Rows, rows-none, rows-row, rows-all}
 use Rattle.reader.specs.Square.{square}
-use Rattle.reader.proofs.Slots.{row-room, next-start}
+use Rattle.clusters.proofs.PairList.{next-start}
+use Rattle.reader.proofs.Slots.{row-room}
 use Rattle.reader.proofs.fill.Statement.{statement}
 use Rattle.reader.proofs.fill.Tie as tie
 

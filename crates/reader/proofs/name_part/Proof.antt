@@ -14,8 +14,8 @@ use Rattle.reader.proofs.Answers.{entries-is, name-none, name-past, nam
 use Rattle.reader.proofs.name_part.Statement.{statement}
 use Rattle.reader.proofs.name_part.Tie as tie
 
-read-requires : tie.Need-read-requires
-read-requires c κs = search needs
+read-own-requires : tie.Need-read-own-requires
+read-own-requires c κs = search needs
 
 enum-known-n : tie.Need-enum-known-n
 enum-known-n c = search needs
@@ -24,22 +24,22 @@ enum-told : tie.Need-enum-told
 enum-told c = search needs
 
 -- the sheet, the number that is asked for, and what the reader answered
-abbrev sheet : tie.After-read → List ℕ
+abbrev sheet : tie.After-read-own → List ℕ
 sheet c = c .before .before .before .args .sheet .now
 
-abbrev entry : tie.After-read → ℕ
+abbrev entry : tie.After-read-own → ℕ
 entry c = c .before .before .before .args .entry
 
 counted : (c : tie.After-n) →
     let s = sheet (c .before .before) in
     answer (readerRefusal s) (entries s) ≡ Count (c .n .given .0 .0)
-counted c = sym (c .before .before .read .ensures .answered) ∙ c .n .given .1
+counted c = sym (c .before .before .read-own .ensures .answered) ∙ c .n .given .1
 
 -- no name
 returns : tie.Need-returns
 returns c =
     let r = c .before .before in
-    let e = sym (r .read .ensures .answered) ∙ c .enum-told .given .1 in
+    let e = sym (r .read-own .ensures .answered) ∙ c .enum-told .given .1 in
     no-part (sheet r) (entry r) _ (name-none _ _ e) (omega arith)
 
 returns-2 : tie.Need-returns-2
@@ -95,7 +95,7 @@ pub name-part-spec : {M : Type 1} → statement M
 name-part-spec =
     tie.close
     (tie.spec
-    read-requires
+    read-own-requires
     enum-known-n
     enum-told
     returns

@@ -15,10 +15,8 @@ use Rattle.interface.specs.Refusals.{isRow}
 use Rattle.integers.proofs.Held.{passed}
 use Rattle.text.specs.Reading.{pieceAt}
 use Rattle.reader.specs.Square.{numberSaid}
+use Rattle.text.proofs.Values.{Got, value-got, value-not}
 use Rattle.reader.proofs.Rows.{
-  Got,
-  value-got,
-  value-not,
   row-none,
   row-refused,
   row-last,
@@ -98,6 +96,7 @@ got c = value-got _ _ (c .before .before .read-value .ensures) (c .pair .given .
 stored : (c : tie.After-list-number Inv-loop μ-loop) →
     let l = c .before .before .before .before .before .before in
     toZ w32 (ofZ w32 (c .list-number .result)) ≡ numberSaid (pieceAt 32 (l .before .before .args .line .now) (l .loop .at))
+unfolding numberSaid
 stored c = passed w32 (c .list-number .ok) (c .list-number .ensures ∙ got (c .before .before) .number)
 
 -- the line ends behind the value: it is a row if no other value is wanted
