@@ -39,6 +39,13 @@ row-lt (suc n) a b h k = go (ℕ-discrete a n) (row-lt n a b)
     go (yes e) ih = omega (arith, ap rowStart e, rowStart-suc n)
     go (no f) ih = omega (arith, ih (omega arith) k, rowStart-suc n)
 
+pub rowStart-mono : {n k : ℕ} → n ≤ k → rowStart n ≤ rowStart k
+rowStart-mono {n} {k} h = go (ℕ-discrete n k)
+  where
+    go : Dec (n ≡ k) → rowStart n ≤ rowStart k
+    go (yes e) = omega (arith, ap rowStart e)
+    go (no d) = omega (arith, row-lt k n 0 (omega arith) (omega arith))
+
 -- where the row after row i starts
 pub next-start : {start : ℕ} (i : ℕ) → start ≡ rowStart i → start + (i + 1) ≡ rowStart (i + 1)
 next-start i e = omega (arith, rowStart-suc i, ap rowStart (add-one i))

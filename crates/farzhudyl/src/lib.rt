@@ -1,14 +1,17 @@
 // The sheet call, and the face in C of every call.
 ghost use mathlib.Core.Path.{_≡_};
+ghost use mathlib.Core.Bool.{false};
 ghost use Prim.Native.Nat.{_^_, _<_, _≤_};
 ghost use lib.IntN.{pos, negℤ};
 ghost use lib.ListN.{length};
 ghost use Rattle.clusters.specs.PairList.{rowStart};
 ghost use Rattle.clusters.specs.Linkage.{single, average};
 ghost use Rattle.answers.specs.Answers.{numberOf, countOf};
+ghost use Rattle.interface.specs.Refusals.{wrongKind};
 ghost use Rattle.interface.specs.Calls.{SheetCall, cNumber, InC, CCall, NumbersCall, LinkageCall};
 ghost use Rattle.interface.specs.Calls.{AnchoredCall, BackCall, ReaderCall, NameInC, ScoreInC, SharedInC, PoolCall};
 ghost use Rattle.interface.specs.Calls.{WeightInC};
+ghost use Rattle.accept.specs.Names.{NamesRead};
 ghost use Rattle.farzhudyl.specs.Pairs.{PairsListed};
 use answers::Answer;
 use answers::Shared;
@@ -38,15 +41,13 @@ fn list_pairs(kind: i32, n: usize, pairs: &[i32], out: &mut [u8]) -> Answer
     listing::hand_over(&text, written, out)
 }
 
-// The sheet call: the listing's length, and the listing in the first bytes; or the refusal, and nothing is written.
-pub fn listing(kind: i32, sheet: &[u8], out: &mut [u8]) -> Answer
+// The listing of a sheet, of a kind that there is, or the refusal: check by check.
+fn list_checked(kind: i32, sheet: &[u8], out: &mut [u8]) -> Answer
+    requires { ⌜ wrongKind kind ≡ false ⌝ }
     ensures { λ r. ⌜ SheetCall kind (now (sheet .entry)) (now (out .entry)) r (now (out .exit)) ⌝ }
 {
-    if kinds::is_wrong(kind) {
-        return Answer::Refused(1);
-    }
     let mut pairs = [0i32; 528];
-    let reading = reader::read(sheet, &mut pairs);
+    let reading = reader::read_checked(sheet, &mut pairs);
     match reading {
         Answer::Refused(number) => Answer::Refused(number),
         Answer::Count(n) => {
@@ -54,6 +55,66 @@ pub fn listing(kind: i32, sheet: &[u8], out: &mut [u8]) -> Answer
             list_pairs(kind, n, &pairs[..count], out)
         }
     }
+}
+
+// The same in one pass where that will do, with slots for the pair list, behind the names: n of them, and the value lines
+// start at from.
+fn list_rows(pairs: &mut [i32], kind: i32, sheet: &[u8], n: usize, from: usize, out: &mut [u8]) -> Answer
+    requires { ⌜ (wrongKind kind ≡ false) × NamesRead (now sheet) n from × (rowStart n ≤ length (now pairs)) ⌝ }
+    ensures { λ r. ⌜ SheetCall kind (now (sheet .entry)) (now (out .entry)) r (now (out .exit)) ⌝ }
+{
+    if !accept::read_rows(pairs, sheet, n, from) {
+        return list_checked(kind, sheet, out);
+    }
+    let count = matrix::pair_count(n);
+    list_pairs(kind, n, &pairs[..count], out)
+}
+
+// The same, with slots for at most 8, 16 and 32 entries: an array is cleared whole.
+fn list_8(kind: i32, sheet: &[u8], n: usize, from: usize, out: &mut [u8]) -> Answer
+    requires { ⌜ (wrongKind kind ≡ false) × NamesRead (now sheet) n from × (n ≤ 8) ⌝ }
+    ensures { λ r. ⌜ SheetCall kind (now (sheet .entry)) (now (out .entry)) r (now (out .exit)) ⌝ }
+{
+    let mut pairs = [0i32; 36];
+    list_rows(&mut pairs, kind, sheet, n, from, out)
+}
+
+fn list_16(kind: i32, sheet: &[u8], n: usize, from: usize, out: &mut [u8]) -> Answer
+    requires { ⌜ (wrongKind kind ≡ false) × NamesRead (now sheet) n from × (n ≤ 16) ⌝ }
+    ensures { λ r. ⌜ SheetCall kind (now (sheet .entry)) (now (out .entry)) r (now (out .exit)) ⌝ }
+{
+    let mut pairs = [0i32; 136];
+    list_rows(&mut pairs, kind, sheet, n, from, out)
+}
+
+fn list_32(kind: i32, sheet: &[u8], n: usize, from: usize, out: &mut [u8]) -> Answer
+    requires { ⌜ (wrongKind kind ≡ false) × NamesRead (now sheet) n from × (n ≤ 32) ⌝ }
+    ensures { λ r. ⌜ SheetCall kind (now (sheet .entry)) (now (out .entry)) r (now (out .exit)) ⌝ }
+{
+    let mut pairs = [0i32; 528];
+    list_rows(&mut pairs, kind, sheet, n, from, out)
+}
+
+// The sheet call: the listing's length, and the listing in the first bytes; or the refusal, and nothing is written.
+pub fn listing(kind: i32, sheet: &[u8], out: &mut [u8]) -> Answer
+    ensures { λ r. ⌜ SheetCall kind (now (sheet .entry)) (now (out .entry)) r (now (out .exit)) ⌝ }
+{
+    if kinds::is_wrong(kind) {
+        return Answer::Refused(1);
+    }
+    let names = accept::read_names(sheet);
+    let n = names.count;
+    let from = names.next;
+    if n == 0 {
+        return list_checked(kind, sheet, out);
+    }
+    if n <= 8 {
+        return list_8(kind, sheet, n, from, out);
+    }
+    if n <= 16 {
+        return list_16(kind, sheet, n, from, out);
+    }
+    list_32(kind, sheet, n, from, out)
 }
 
 fn plus(length: usize) -> i64

@@ -159,7 +159,7 @@ fn are_in_range(pairs: &[i32], n: usize) -> bool
 fn read(sheet: &[u8], pairs: &mut [i32; 528]) -> Answer
     ensures { λ r. ⌜ Read (now (sheet .entry)) r (now (pairs .exit)) ⌝ }
 {
-    let reading = reader::read(sheet, pairs);
+    let reading = reader::read_own(pairs, sheet);
     match reading {
         Answer::Refused(number) => Answer::Refused(number),
         Answer::Count(n) => {

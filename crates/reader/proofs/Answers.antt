@@ -17,6 +17,7 @@ use Rattle.integers.specs.Integers.{eqZ}
 use Rattle.integers.proofs.Linear.{eqZ-yes, yes-eqZ}
 use Rattle.clusters.specs.PairList.{Similarity, pairList, rowStart}
 use Rattle.clusters.proofs.PairList.{pairList-cong, length-pairList}
+use Rattle.answers.specs.declared.Answer.{Answer}
 use Rattle.answers.specs.declared.Answer.the-variants.{Count, Refused}
 use Rattle.answers.specs.Answers.{answer, slots}
 use Rattle.answers.proofs.Answers.{refused-is, count-is, slots-written}
@@ -38,6 +39,7 @@ use Rattle.interface.proofs.Pieces.{some-piece}
 use Rattle.accept.specs.Accepted.{Accepted}
 use Rattle.reader.specs.Square.{square, Holds}
 use Rattle.reader.specs.Names.{NamePart}
+use Rattle.reader.specs.Own.{SheetRead}
 
 -- what check 2 leaves
 pub length-right : (s : List ℕ) → wrongLength s ≡ false → (0 < length s) × (length s ≤ 12288)
@@ -164,6 +166,12 @@ module _ (s : List ℕ) {n : ℕ} (e : answer (readerRefusal s) (entries s) ≡ 
 
   pub pairs-fit : (held : List ℤ) {count : ℕ} → count ≡ rowStart n → take count held ≡ pairs s → count ≤ length held
   pairs-fit held {count} c p = omega (arith, pairs-long p, length-take count held)
+
+-- the same of slots of the caller's own
+pub pairs-own : {s : List ℕ} {r : Answer} {held : List ℤ} {n count : ℕ} → SheetRead s r held → r ≡ Count n → count ≡ rowStart n → take count held ≡ pairs s
+pairs-own {s} {held = held} {n = n} o e c =
+    let (z, is) = entries-is s n (sym (o .answered) ∙ e) in
+    ap (λ (k : ℕ). take k held) (c ∙ ap rowStart is) ∙ o .first z
 
 -- the name of an entry: whether there is one, and where it stands
 module _ (s : List ℕ) (i : ℕ) where

@@ -1,76 +1,76 @@
-use mathlib.Core.Path.{_≡_, sym, _∙_, subst}
+use mathlib.Core.Path.{_≡_, sym, _∙_}
 use mathlib.Core.Bool.{false}
-use lib.ListN.{take}
+use native.Mathlib.Omega.{arith}
+use mir.Val.{toZ, ofZ}
+use mir.Syntax.{w32}
 use mir.Facts.{toZ-ofZ}
 use borrow.Author.Needs.{needs}
-use Rattle.interface.specs.Refusals.{wrongKind, readerRefusal}
-use Rattle.interface.specs.Sheet.{entries, pairs}
-use Rattle.answers.specs.declared.Answer.the-variants.{Count}
-use Rattle.answers.specs.Answers.{answer}
-use Rattle.reader.proofs.Answers.{few-entries, some-entries, pairs-read, pairs-long, pairs-fit}
-use Rattle.farzhudyl.proofs.Sheets.{refused-kind, refused-sheet, read-sheet}
+use Rattle.interface.specs.Refusals.{wrongKind}
+use Rattle.accept.specs.Names.{NamesRead}
+use Rattle.farzhudyl.proofs.Sheets.{refused-kind}
 use Rattle.farzhudyl.proofs.listing.Statement.{statement}
 use Rattle.farzhudyl.proofs.listing.Tie as tie
 
--- what the code has after each call
-kind-is : (c : tie.After-is-wrong) → c .is-wrong .result ≡ wrongKind (c .before .before .before .args .kind)
-kind-is c = subst (λ k. c .is-wrong .result ≡ wrongKind k) (toZ-ofZ (c .before .before .before .fits .kind)) (c .is-wrong .ensures)
+-- the kind as the calls take it
+right-kind : (c : tie.Else1) → wrongKind (toZ w32 (ofZ w32 (c .before .before .before .before .args .kind))) ≡ false
+right-kind c = sym (c .before .is-wrong .ensures) ∙ c .if1 .left
 
-right-kind : (c : tie.Else1) → wrongKind (c .before .before .before .before .args .kind) ≡ false
-right-kind c = sym (kind-is (c .before)) ∙ c .if1 .left
+abbrev start : tie.Else2 → tie.Start
+start c = c .before .before .before .before .before .before
 
-was-read : (c : tie.After-reading2) → let s = c .before .before .before .before .before .before .before .before .args .sheet .now in
-    answer (readerRefusal s) (entries s) ≡ Count (c .reading2 .given .0 .0)
-was-read c = sym (c .before .before .read .ensures .answered) ∙ c .reading2 .given .1
-
-pairs-are : (c : tie.After-pair-count) → let r = c .before .before .before .before in
-    take (c .pair-count .result) (r .read .last .1 .0) ≡ pairs (r .before .before .before .before .before .before .args .sheet .now)
-pairs-are c = pairs-read _ (was-read (c .before .before)) _ (c .before .before .before .before .read .ensures .written) (c .pair-count .ensures)
+names : (c : tie.Else2) → NamesRead (start c .args .sheet .now) (c .before .read-names .result .count) (c .before .read-names .result .next)
+names c = c .before .read-names .ensures (omega arith)
 
 is-wrong-requires : tie.Need-is-wrong-requires
 is-wrong-requires c κs = search needs
 
 returns : tie.Need-returns
-returns c = refused-kind _ _ _ (sym (kind-is (c .before)) ∙ c .if1 .taken)
+returns c =
+    let k = c .before in
+    refused-kind _ _ _ (rw (toZ-ofZ (k .before .before .before .fits .kind)) at (sym (k .is-wrong .ensures) ∙ c .if1 .taken))
 
-read-requires : tie.Need-read-requires
-read-requires c κs = search needs
+read-names-requires : tie.Need-read-names-requires
+read-names-requires c κs = search needs
 
-enum-known-reading : tie.Need-enum-known-reading
-enum-known-reading c = search needs
-
-enum-known-reading-2 : tie.Need-enum-known-reading-2
-enum-known-reading-2 c = search needs
-
-pair-count-requires : tie.Need-pair-count-requires
-pair-count-requires c κs = few-entries _ (was-read (c .before))
-
-array-share-prefix-pairs : tie.Need-array-share-prefix-pairs
-array-share-prefix-pairs c = pairs-fit _ (was-read (c .before .before)) _ (c .pair-count .ensures) (pairs-are c)
-
-slice-aggregate-list-pairs : tie.Need-slice-aggregate-list-pairs
-slice-aggregate-list-pairs c = c .before .pair-count .ensures ∙ sym (pairs-long _ (was-read (c .before .before .before)) (pairs-are (c .before)))
-
-list-pairs-requires : tie.Need-list-pairs-requires
-list-pairs-requires c κs =
-    let f = was-read (c .before .before .before .before) in
-    (some-entries _ f, few-entries _ f, pairs-long _ f (pairs-are (c .before .before)))
-
-returns-2 : tie.Need-returns-2
-returns-2 c =
-    refused-sheet _ _ _ (right-kind (c .before .before .before .before .before))
-    (sym (c .before .before .before .read .ensures .answered) ∙ c .before .reading .given .1)
+list-checked-requires : tie.Need-list-checked-requires
+list-checked-requires c κs = right-kind (c .before .before .before)
 
 same-length : tie.Need-same-length
 same-length c = search needs
 
+returns-2 : tie.Need-returns-2
+returns-2 c = let l = c .before .before in
+    rw (toZ-ofZ (l .before .before .before .before .before .before .before .before .fits .kind)) at (l .list-checked .ensures)
+
+list-8-requires : tie.Need-list-8-requires
+list-8-requires c κs = let e = c .before .before in (right-kind (e .before .before), names e, omega arith)
+
+same-length-2 : tie.Need-same-length-2
+same-length-2 c = search needs
+
 returns-3 : tie.Need-returns-3
-returns-3 c =
-    let f = c .before .before .before .before .before in
-    let d = f .before .before in
-    let k = d .before .before .before .before in
-    let a = k .before .before .before .before in
-    read-sheet _ _ (a .args .out .now) (right-kind k) (was-read d) (pairs-are f) (rw (toZ-ofZ (a .fits .kind)) at (c .before .before .list-pairs .ensures))
+returns-3 c = let l = c .before .before in
+    rw (toZ-ofZ (start (l .before .before .before) .fits .kind)) at (l .list-8 .ensures)
+
+list-16-requires : tie.Need-list-16-requires
+list-16-requires c κs = let e = c .before .before .before in (right-kind (e .before .before), names e, omega arith)
+
+same-length-3 : tie.Need-same-length-3
+same-length-3 c = search needs
+
+returns-4 : tie.Need-returns-4
+returns-4 c = let l = c .before .before in
+    rw (toZ-ofZ (start (l .before .before .before .before) .fits .kind)) at (l .list-16 .ensures)
+
+list-32-requires : tie.Need-list-32-requires
+list-32-requires c κs = let e = c .before .before .before in (right-kind (e .before .before), names e, names e .line .few)
+
+same-length-4 : tie.Need-same-length-4
+same-length-4 c = search needs
+
+returns-5 : tie.Need-returns-5
+returns-5 c = let l = c .before .before in
+    rw (toZ-ofZ (start (l .before .before .before .before) .fits .kind)) at (l .list-32 .ensures)
 
 pub listing-spec : {M : Type 1} → statement M
 listing-spec =
@@ -78,13 +78,16 @@ listing-spec =
     (tie.spec
     is-wrong-requires
     returns
-    read-requires
-    enum-known-reading
-    enum-known-reading-2
-    pair-count-requires
-    array-share-prefix-pairs
-    slice-aggregate-list-pairs
-    list-pairs-requires
-    returns-2
+    read-names-requires
+    list-checked-requires
     same-length
-    returns-3)
+    returns-2
+    list-8-requires
+    same-length-2
+    returns-3
+    list-16-requires
+    same-length-3
+    returns-4
+    list-32-requires
+    same-length-4
+    returns-5)
