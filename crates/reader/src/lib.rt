@@ -170,7 +170,8 @@ fn put(out: &mut [i32], numbers: &[i32])
     ensures { λ _. ⌜ now (out .exit) ≡ now (numbers .entry) ++ drop (length (now (numbers .entry))) (now (out .entry)) ⌝ }
 {
     for i in 0..numbers.len() {
-        out[i] = numbers[i];
+        let number = numbers[i];
+        out[i] = number;
     }
 }
 

@@ -21,17 +21,17 @@ abbrev μ-loop : tie.MeasureT-loop
 loop-holds : tie.Need-loop-holds Inv-loop μ-loop
 loop-holds c = (omega arith, refl, nothing)
 
-mul-out : tie.Need-mul-out Inv-loop μ-loop
-mul-out c = search needs
+mul-number : tie.Need-mul-number Inv-loop μ-loop
+mul-number c = search needs
 
-shared-slice-copy-out-out : tie.Need-shared-slice-copy-out-out Inv-loop μ-loop
-shared-slice-copy-out-out c = search needs
+shared-slice-copy-out-number : tie.Need-shared-slice-copy-out-number Inv-loop μ-loop
+shared-slice-copy-out-number c = search needs
 
-mul-t9 : tie.Need-mul-t9 Inv-loop μ-loop
-mul-t9 c = search needs
+mul-number-2 : tie.Need-mul-number-2 Inv-loop μ-loop
+mul-number-2 c = search needs
 
-slice-set-from-out : tie.Need-slice-set-from-out Inv-loop μ-loop
-slice-set-from-out c = omega (arith, c .before .before .loop .inv .2 .same)
+slice-set-from-number : tie.Need-slice-set-from-number Inv-loop μ-loop
+slice-set-from-number c = omega (arith, c .before .before .loop .inv .2 .same)
 
 add-i : tie.Need-add-i Inv-loop μ-loop
 add-i c = search needs
@@ -43,7 +43,7 @@ loop-again : tie.Need-loop-again Inv-loop μ-loop
 loop-again c =
     let l = c .before .before .loop in
     let number = getD (c .before .before .before .args .numbers .now) (l .i) (pos 0) in
-    let f : SFits w32 number = record { sfits = c .out .given } in
+    let f : SFits w32 number = record { sfits = c .number .given } in
     (omega arith, l .inv .1, one-more (l .inv .2) (omega arith) (toZ-ofZ f))
 
 same-length : tie.Need-same-length Inv-loop μ-loop
@@ -67,10 +67,10 @@ put-spec =
     Inv-loop
     μ-loop
     loop-holds
-    mul-out
-    shared-slice-copy-out-out
-    mul-t9
-    slice-set-from-out
+    mul-number
+    shared-slice-copy-out-number
+    mul-number-2
+    slice-set-from-number
     add-i
     loop-less
     loop-again
