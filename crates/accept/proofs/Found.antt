@@ -19,7 +19,9 @@ use Rattle.text.specs.declared.ValueRead.the-variants.{Value}
 use Rattle.text.proofs.Pieces.{piece-step, piece-on, piece-part}
 use Rattle.text.proofs.Values.{Got}
 use lib.Seq.{take-all}
-use Rattle.accept.specs.Places.{part, Run, Half, Said, CellAt, BothAt}
+use Rattle.accept.specs.declared.CellRead.{CellRead}
+use Rattle.accept.specs.declared.CellRead.the-variants.{Cell, Unread}
+use Rattle.accept.specs.Places.{part, Run, Half, Said, CellAt, BothAt, IfRead}
 use Rattle.accept.proofs.Parts.{part-length, part-two}
 use Rattle.accept.proofs.Texts.{run-said, run-half}
 
@@ -67,7 +69,15 @@ pub both-of : {s : List ℕ} {p q stop other k : ℕ} {z : ℤ} → CellAt s p s
     → BothAt s p q stop other z k
 both-of c h b e = record { near = c; far = record { inside = h; ended = b; said = said-same (c .said) e }; same = e }
 
+-- the one at the other place
+pub one-read : (s : List ℕ) (p q stop other : ℕ) (x : CellRead) → IfRead x (BothAt s p q stop other) → IfRead x (CellAt s q other)
+one-read s p q stop other (Cell z k) b = b .far
+one-read s p q stop other Unread b = tt
+
 -- digits alone, or with `.5`
+pub some-digits : (k : ℕ) → eqb k 0 ≡ false → 0 < k
+some-digits k e = let f = eqb-false k 0 e in omega arith
+
 module _ {s : List ℕ} {p q v k : ℕ} (r : Run s p q v k) (room : p + 10 ≤ length s) (far : q + 10 ≤ length s)
     (e : (eqb (getD s p 0) 48 && not (eqb k 1)) ≡ false) (o : 0 < k) where
   pub both-run : {stop other : ℕ} → getD s (p + k) 0 ≡ stop → getD s (q + k) 0 ≡ other → BothAt s p q stop other (pos (v * 2)) k

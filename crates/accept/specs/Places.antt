@@ -1,5 +1,6 @@
 -- Cells of a sheet by their places: the code's own vocabulary, which a reader of the statements need not believe.
 use mathlib.Core.Path.{_≡_}
+use mathlib.Core.Bool.{true}
 use mathlib.Core.List.{List, [], _∷_}
 use Prim.Native.Nat.{ℕ, _+_, _≤_, _<_}
 use lib.Dec.{T}
@@ -9,6 +10,8 @@ use Rattle.lists.specs.Lists.{all}
 use Rattle.pairs.specs.Pairs.{listNumber}
 use Rattle.interface.specs.Sheet.{isDigit, isCell, numberFrom, pairSaid, cut, lines, words}
 use Rattle.text.specs.Reading.{pieceAt}
+use Rattle.accept.specs.declared.CellRead.{CellRead}
+use Rattle.accept.specs.declared.CellRead.the-variants.{Cell, Unread}
 
 -- k bytes from a place on
 abbrev pub part : List ℕ → (at size : ℕ) → List ℕ
@@ -43,6 +46,11 @@ pub record BothAt (s : List ℕ) (p q stop other : ℕ) (z : ℤ) (k : ℕ) : Ty
   pub near : CellAt s p stop z k
   pub far : CellAt s q other z k
   pub same : part s p k ≡ part s q k
+
+-- what is so of a cell that was read
+abbrev pub IfRead : CellRead → (ℤ → ℕ → Type 0) → Type 0
+IfRead (Cell z k) is = is z k
+IfRead Unread is = T true
 
 -- at p starts cell j of value line i
 pub record At (s : List ℕ) (i j p : ℕ) : Type 0 where

@@ -10,27 +10,21 @@ ghost use lib.Seq.{sets};
 ghost use Rattle.lists.specs.Lists.{all, below};
 ghost use Rattle.clusters.specs.PairList.{rowStart};
 ghost use Rattle.interface.specs.Sheet.{value};
-ghost use Rattle.accept.specs.Places.{Run, Half, CellAt, BothAt, At, RowRead};
+ghost use Rattle.accept.specs.Places.{Run, Half, CellAt, BothAt, IfRead, At, RowRead};
 ghost use Rattle.accept.specs.Names.{NameRun, LineRead, NamesRead};
 ghost use Rattle.accept.specs.Accepted.{Accepted};
 use text::ValueRead;
 
-// A value's number in the pair list and the length of its text; length 0: none was read.
-struct Cell {
-    number: i32,
-    size: usize,
+// A value's number in the pair list and the length of its text; or no value is read.
+enum CellRead {
+    Cell(i32, usize),
+    Unread,
 }
 
 // Digits as a number, and how many they are.
 struct Digits {
     number: u32,
     size: usize,
-}
-
-fn none() -> Cell
-    ensures { λ r. ⌜ r .size ≡ 0 ⌝ }
-{
-    Cell { number: 0, size: 0 }
 }
 
 // The digits at p, at most 7, as far as the same stand at q; or none of them.
@@ -73,47 +67,45 @@ fn read_digits(sheet: &[u8], p: usize) -> Digits
 }
 
 // A cell of any form at p, with the byte stop behind it: for marks, minus signs, and what stands near the sheet's end.
-fn read_any(sheet: &[u8], p: usize, stop: u8) -> Cell
+fn read_any(sheet: &[u8], p: usize, stop: u8) -> CellRead
     requires { ⌜ p ≤ length (now sheet) ⌝ }
-    ensures { λ r. ⌜ (0 < r .size → CellAt (now (sheet .entry)) p stop (r .number) (r .size)) ⌝ }
+    ensures { λ r. ⌜ IfRead r (CellAt (now (sheet .entry)) p stop) ⌝ }
 {
     let end = text::piece_end(sheet, stop, p);
     if end >= sheet.len() {
-        return none();
+        return CellRead::Unread;
     }
     let ValueRead::Value(pair, next) = text::read_value(&sheet[p..end], 0) else {
-        return none();
+        return CellRead::Unread;
     };
     let size = next.at;
     if size != end - p {
-        return none();
+        return CellRead::Unread;
     }
     let number = pairs::list_number(pair);
-    Cell { number, size }
+    CellRead::Cell(number, size)
 }
 
 // The same cell at p and at q, each with its byte behind it.
-fn read_any_both(sheet: &[u8], p: usize, q: usize, near: u8, far: u8) -> Cell
+fn read_any_both(sheet: &[u8], p: usize, q: usize, near: u8, far: u8) -> CellRead
     requires { ⌜ (p ≤ length (now sheet)) × (q ≤ length (now sheet)) ⌝ }
-    ensures { λ r. ⌜ (0 < r .size → BothAt (now (sheet .entry)) p q near far (r .number) (r .size)) ⌝ }
+    ensures { λ r. ⌜ IfRead r (BothAt (now (sheet .entry)) p q near far) ⌝ }
 {
-    let cell = read_any(sheet, p, near);
-    let size = cell.size;
-    if size == 0 {
-        return none();
-    }
+    let CellRead::Cell(number, size) = read_any(sheet, p, near) else {
+        return CellRead::Unread;
+    };
     if size >= sheet.len() - q {
-        return none();
+        return CellRead::Unread;
     }
     let end = p + size;
     let other = q + size;
     if sheet[other] != far {
-        return none();
+        return CellRead::Unread;
     }
     if !sheet::same_bytes(&sheet[p..end], &sheet[q..other]) {
-        return none();
+        return CellRead::Unread;
     }
-    cell
+    CellRead::Cell(number, size)
 }
 
 // `.5` stands behind the digits, and its byte behind that.
@@ -127,35 +119,32 @@ fn is_half(sheet: &[u8], at: usize, stop: u8) -> bool
 }
 
 // Digits with `.5` behind them, at p and at q; or whatever else stands there.
-fn read_half(sheet: &[u8], p: usize, q: usize, near: u8, far: u8, number: u32, size: usize) -> Cell
+fn read_half(sheet: &[u8], p: usize, q: usize, near: u8, far: u8, number: u32, size: usize) -> CellRead
     requires { ⌜ (p + 10 ≤ length (now sheet)) × (q + 10 ≤ length (now sheet)) × Run (now sheet) p q number size ⌝ }
-    ensures { λ r. ⌜ (0 < r .size → BothAt (now (sheet .entry)) p q near far (r .number) (r .size)) ⌝ }
+    ensures { λ r. ⌜ IfRead r (BothAt (now (sheet .entry)) p q near far) ⌝ }
 {
     if !is_half(sheet, p + size, near) {
         return read_any_both(sheet, p, q, near, far);
     }
     if !is_half(sheet, q + size, far) {
-        return none();
+        return CellRead::Unread;
     }
     if size == 0 {
-        return none();
+        return CellRead::Unread;
     }
     if (sheet[p] == b'0') & (size != 1) {
-        return none();
+        return CellRead::Unread;
     }
     let halves = (number * 2 + 1) as i32;
     let whole = size + 2;
-    Cell {
-        number: halves,
-        size: whole,
-    }
+    CellRead::Cell(halves, whole)
 }
 
 // A cell at p with a space behind it, and the same text at q with stop behind it. A whole number takes one branch more
 // than its digits; for all else there is a call, so that the next place does not wait for a choice of lengths.
-fn read_both(sheet: &[u8], p: usize, q: usize, stop: u8) -> Cell
+fn read_both(sheet: &[u8], p: usize, q: usize, stop: u8) -> CellRead
     requires { ⌜ (p ≤ length (now sheet)) × (q ≤ length (now sheet)) ⌝ }
-    ensures { λ r. ⌜ (0 < r .size → BothAt (now (sheet .entry)) p q 32 stop (r .number) (r .size)) ⌝ }
+    ensures { λ r. ⌜ IfRead r (BothAt (now (sheet .entry)) p q 32 stop) ⌝ }
 {
     if (sheet.len() - p < 10) | (sheet.len() - q < 10) {
         return read_any_both(sheet, p, q, b' ', stop);
@@ -165,20 +154,17 @@ fn read_both(sheet: &[u8], p: usize, q: usize, stop: u8) -> Cell
     let number = digits.number;
     let end = p + size;
     let other = q + size;
-    if (sheet[end] != b' ') | (sheet[other] != stop) | ((sheet[p] == b'0') & (size != 1)) {
+    if (size == 0) | (sheet[end] != b' ') | (sheet[other] != stop) | ((sheet[p] == b'0') & (size != 1)) {
         return read_half(sheet, p, q, b' ', stop, number, size);
     }
     let halves = (number * 2) as i32;
-    Cell {
-        number: halves,
-        size,
-    }
+    CellRead::Cell(halves, size)
 }
 
 // A cell at p with stop behind it.
-fn read_one(sheet: &[u8], p: usize, stop: u8) -> Cell
+fn read_one(sheet: &[u8], p: usize, stop: u8) -> CellRead
     requires { ⌜ p ≤ length (now sheet) ⌝ }
-    ensures { λ r. ⌜ (0 < r .size → CellAt (now (sheet .entry)) p stop (r .number) (r .size)) ⌝ }
+    ensures { λ r. ⌜ IfRead r (CellAt (now (sheet .entry)) p stop) ⌝ }
 {
     if sheet.len() - p < 10 {
         return read_any_both(sheet, p, p, stop, stop);
@@ -187,14 +173,11 @@ fn read_one(sheet: &[u8], p: usize, stop: u8) -> Cell
     let size = digits.size;
     let number = digits.number;
     let end = p + size;
-    if (sheet[end] != stop) | ((sheet[p] == b'0') & (size != 1)) {
+    if (size == 0) | (sheet[end] != stop) | ((sheet[p] == b'0') & (size != 1)) {
         return read_half(sheet, p, p, stop, stop, number, size);
     }
     let halves = (number * 2) as i32;
-    Cell {
-        number: halves,
-        size,
-    }
+    CellRead::Cell(halves, size)
 }
 
 // Row i up to its own place: cells (i, 0) .. (i, i) go to the slots from start on. Cell (j, i), j < i, has to stand at the
@@ -218,22 +201,16 @@ fn read_row(
     let mut at = from;
     for j in 0..i {
         let q = cur[j];
-        let cell = read_both(sheet, at, q, stop);
-        let size = cell.size;
-        if size == 0 {
+        let CellRead::Cell(number, size) = read_both(sheet, at, q, stop) else {
             return 0;
-        }
-        let number = cell.number;
+        };
         cur[j] = q + size + 1;
         pairs[start + j] = number;
         at = at + size + 1;
     }
-    let own = read_one(sheet, at, stop);
-    let size = own.size;
-    if size == 0 {
+    let CellRead::Cell(number, size) = read_one(sheet, at, stop) else {
         return 0;
-    }
-    let number = own.number;
+    };
     pairs[start + i] = number;
     let next = at + size + 1;
     cur[i] = next;

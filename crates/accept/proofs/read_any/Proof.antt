@@ -1,4 +1,3 @@
-use native.Mathlib.Omega.{arith}
 use mir.Syntax.{w32}
 use Rattle.integers.proofs.Held.{passed}
 use Rattle.accept.proofs.Found.{any-cell}
@@ -10,11 +9,8 @@ use Rattle.accept.proofs.read_any.Tie as tie
 piece-end-requires : tie.Need-piece-end-requires
 piece-end-requires c κs = search needs
 
-none-requires : tie.Need-none-requires
-none-requires c κs = search needs
-
 returns : tie.Need-returns
-returns c = λ h. absurd (omega (arith, c .none .ensures, h))
+returns c = tt
 
 sub-read-value : tie.Need-sub-read-value
 sub-read-value c = search needs
@@ -34,20 +30,14 @@ enum-known-pair c = search needs
 enum-told : tie.Need-enum-told
 enum-told c = search needs
 
-none-requires-2 : tie.Need-none-requires-2
-none-requires-2 c κs = search needs
-
 returns-2 : tie.Need-returns-2
-returns-2 c = λ h. absurd (omega (arith, c .none2 .ensures, h))
+returns-2 c = tt
 
 sub-if2 : tie.Need-sub-if2
 sub-if2 c = search needs
 
-none-requires-3 : tie.Need-none-requires-3
-none-requires-3 c κs = search needs
-
 returns-3 : tie.Need-returns-3
-returns-3 c = λ h. absurd (omega (arith, c .none3 .ensures, h))
+returns-3 c = tt
 
 list-number-requires : tie.Need-list-number-requires
 list-number-requires c κs = search needs
@@ -58,7 +48,7 @@ returns-4 c =
     let v = g .before .before in
     let e = v .before .before .before in
     let b = e .before .before in
-    λ h. any-cell (b .pre) (e .piece-end .ensures) (v .before .before .if1 .left)
+    any-cell (b .pre) (e .piece-end .ensures) (v .before .before .if1 .left)
     (value-got _ _ (v .read-value .ensures) (g .pair .given .1)) (c .before .if2 .left) (passed w32 (c .list-number .ok) (c .list-number .ensures))
 
 pub read-any-spec : {M : Type 1} → statement M
@@ -66,7 +56,6 @@ read-any-spec =
     tie.close
     (tie.spec
     piece-end-requires
-    none-requires
     returns
     sub-read-value
     part-read-value-start
@@ -74,10 +63,8 @@ read-any-spec =
     read-value-requires
     enum-known-pair
     enum-told
-    none-requires-2
     returns-2
     sub-if2
-    none-requires-3
     returns-3
     list-number-requires
     returns-4)

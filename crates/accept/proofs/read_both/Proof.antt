@@ -10,7 +10,7 @@ use Rattle.lists.proofs.Tests.{or-none}
 use Rattle.text.proofs.Halves.{plus}
 use Rattle.accept.specs.Places.{BothAt}
 use Rattle.accept.proofs.Parts.{run-small}
-use Rattle.accept.proofs.Found.{both-run}
+use Rattle.accept.proofs.Found.{some-digits, both-run}
 use borrow.Author.Needs.{needs}
 use Rattle.accept.proofs.read_both.Statement.{statement}
 use Rattle.accept.proofs.read_both.Tie as tie
@@ -79,11 +79,15 @@ returns-3 c =
     let v = d .same-digits .result .number in
     let k = d .same-digits .result .size in
     let zero = eqb (getD s (a .p) 0) 48 && not (eqb k 1) in
-    let (front, z) = or-none (not (eqb (getD s (a .p + k) 0) 32) || not (eqb (getD s (a .q + k) 0) (a .stop))) zero (c .if2 .left) in
-    let (x, y) = or-none (not (eqb (getD s (a .p + k) 0) 32)) (not (eqb (getD s (a .q + k) 0) (a .stop))) front in
+    let none = eqb k 0 in
+    let near = not (eqb (getD s (a .p + k) 0) 32) in
+    let far = not (eqb (getD s (a .q + k) 0) (a .stop)) in
+    let (front, z) = or-none (none || near || far) zero (c .if2 .left) in
+    let (first, y) = or-none (none || near) far front in
+    let (o, x) = or-none none near first in
     let r = room (d .before) in
-    λ h. subst (λ (z : ℤ). BothAt s (a .p) (a .q) 32 (a .stop) z k) (sym (plus (v * 2) (omega (arith, small c))))
-    (both-run (d .same-digits .ensures) (r .0) (r .1) z h (eqb-true _ 32 (not-false _ x)) (eqb-true _ (a .stop) (not-false _ y)))
+    subst (λ (z : ℤ). BothAt s (a .p) (a .q) 32 (a .stop) z k) (sym (plus (v * 2) (omega (arith, small c))))
+    (both-run (d .same-digits .ensures) (r .0) (r .1) z (some-digits k o) (eqb-true _ 32 (not-false _ x)) (eqb-true _ (a .stop) (not-false _ y)))
 
 pub read-both-spec : {M : Type 1} → statement M
 read-both-spec =

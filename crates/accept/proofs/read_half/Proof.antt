@@ -29,26 +29,17 @@ add-is-half-2 c = omega (arith, c .before .before .before .pre .2 .few)
 is-half-requires-2 : tie.Need-is-half-requires-2
 is-half-requires-2 c κs = omega (arith, c .before .before .before .pre .2 .few)
 
-none-requires : tie.Need-none-requires
-none-requires c κs = search needs
-
 returns-2 : tie.Need-returns-2
-returns-2 c = λ h. absurd (omega (arith, c .none .ensures, h))
-
-none-requires-2 : tie.Need-none-requires-2
-none-requires-2 c κs = search needs
+returns-2 c = tt
 
 returns-3 : tie.Need-returns-3
-returns-3 c = λ h. absurd (omega (arith, c .none2 .ensures, h))
+returns-3 c = tt
 
 shared-slice-read-if4 : tie.Need-shared-slice-read-if4
 shared-slice-read-if4 c = search needs
 
-none-requires-3 : tie.Need-none-requires-3
-none-requires-3 c κs = search needs
-
 returns-4 : tie.Need-returns-4
-returns-4 c = λ h. absurd (omega (arith, c .none3 .ensures, h))
+returns-4 c = tt
 
 small : (c : tie.Else4) → c .before .before .before .before .before .before .before .before .args .number < 10000000
 small c = let b = c .before .before .before .before .before .before .before .before in run-small (b .pre .2) (omega (arith, b .pre .2 .few))
@@ -71,7 +62,7 @@ returns-5 c =
     let e = f .before .before in
     let b = e .before .before in
     let a = b .args in
-    λ h. subst (λ (z : ℤ). BothAt (a .sheet .now) (a .p) (a .q) (a .near) (a .far) z (a .size + 2)) (sym (plus (a .number * 2 + 1) (omega (arith, small c))))
+    subst (λ (z : ℤ). BothAt (a .sheet .now) (a .p) (a .q) (a .near) (a .far) z (a .size + 2)) (sym (plus (a .number * 2 + 1) (omega (arith, small c))))
     (both-half (b .pre .2) (b .pre .0) (b .pre .1) (c .if4 .left) (omega arith) (e .is-half .ensures (not-false _ (f .before .if1 .left))) (f .is-half2 .ensures (not-false _ (c .before .before .before .if2 .left))))
 
 pub read-half-spec : {M : Type 1} → statement M
@@ -84,12 +75,9 @@ read-half-spec =
     returns
     add-is-half-2
     is-half-requires-2
-    none-requires
     returns-2
-    none-requires-2
     returns-3
     shared-slice-read-if4
-    none-requires-3
     returns-4
     mul-halves
     add-halves
