@@ -9,9 +9,12 @@
 //! * `reader_calls`: the calls on a sheet that write no listing.
 //! * `unscored`: pairs never compared, and what follows where they are scored.
 //! * `halves`: half points in every share, whole points as before, doubled lists.
+//! * `reading`: sheets of every form through all calls on a sheet, damaged in every
+//!   place in turn (`damage`).
 
 mod bench;
 mod calls;
+mod damage;
 mod engines;
 mod halves;
 mod lent;
@@ -20,6 +23,7 @@ mod number_calls;
 mod parts;
 mod pool_call;
 mod reader_calls;
+mod reading;
 mod shared_call;
 mod sheet_call;
 mod unscored;
@@ -49,6 +53,7 @@ fn main() -> ExitCode {
     reader_calls::run(cases / 5, seed, &mut parts);
     unscored::run(cases / 30, seed, &mut parts);
     halves::run(cases / 40, seed, &mut parts);
+    reading::run((cases / 15_000).max(1), seed, &mut parts);
     parts.end()
 }
 

@@ -25,13 +25,13 @@ pub fn run(cases: usize, seed: u64, parts: &mut Parts) {
 
 /// The calls of a part, checked by each engine and counted.
 #[derive(Default)]
-struct Calls {
-    outcomes: Outcomes,
-    met: Met,
+pub struct Calls {
+    pub outcomes: Outcomes,
+    pub met: Met,
 }
 
 impl Calls {
-    fn check(&mut self, expected: &Expected) {
+    pub fn check(&mut self, expected: &Expected) {
         self.met.count(expected);
         self.outcomes.each(|engine| engine.check_pool(expected));
     }

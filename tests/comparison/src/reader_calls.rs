@@ -10,7 +10,7 @@ use second_engine::engine::{self, UNSCORED};
 use second_engine::generate::{self, Random, Table};
 
 /// Checks 2 to 9.
-const REFUSALS: &[usize] = &[2, 3, 4, 5, 6, 7, 8, 9];
+pub const REFUSALS: &[usize] = &[2, 3, 4, 5, 6, 7, 8, 9];
 
 const READER: Call = Call {
     name: "reader",
@@ -40,7 +40,7 @@ pub fn run(cases: usize, seed: u64, parts: &mut Parts) {
 
 // ------------------------------------------------------------ The pair list
 
-fn check_reader(sheet: &[u8]) -> Result<i64, String> {
+pub fn check_reader(sheet: &[u8]) -> Result<i64, String> {
     let mut pairs = vec![0; MOST_PAIRS];
     let read = engine::read(sheet, &mut pairs);
     pairs.truncate(read.map_or(0, |n| n * (n + 1) / 2));
@@ -123,11 +123,11 @@ fn values_of_every_length() -> Result<(), String> {
 
 /// The names asked for.
 #[derive(Default)]
-struct Names {
+pub struct Names {
     /// By their length.
     lengths: [u64; 9],
     /// Entries of sheets that are read, and of sheets that are refused.
-    tally: Tally,
+    pub tally: Tally,
     /// Numbers that are no entries of a sheet that is read.
     no_entry: u64,
     /// Names whose bytes stand in the sheet before their own place.
@@ -184,7 +184,7 @@ impl Names {
     }
 
     /// The place, the length, and the bytes there.
-    fn check(&mut self, sheet: &[u8], entry: usize) -> Result<(), String> {
+    pub fn check(&mut self, sheet: &[u8], entry: usize) -> Result<(), String> {
         let (start, name) = engine::name(sheet, entry);
         let describe = |message| {
             let (name, sheet) = (name.escape_ascii(), sheet.escape_ascii());

@@ -66,7 +66,7 @@ fn unscored_sheets(sheets: usize, seed: u64, parts: &mut Parts) {
 }
 
 /// How many lines a listing has after the first; 0 if there is none.
-fn line_count(listing: &[u8]) -> usize {
+pub fn line_count(listing: &[u8]) -> usize {
     let lines = listing.iter().filter(|&&byte| byte == b'\n').count();
     lines.saturating_sub(1)
 }

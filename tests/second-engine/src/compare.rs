@@ -64,6 +64,19 @@ impl Expected {
             listing,
         }
     }
+
+    /// A listing that was written, asked for with a buffer of another length.
+    pub fn in_room(&self, room: usize) -> Self {
+        let serves = room >= self.listing.len();
+        Expected {
+            case: Case {
+                room,
+                ..self.case.clone()
+            },
+            answer: if serves { self.answer } else { -14 },
+            listing: if serves { self.listing.clone() } else { vec![] },
+        }
+    }
 }
 
 const GUARD: usize = 64;

@@ -72,7 +72,8 @@ impl Table {
         written(&self.names, &self.cells())
     }
 
-    fn cells(&self) -> Vec<Vec<String>> {
+    /// Each value as it is written.
+    pub fn cells(&self) -> Vec<Vec<String>> {
         let cell = |&value: &i64| match value {
             MARK => "-".to_string(),
             score => in_points(score),
@@ -112,7 +113,7 @@ impl Table {
 }
 
 /// Lines with single spaces between and a line feed after each.
-fn written(names: &[String], cells: &[Vec<String>]) -> Vec<u8> {
+pub fn written(names: &[String], cells: &[Vec<String>]) -> Vec<u8> {
     let mut text = names.join(" ") + "\n";
     for line in cells {
         text += &(line.join(" ") + "\n");

@@ -36,6 +36,19 @@ impl Expected {
             pool: written,
         }
     }
+
+    /// A pool that was written, asked for with a buffer of another length.
+    pub fn in_room(&self, room: usize) -> Self {
+        let serves = room >= self.pool.len();
+        Expected {
+            case: Case {
+                room,
+                ..self.case.clone()
+            },
+            answer: if serves { self.answer } else { -14 },
+            pool: if serves { self.pool.clone() } else { vec![] },
+        }
+    }
 }
 
 /// Calls `other`: the answer, the buffer's bytes and both sheets are as they must
