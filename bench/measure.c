@@ -9,18 +9,15 @@
    and its own; of the refined weight of a split, where the side stands in the
    place of the kind, the quartets of the split. */
 
-#define _POSIX_C_SOURCE 199309L
-
 #include "farzhudyl.h"
 #include "plain.h"
-#include "sheets.h"
+#include "sample.h"
 
 #include <stdio.h>
 #include <stdlib.h>
 #include <string.h>
-#include <time.h>
 
-enum { SHEETS = 32, REPEATS = 201, FEWEST = 21 };
+enum { REPEATS = 201, FEWEST = 21 };
 
 static const double repeat_us = 1500; /* at least, if not one round */
 static const double most_us = 6e6;    /* after this, the fewest repeats do */
@@ -32,44 +29,12 @@ typedef int64_t PoolCall(const uint8_t *first, size_t first_len,
                          size_t out_len);
 typedef int32_t WeightCall(size_t n, const int32_t *pairs, size_t pairs_len,
                            uint32_t side, int64_t *weight);
-typedef void MakePairs(bool distances, int n, int32_t *pairs);
 
 static SheetCall *const engines[] = {farzhudyl_listing, plain_listing};
 enum { ENGINES = sizeof engines / sizeof engines[0] };
 static PoolCall *const pools[ENGINES] = {farzhudyl_pool, plain_pool};
 static WeightCall *const weights[ENGINES] = {farzhudyl_refined_weight,
                                              plain_refined_weight};
-
-typedef struct {
-    uint8_t text[MAX_SHEET + 1];
-    size_t length;
-} Sheet;
-
-static size_t entries;
-static int32_t pairs[SHEETS][MAX_PAIRS];
-static Sheet sheets[SHEETS];
-static Sheet seconds[SHEETS]; /* of the same entries, to pool */
-static uint32_t sides[SHEETS]; /* of the splits to weigh */
-
-static void make_sheets(MakePairs *make, int32_t kind, int n)
-{
-    entries = (size_t)n;
-    for (int t = 0; t < SHEETS; t++) {
-        make(kind == FARZHUDYL_SPLITS, n, pairs[t]);
-        sheets[t].length = write_sheet(n, pairs[t], sheets[t].text);
-    }
-}
-
-static void make_seconds(int n)
-{
-    for (int t = 0; t < SHEETS; t++) {
-        int32_t scores[MAX_PAIRS];
-        int order[MAX_ENTRIES];
-        near_tree(false, n, scores);
-        any_order(n, order);
-        seconds[t].length = write_ordered(n, order, scores, seconds[t].text);
-    }
-}
 
 static double mean_bytes(const Sheet *of)
 {
@@ -116,20 +81,10 @@ static int count_lines(int32_t kind)
    last entry, by an engine; the plain one checks nothing. */
 static int64_t find_shared(int e, int32_t kind, int t, uint32_t *set)
 {
-    uint32_t sets[2 * MAX_ENTRIES], both = 1 | (uint32_t)1 << (entries - 1);
-    int64_t indices[2 * MAX_ENTRIES];
-    if (e == 0)
-        return farzhudyl_smallest_shared(kind, entries, pairs[t],
-                                         FARZHUDYL_PAIRS(entries), 0, entries - 1,
-                                         set);
-    int64_t count = plain_numbers(kind, (int32_t)entries, pairs[t], sets, indices);
-    for (int64_t i = 0; i < count; i++) {
-        *set = sets[i];
-        if ((*set & both) == both)
-            return i + 1;
-    }
-    *set = UINT32_MAX >> (MAX_ENTRIES - entries);
-    return 0;
+    return e == 0 ? farzhudyl_smallest_shared(kind, entries, pairs[t],
+                                              FARZHUDYL_PAIRS(entries), 0,
+                                              entries - 1, set)
+                  : plain_shared(kind, t, set);
 }
 
 /* Both engines find the same; answers how many sheets have such a group. */
@@ -170,39 +125,6 @@ static double pool_bytes(void)
         bytes += (double)length / SHEETS;
     }
     return bytes;
-}
-
-/* How many quartets the split of a side has. */
-static int64_t quartets(uint32_t side)
-{
-    int64_t in = 0, out;
-    for (; side != 0; side &= side - 1)
-        in++;
-    out = (int64_t)entries - in;
-    return in * (in - 1) / 2 * (out * (out - 1) / 2);
-}
-
-/* The side of a split to weigh. */
-typedef uint32_t PickSide(int t);
-
-/* Of the listed splits one with the most quartets. */
-static uint32_t pick_listed(int t)
-{
-    uint32_t sets[FARZHUDYL_GROUPS_MAX], side = 0;
-    int64_t indices[FARZHUDYL_GROUPS_MAX];
-    int64_t count = farzhudyl_numbers(
-        FARZHUDYL_SPLITS, entries, pairs[t], FARZHUDYL_PAIRS(entries), sets,
-        FARZHUDYL_GROUPS_MAX, indices, FARZHUDYL_GROUPS_MAX);
-    for (int64_t i = 0; i < count; i++)
-        if (quartets(sets[i]) > quartets(side))
-            side = sets[i];
-    return side;
-}
-
-static uint32_t pick_half(int t)
-{
-    (void)t;
-    return UINT32_MAX >> (MAX_ENTRIES - entries / 2);
 }
 
 static int32_t weigh(int e, int t, int64_t *weight)
@@ -258,14 +180,6 @@ static void weigh_all(int e, int32_t kind)
     (void)kind;
     for (int t = 0; t < SHEETS; t++)
         weigh(e, t, &weight);
-}
-
-/* The time that this process has had. */
-static double now_us(void)
-{
-    struct timespec t;
-    clock_gettime(CLOCK_PROCESS_CPUTIME_ID, &t);
-    return (double)t.tv_sec * 1e6 + (double)t.tv_nsec / 1e3;
 }
 
 /* Microseconds per call of some rounds. */
