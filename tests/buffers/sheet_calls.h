@@ -39,8 +39,10 @@ static void listed(const char *what, int32_t kind, const Text *sheet, const Grou
     Text listing = {{0}, 0};
     put_listing(&listing, groups);
     size_t length = listing.length;
+    /* More than any listing of so many lines has. */
+    const size_t most = 15 + 34 * groups->count;
     const size_t short_rooms[] = {0, 1, 14, length - 1};
-    const size_t rooms[] = {length, length + 1, FARZHUDYL_LISTING_MAX};
+    const size_t rooms[] = {length, length + 1, most, most + 1, FARZHUDYL_LISTING_MAX, 2191};
     for (size_t i = 0; i < sizeof short_rooms / sizeof short_rooms[0]; i++)
         expect_listing(what, kind, sheet->bytes, sheet->length, short_rooms[i], -14, NULL);
     for (size_t i = 0; i < sizeof rooms / sizeof rooms[0]; i++)
