@@ -65,8 +65,9 @@ def main() -> None:
     tenth = len(noise) // 10
     alone = sorted(run[row][AGAIN] / run[row][BEFORE] for run in runs for row in run)
     print(
-        f"\nnoise: the library of before beside itself, {len(noise)} rows, best of {len(runs)} link orders: {noise[0]:.2f} to {noise[-1]:.2f}, "
-        f"8 of 10 rows {noise[tenth]:.2f} to {noise[-1 - tenth]:.2f}; in one link order alone: {alone[0]:.2f} to {alone[-1]:.2f}"
+        f"\nnoise: the library of before beside itself, {len(noise)} rows, best of {len(runs)} link orders: "
+        f"{noise[0]:.2f} to {noise[-1]:.2f}, 8 of 10 rows {noise[tenth]:.2f} to {noise[-1 - tenth]:.2f}; "
+        f"in one link order alone: {alone[0]:.2f} to {alone[-1]:.2f}"
     )
 
 
