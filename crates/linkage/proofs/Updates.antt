@@ -6,8 +6,8 @@ use mathlib.Core.List.{List}
 use Prim.Native.Nat.{ℕ, _+_, _-_, _*_, _^_, _≤_, _<_}
 use native.Mathlib.Decide.{ℕ-discrete}
 use native.Mathlib.Omega.{arith}
-use lib.IntN.{ℤ, pos}
-use lib.ListN.{length, getD, replicate, getD-replicate}
+use lib.IntN.{ℤ}
+use lib.ListN.{length, getD}
 use Rattle.lists.proofs.Lists.{getD-below}
 use Rattle.integers.specs.Range.{Within}
 use Rattle.integers.proofs.Linear.{up, dn}
@@ -16,7 +16,9 @@ use Rattle.clusters.specs.PairList.{Similarity, Symmetric}
 use Rattle.clusters.specs.Linkage.{Quotient, link, singles}
 use Rattle.clusters.proofs.Blocks.{Partition}
 use Rattle.clusters.proofs.Links.{link-symm}
+use Rattle.matrix.specs.Rows.{Cleared}
 use Rattle.links.specs.Table.{entry, Holds, OwnKept, Small, Written, joined, joinedRow}
+use Rattle.links.proofs.Rows.{own-cleared}
 use Rattle.linkage.specs.Blocks.{mergedAt, linkageOf}
 use Rattle.linkage.proofs.Unions.{link-single, link-union, link-within}
 use Rattle.linkage.proofs.Places.{places-apart, some-at, joinedAt, joined-here, joined-other, merged-moved, merged-kept}
@@ -25,10 +27,10 @@ use Rattle.linkage.proofs.Places.{places-apart, some-at, joinedAt, join
 pub record Own (k c : ℕ) (t : List ℤ) : Type 0 where
   pub own : (a : ℕ) → a < c → Within (k * 2 ^ 42) (entry t a a)
 
-pub own-start : (n : ℕ) {t : List ℤ} → n ≤ 32 → OwnKept (replicate 1024 (pos 0)) t → Own 0 n t
+pub own-start : (n : ℕ) {t₀ t : List ℤ} → n ≤ 32 → Cleared t₀ → OwnKept t₀ t → Own 0 n t
 unfolding up dn
-own-start n h o = record {
-  own = λ a l. rw (o .own a (omega arith), getD-replicate 1024 (a * 32 + a) (pos 0) (pos 0) (omega arith)) (within (omega arith) (omega arith));
+own-start n h z o = record {
+  own = λ a l. rw (own-cleared z o a (omega arith)) (within (omega arith) (omega arith));
 }
 
 joined-within : (avg : Bool) {m : ℕ} {x y : ℤ} → Within m x → Within (2 ^ 42) y → Within (m + 2 ^ 42) (joined avg x y)
@@ -112,7 +114,7 @@ module _ (avg : Bool) (n : ℕ) (s : Similarity) (symm : Symmetric s) where
       pub holds-merged : {t₂ : List ℤ} → Written j (entry t₁ (length bs - 1)) (length bs - 1) t₁ t₂
           → Holds (length bs - 1) (numerators avg n s (mergedAt i j bs)) t₂
       unfolding numerators
-      holds-merged {t₂} v = record { size = v .size; is = λ a b ha hb d. go a b ha hb d (ℕ-discrete a j) (ℕ-discrete b j) }
+      holds-merged {t₂} v = record { size = omega (arith, v .size, w .size, h .size); is = λ a b ha hb d. go a b ha hb d (ℕ-discrete a j) (ℕ-discrete b j) }
         where
           k : ℕ
           k = length bs - 1

@@ -1,13 +1,12 @@
 // The blocks of a linkage, and the linkage calls.
 use answers::Answer;
 ghost use mathlib.Core.Path.{_≡_};
-ghost use Prim.Native.Nat.{_-_, _^_, _<_, _≤_};
+ghost use Prim.Native.Nat.{_-_, _*_, _<_, _≤_};
 ghost use lib.ListN.{length, getD, set};
-ghost use Rattle.integers.specs.Range.{Bounded};
-ghost use Rattle.clusters.specs.PairList.{rowStart};
 ghost use Rattle.clusters.specs.Linkage.{single, average, singles};
+ghost use Rattle.matrix.specs.Rows.{Cleared};
 ghost use Rattle.linkage.specs.Blocks.{blocksOf, mergedAt, linkageOf};
-ghost use Rattle.linkage.specs.Steps.{weight, Merged};
+ghost use Rattle.linkage.specs.Steps.{weight, Mergeable, Merged};
 ghost use Rattle.interface.specs.Calls.{LinkageCall};
 
 // "The blocks of a linkage number at most 32": the first `count` of the sets.
@@ -61,30 +60,69 @@ fn merge_weights(weights: &mut [usize; 32], union: usize, i: usize, j: usize, la
     weights[j] = weights[last];
 }
 
-// All merges of a tree: each merged block goes into the next slot.
-pub fn merge_all(average: bool, n: usize, pairs: &[i32], out: &mut [u32])
-    requires { ⌜ (1 ≤ n) × (n ≤ 32) × (length (now pairs) ≡ rowStart n) × Bounded (2 ^ 31) (now pairs)
-        × (n - 1 ≤ length (now out)) ⌝ }
+// All merges of a tree, with the links in a cleared table: each merged block goes into the next slot.
+fn merge_with(table: &mut [i64], average: bool, n: usize, pairs: &[i32], out: &mut [u32])
+    requires { ⌜ Mergeable n (now pairs) (now out) × (n * 32 ≤ length (now table)) × Cleared (now table) ⌝ }
     ensures { λ _. ⌜ Merged (linkageOf average) n (now (pairs .entry)) (now (out .entry)) (now (out .exit)) ⌝ }
 {
     let mut blocks = Blocks::singles(n);
     let mut weights = [1usize; 32];
-    let mut table = [0i64; 1024];
-    links::fill(pairs, n, &mut table);
+    links::fill(pairs, n, table);
     let mut k = 0;
     while 1 < blocks.count {
         let last = blocks.count - 1;
-        let found = links::greatest(blocks.count, &weights, &table);
+        let found = links::greatest(blocks.count, &weights, table);
         let i = found.i;
         let j = found.j;
-        links::join_rows(average, blocks.count, i, j, &mut table);
-        links::move_row(last, j, &mut table);
+        links::join_rows(average, blocks.count, i, j, table);
+        links::move_row(last, j, table);
         blocks = blocks.merge(i, j);
         let union = blocks.sets[i];
         merge_weights(&mut weights, weight(average, union), i, j, last);
         out[k] = union;
         k += 1;
     }
+}
+
+// The same, with a table for at most 8, 16 and 32 entries: an array is cleared whole.
+fn merge_8(average: bool, n: usize, pairs: &[i32], out: &mut [u32])
+    requires { ⌜ Mergeable n (now pairs) (now out) × (n ≤ 8) ⌝ }
+    ensures { λ _. ⌜ Merged (linkageOf average) n (now (pairs .entry)) (now (out .entry)) (now (out .exit)) ⌝ }
+{
+    let mut table = [0i64; 256];
+    merge_with(&mut table, average, n, pairs, out);
+}
+
+fn merge_16(average: bool, n: usize, pairs: &[i32], out: &mut [u32])
+    requires { ⌜ Mergeable n (now pairs) (now out) × (n ≤ 16) ⌝ }
+    ensures { λ _. ⌜ Merged (linkageOf average) n (now (pairs .entry)) (now (out .entry)) (now (out .exit)) ⌝ }
+{
+    let mut table = [0i64; 512];
+    merge_with(&mut table, average, n, pairs, out);
+}
+
+fn merge_32(average: bool, n: usize, pairs: &[i32], out: &mut [u32])
+    requires { ⌜ Mergeable n (now pairs) (now out) ⌝ }
+    ensures { λ _. ⌜ Merged (linkageOf average) n (now (pairs .entry)) (now (out .entry)) (now (out .exit)) ⌝ }
+{
+    let mut table = [0i64; 1024];
+    merge_with(&mut table, average, n, pairs, out);
+}
+
+// All merges of a tree: each merged block goes into the next slot.
+pub fn merge_all(average: bool, n: usize, pairs: &[i32], out: &mut [u32])
+    requires { ⌜ Mergeable n (now pairs) (now out) ⌝ }
+    ensures { λ _. ⌜ Merged (linkageOf average) n (now (pairs .entry)) (now (out .entry)) (now (out .exit)) ⌝ }
+{
+    if n <= 8 {
+        merge_8(average, n, pairs, out);
+        return;
+    }
+    if n <= 16 {
+        merge_16(average, n, pairs, out);
+        return;
+    }
+    merge_32(average, n, pairs, out);
 }
 
 // The checks of a linkage call, in the table's order, and the merges.

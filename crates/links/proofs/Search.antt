@@ -27,7 +27,7 @@ unfolding _≼_
 ≼-refl p = ≤ℤ-refl (pos (p .den) *ℤ p .num)
 
 pub small-first : {k n : ℕ} {t : List ℤ} → k ≤ n → Small n t → Small k t
-small-first h s = record { size = s .size; within = λ a b ha hb d. s .within a b (omega arith) (omega arith) d; own = λ a ha. s .own a (omega arith) }
+small-first h s = record { size = omega (arith, s .size); within = λ a b ha hb d. s .within a b (omega arith) (omega arith) d; own = λ a ha. s .own a (omega arith) }
 
 -- the first two places
 pub found-first : (w : List ℕ) (t : List ℤ) {z : ℤ} {d : ℕ} → z ≡ entry t 1 0

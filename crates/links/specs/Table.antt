@@ -1,4 +1,4 @@
--- The code's own vocabulary, which nobody need believe: the table of the links between the blocks left, 32 rows of 32
+-- The code's own vocabulary, which nobody need believe: the table of the links between the blocks left, rows of 32
 -- numbers. The link of two blocks is a quotient; the table has its numerator, and the denominator is the product of two
 -- weights.
 use mathlib.Core.Path.{_≡_}
@@ -23,7 +23,7 @@ stored a b z t = set (set t (a * 32 + b) z) (b * 32 + a) z
 
 -- the table has f for any two of the first k places
 pub record Holds (k : ℕ) (f : ℕ → ℕ → ℤ) (t : List ℤ) : Type 0 where
-  pub size : length t ≡ 1024
+  pub size : k * 32 ≤ length t
   pub is : (a b : ℕ) → a < k → b < k → a ≢ b → entry t a b ≡ f a b
 
 -- what stands for a place and itself, which is no link, is as it was
@@ -32,13 +32,13 @@ pub record OwnKept (t₀ t : List ℤ) : Type 0 where
 
 -- what it has for any two of the first k places is of bounded size, and so is what stands for a place and itself
 pub record Small (k : ℕ) (t : List ℤ) : Type 0 where
-  pub size : length t ≡ 1024
+  pub size : k * 32 ≤ length t
   pub within : (a b : ℕ) → a < k → b < k → a ≢ b → Within (2 ^ 42) (entry t a b)
   pub own : (a : ℕ) → a < k → Within (2 ^ 47) (entry t a a)
 
 -- in row i and column i, the first k numbers have become those of g; the rest stands
 pub record Written (i : ℕ) (g : ℕ → ℤ) (k : ℕ) (t₀ t : List ℤ) : Type 0 where
-  pub size : length t ≡ 1024
+  pub size : length t ≡ length t₀
   pub row : (q : ℕ) → q < k → entry t i q ≡ g q
   pub column : (q : ℕ) → q < k → entry t q i ≡ g q
   pub rest : (p q : ℕ) → p < 32 → q < 32 → (p ≡ i → k ≤ q) → (q ≡ i → k ≤ p) → entry t p q ≡ entry t₀ p q

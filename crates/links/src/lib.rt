@@ -1,5 +1,5 @@
-// The links between the blocks of a linkage, in a table of 32 rows: made from the scores, kept up to date by merges,
-// and searched for the greatest.
+// The links between the blocks of a linkage, in a table of rows of 32 numbers: made from the scores, kept up to date
+// by merges, and searched for the greatest.
 ghost use mathlib.Core.Path.{_≡_};
 ghost use Prim.Native.Nat.{_+_, _*_, _^_, _<_, _≤_};
 ghost use lib.ListN.{length};
@@ -20,16 +20,16 @@ ghost use Rattle.links.specs.Table.{
   FoundBefore,
 };
 
-pub fn get(t: &[i64; 1024], a: usize, b: usize) -> i64
-    requires { ⌜ (a < 32) × (b < 32) ⌝ }
+pub fn get(t: &[i64], a: usize, b: usize) -> i64
+    requires { ⌜ (a < 32) × (b < 32) × (a * 32 + b < length (now t)) ⌝ }
     ensures { λ r. ⌜ r ≡ entry (now (t .entry)) a b ⌝ }
 {
     t[a * 32 + b]
 }
 
 // A link goes into the table both ways round.
-fn put(t: &mut [i64; 1024], a: usize, b: usize, z: i64)
-    requires { ⌜ (a < 32) × (b < 32) ⌝ }
+fn put(t: &mut [i64], a: usize, b: usize, z: i64)
+    requires { ⌜ (a < 32) × (b < 32) × (a * 32 + b < length (now t)) × (b * 32 + a < length (now t)) ⌝ }
     ensures { λ _. ⌜ now (t .exit) ≡ stored a b z (now (t .entry)) ⌝ }
 {
     t[a * 32 + b] = z;
@@ -37,8 +37,8 @@ fn put(t: &mut [i64; 1024], a: usize, b: usize, z: i64)
 }
 
 // Row a of the pair list begins at `start`.
-fn fill_row(pairs: &[i32], a: usize, start: usize, t: &mut [i64; 1024])
-    requires { ⌜ (a < 32) × (start ≡ rowStart a) × (start + a < length (now pairs)) × (length (now t) ≡ 1024) ⌝ }
+fn fill_row(pairs: &[i32], a: usize, start: usize, t: &mut [i64])
+    requires { ⌜ (a < 32) × (start ≡ rowStart a) × (start + a < length (now pairs)) × (a * 32 + 32 ≤ length (now t)) ⌝ }
     ensures { λ _. ⌜ Written a (score (now (pairs .entry)) a) a (now (t .entry)) (now (t .exit)) ⌝ }
 {
     for b in 0..a {
@@ -47,8 +47,8 @@ fn fill_row(pairs: &[i32], a: usize, start: usize, t: &mut [i64; 1024])
 }
 
 // The links of the single entries: the scores.
-pub fn fill(pairs: &[i32], n: usize, t: &mut [i64; 1024])
-    requires { ⌜ (n ≤ 32) × (length (now pairs) ≡ rowStart n) × (length (now t) ≡ 1024) ⌝ }
+pub fn fill(pairs: &[i32], n: usize, t: &mut [i64])
+    requires { ⌜ (n ≤ 32) × (length (now pairs) ≡ rowStart n) × (n * 32 ≤ length (now t)) ⌝ }
     ensures { λ _. ⌜ Holds n (score (now (pairs .entry))) (now (t .exit)) × OwnKept (now (t .entry)) (now (t .exit)) ⌝ }
 {
     for a in 0..n {
@@ -69,7 +69,7 @@ fn join(average: bool, x: i64, y: i64) -> i64
 
 // The links of the union of the blocks at i and j to all others, put at i. No test leaves out i and j: what comes to
 // stand there is no link.
-pub fn join_rows(average: bool, count: usize, i: usize, j: usize, t: &mut [i64; 1024])
+pub fn join_rows(average: bool, count: usize, i: usize, j: usize, t: &mut [i64])
     requires { ⌜ (i < j) × (j < count) × (count ≤ 32) × Small count (now t) ⌝ }
     ensures { λ _. ⌜ Written i (joinedRow average i j (now (t .entry))) count (now (t .entry)) (now (t .exit)) ⌝ }
 {
@@ -79,8 +79,8 @@ pub fn join_rows(average: bool, count: usize, i: usize, j: usize, t: &mut [i64; 
 }
 
 // The links of the last block to all others, put at j.
-pub fn move_row(last: usize, j: usize, t: &mut [i64; 1024])
-    requires { ⌜ (j ≤ last) × (last < 32) × (length (now t) ≡ 1024) ⌝ }
+pub fn move_row(last: usize, j: usize, t: &mut [i64])
+    requires { ⌜ (j ≤ last) × (last < 32) × (last * 32 + 32 ≤ length (now t)) ⌝ }
     ensures { λ _. ⌜ Written j (entry (now (t .entry)) last) last (now (t .entry)) (now (t .exit)) ⌝ }
 {
     for q in 0..last {
@@ -98,7 +98,7 @@ pub struct Found {
 
 // The greatest of what was found before and the links at j and an earlier place. The weight at j is common to those:
 // `scaled` is what it makes of the numerator found.
-fn greatest_in_row(weights: &[usize; 32], t: &[i64; 1024], j: usize, found: Found) -> Found
+fn greatest_in_row(weights: &[usize; 32], t: &[i64], j: usize, found: Found) -> Found
     requires { ⌜ (j < 32) × Small (j + 1) (now t) × Weights (j + 1) (now weights)
         × FoundBefore (now weights) (now t) (j * 32) found ⌝ }
     ensures { λ r. ⌜ FoundBefore (now (weights .entry)) (now (t .entry)) ((j + 1) * 32) r ⌝ }
@@ -122,7 +122,7 @@ fn greatest_in_row(weights: &[usize; 32], t: &[i64; 1024], j: usize, found: Foun
 }
 
 // The places of two blocks with the greatest link.
-pub fn greatest(count: usize, weights: &[usize; 32], t: &[i64; 1024]) -> Found
+pub fn greatest(count: usize, weights: &[usize; 32], t: &[i64]) -> Found
     requires { ⌜ (2 ≤ count) × (count ≤ 32) × Small count (now t) × Weights count (now weights) ⌝ }
     ensures { λ r. ⌜ GreatestAt count (quotientAt (now (weights .entry)) (now (t .entry))) (r .i) (r .j) ⌝ }
 {

@@ -2,12 +2,12 @@
 use mathlib.Core.Path.{_≡_, sym, ap, ap₂, _∙_, subst}
 use mathlib.Core.Logic.{_≢_}
 use mathlib.Core.List.{List, map, foldl, foldl-map}
-use Prim.Native.Nat.{ℕ, _+_, _-_, _*_, _^_, _≤_, _<_}
+use Prim.Native.Nat.{ℕ, _+_, _-_, _^_, _≤_, _<_}
 use native.Mathlib.Decide.{ℕ-discrete}
 use native.Mathlib.Omega.{arith}
 use lib.Dec.{lit≤}
-use lib.IntN.{ℤ, pos, _+ℤ_, _-ℤ_}
-use lib.ListN.{replicate, getD-replicate, length-map}
+use lib.IntN.{ℤ, _+ℤ_, _-ℤ_}
+use lib.ListN.{length-map}
 use Rattle.lists.proofs.Lists.{map-cong}
 use Rattle.integers.specs.Integers.{minZ, sum, sumOfSmallest}
 use Rattle.integers.specs.Range.{Within, Bounded}
@@ -21,7 +21,9 @@ use Rattle.clusters.specs.Refined.{Quartet, quartets, doubledScore, refinedWeig
 use Rattle.clusters.proofs.Quartets.{in-quartets, quartets-fold, quartets-many}
 use Rattle.clusters.proofs.Refined.{quartets-within}
 use Rattle.matrix.proofs.Scores.{score-within}
+use Rattle.matrix.specs.Rows.{Cleared}
 use Rattle.links.specs.Table.{entry, Holds, OwnKept}
+use Rattle.links.proofs.Rows.{own-cleared}
 use Rattle.refined.specs.Kept.{DistanceTable, keepQuartets}
 use Rattle.refined.proofs.Outside.{loops}
 
@@ -75,9 +77,10 @@ module _ {n : ℕ} (l : List ℤ) {t : List ℤ} (h : Holds n (score l) t) (A : 
         ∙ ap (λ (k : ℕ). sumOfSmallest k scores) e
 
 -- a table filled with the scores
-pub filled-table : {n : ℕ} {l t : List ℤ} → n ≤ 32 → Bounded (2 ^ 22) l → Holds n (score l) t → OwnKept (replicate 1024 (pos 0)) t → DistanceTable n t
-filled-table {n} {l} {t} few s h o = record { few = few; size = h .size; small = λ a b ha hb. at a b ha hb (ℕ-discrete a b) }
+pub filled-table : {n : ℕ} {l t : List ℤ} → n ≤ 32 → Bounded (2 ^ 22) l → Holds n (score l) t
+    → {t₀ : List ℤ} → Cleared t₀ → OwnKept t₀ t → DistanceTable n t
+filled-table {n} {l} {t} few s h z o = record { few = few; size = h .size; small = λ a b ha hb. at a b ha hb (ℕ-discrete a b) }
   where
     at : (a b : ℕ) → a < n → b < n → Dec (a ≡ b) → Within (2 ^ 22) (entry t a b)
     at a b ha hb (no d) = within-equal (h .is a b ha hb d) (score-within s a b)
-    at a b ha hb (yes e) = within-equal (ap (entry t a) (sym e) ∙ o .own a (omega arith) ∙ getD-replicate 1024 (a * 32 + a) (pos 0) (pos 0) (omega arith)) zero-within
+    at a b ha hb (yes e) = within-equal (ap (entry t a) (sym e) ∙ own-cleared z o a (omega arith)) zero-within

@@ -2,21 +2,25 @@
 -- split's quartets, kept one by one.
 use mathlib.Core.Path.{_≡_}
 use mathlib.Core.List.{List, foldl}
-use Prim.Native.Nat.{ℕ, _^_, _≤_, _<_}
+use Prim.Native.Nat.{ℕ, _+_, _*_, _^_, _≤_, _<_}
 use lib.IntN.{ℤ}
 use lib.ListN.{length, getD}
 use Rattle.lists.specs.Lists.{below}
-use Rattle.integers.specs.Range.{Within}
-use Rattle.sets.specs.Sets.{members}
+use Rattle.integers.specs.Range.{Within, Bounded}
+use Rattle.sets.specs.Sets.{size, members}
 use Rattle.smallest.specs.Smallest.{keepSmallest}
-use Rattle.clusters.specs.PairList.{Similarity}
+use Rattle.clusters.specs.PairList.{Similarity, rowStart}
 use Rattle.clusters.specs.Refined.{quartet, doubledScore}
 use Rattle.links.specs.Table.{entry}
 
--- a table of 32 rows with the distances of n entries, which are far from the machine's limits
+-- what a weight asks: the distances of up to 32 entries, and a split with two of them or more on each side
+abbrev pub Weighable : ℕ → List ℤ → ℕ → Type 0
+Weighable n l A = (n ≤ 32) × (length l ≡ rowStart n) × Bounded (2 ^ 22) l × (2 ≤ size n A) × (size n A + 2 ≤ n)
+
+-- a table of rows of 32 with the distances of n entries, which are far from the machine's limits
 pub record DistanceTable (n : ℕ) (t : List ℤ) : Type 0 where
   pub few : n ≤ 32
-  pub size : length t ≡ 1024
+  pub size : n * 32 ≤ length t
   pub small : (a b : ℕ) → a < n → b < n → Within (2 ^ 22) (entry t a b)
 
 -- a list of entries

@@ -1,16 +1,17 @@
 // The refined weight of a split (document 02, 2.5).
 ghost use mathlib.Core.Path.{_≡_};
-ghost use Prim.Native.Nat.{_+_, _^_, _<_, _≤_};
+ghost use Prim.Native.Nat.{_*_, _<_, _≤_};
 ghost use lib.ListN.{length, take};
 ghost use Rattle.integers.specs.Integers.{Sorted};
-ghost use Rattle.integers.specs.Range.{Bounded};
-ghost use Rattle.sets.specs.Sets.{others, size};
-ghost use Rattle.clusters.specs.PairList.{rowStart, score};
+ghost use Rattle.sets.specs.Sets.{others};
+ghost use Rattle.clusters.specs.PairList.{score};
 ghost use Rattle.clusters.specs.Refined.{quartet, doubledScore, refinedWeight};
 ghost use Rattle.interface.specs.Refusals.{wrongSide, weightRefusal};
 ghost use Rattle.interface.specs.Calls.{WeightCall};
+ghost use Rattle.matrix.specs.Rows.{Cleared};
 ghost use Rattle.links.specs.Table.{entry};
-ghost use Rattle.refined.specs.Kept.{DistanceTable, Below, keepBeside, keepAcross, keepWithin, keepQuartets};
+ghost use Rattle.refined.specs.Kept.{Weighable, DistanceTable, Below};
+ghost use Rattle.refined.specs.Kept.{keepBeside, keepAcross, keepWithin, keepQuartets};
 use answers::Weighed;
 
 // Beyond every doubled score.
@@ -43,7 +44,7 @@ fn weight_refusal(n: usize, pairs: &[i32], side: u32) -> usize
 }
 
 // The doubled score of the quartet of a and a2 on one side, b and b2 on the other, by a table of the distances.
-fn doubled_score(t: &[i64; 1024], n: usize, a: usize, a2: usize, b: usize, b2: usize) -> i64
+fn doubled_score(t: &[i64], n: usize, a: usize, a2: usize, b: usize, b2: usize) -> i64
     requires { ⌜ DistanceTable n (now t) × (a < n) × (a2 < n) × (b < n) × (b2 < n) ⌝ }
     ensures { λ r. ⌜ r ≡ doubledScore (entry (now (t .entry))) (quartet (a, a2) (b, b2)) ⌝ }
 {
@@ -81,7 +82,7 @@ fn outside_of(n: usize, side: u32) -> Entries
 fn keep_beside(
     kept: &mut [i64],
     k: usize,
-    t: &[i64; 1024],
+    t: &[i64],
     n: usize,
     outside: &[usize],
     a: usize,
@@ -104,7 +105,7 @@ fn keep_beside(
 fn keep_across(
     kept: &mut [i64],
     k: usize,
-    t: &[i64; 1024],
+    t: &[i64],
     n: usize,
     outside: &[usize],
     a: usize,
@@ -124,7 +125,7 @@ fn keep_across(
 fn keep_within(
     kept: &mut [i64],
     k: usize,
-    t: &[i64; 1024],
+    t: &[i64],
     n: usize,
     side: u32,
     outside: &[usize],
@@ -143,14 +144,7 @@ fn keep_within(
 }
 
 // The same for each a of the side.
-fn keep_quartets(
-    kept: &mut [i64],
-    k: usize,
-    t: &[i64; 1024],
-    n: usize,
-    side: u32,
-    outside: &[usize],
-)
+fn keep_quartets(kept: &mut [i64], k: usize, t: &[i64], n: usize, side: u32, outside: &[usize])
     requires { ⌜ DistanceTable n (now t) × Below n (now outside)
         × (k < length (now kept)) × Sorted (take k (now kept)) ⌝ }
     ensures { λ _. ⌜ take k (now (kept .exit)) ≡
@@ -163,21 +157,58 @@ fn keep_quartets(
     }
 }
 
-// The weight of a split with two entries or more on each side.
-fn weight_of(n: usize, pairs: &[i32], side: u32) -> i64
-    requires { ⌜ (n ≤ 32) × (length (now pairs) ≡ rowStart n) × Bounded (2 ^ 22) (now pairs)
-        × (2 ≤ size n side) × (size n side + 2 ≤ n) ⌝ }
+// The weight of a split with two entries or more on each side, with the distances in a cleared table.
+fn weight_with(table: &mut [i64], n: usize, pairs: &[i32], side: u32) -> i64
+    requires { ⌜ Weighable n (now pairs) side × (n * 32 ≤ length (now table)) × Cleared (now table) ⌝ }
     ensures { λ r. ⌜ r ≡ refinedWeight n (score (now (pairs .entry))) side ⌝ }
 {
     let k = n - 3;
-    let mut table = [0i64; 1024];
-    links::fill(pairs, n, &mut table);
+    links::fill(pairs, n, table);
     let found = outside_of(n, side);
     let count = found.count;
     let list = found.list;
     let mut kept = [BEYOND; 32];
-    keep_quartets(&mut kept, k, &table, n, side, &list[..count]);
+    keep_quartets(&mut kept, k, table, n, side, &list[..count]);
     smallest::total(&kept, k)
+}
+
+// The same, with a table for at most 8, 16 and 32 entries: an array is cleared whole.
+fn weight_8(n: usize, pairs: &[i32], side: u32) -> i64
+    requires { ⌜ Weighable n (now pairs) side × (n ≤ 8) ⌝ }
+    ensures { λ r. ⌜ r ≡ refinedWeight n (score (now (pairs .entry))) side ⌝ }
+{
+    let mut table = [0i64; 256];
+    weight_with(&mut table, n, pairs, side)
+}
+
+fn weight_16(n: usize, pairs: &[i32], side: u32) -> i64
+    requires { ⌜ Weighable n (now pairs) side × (n ≤ 16) ⌝ }
+    ensures { λ r. ⌜ r ≡ refinedWeight n (score (now (pairs .entry))) side ⌝ }
+{
+    let mut table = [0i64; 512];
+    weight_with(&mut table, n, pairs, side)
+}
+
+fn weight_32(n: usize, pairs: &[i32], side: u32) -> i64
+    requires { ⌜ Weighable n (now pairs) side ⌝ }
+    ensures { λ r. ⌜ r ≡ refinedWeight n (score (now (pairs .entry))) side ⌝ }
+{
+    let mut table = [0i64; 1024];
+    weight_with(&mut table, n, pairs, side)
+}
+
+// The weight of a split with two entries or more on each side.
+fn weight_of(n: usize, pairs: &[i32], side: u32) -> i64
+    requires { ⌜ Weighable n (now pairs) side ⌝ }
+    ensures { λ r. ⌜ r ≡ refinedWeight n (score (now (pairs .entry))) side ⌝ }
+{
+    if n <= 8 {
+        return weight_8(n, pairs, side);
+    }
+    if n <= 16 {
+        return weight_16(n, pairs, side);
+    }
+    weight_32(n, pairs, side)
 }
 
 // The call.

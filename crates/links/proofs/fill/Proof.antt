@@ -1,7 +1,8 @@
-use mathlib.Core.Path.{_≡_, refl}
+use mathlib.Core.Path.{_≡_, refl, _∙_}
 use Prim.Native.Nat.{_≤_, _-_}
 use native.Mathlib.Omega.{arith}
 use borrow.Author.Needs.{needs}
+use lib.ListN.{length}
 use Rattle.clusters.specs.PairList.{score}
 use Rattle.clusters.proofs.PairList.{row-lt, score-symm}
 use Rattle.links.specs.Table.{Holds, OwnKept}
@@ -10,13 +11,13 @@ use Rattle.links.proofs.fill.Statement.{statement}
 use Rattle.links.proofs.fill.Tie as tie
 
 abbrev Inv-loop : tie.InvT-loop
-Inv-loop pairs n t₀ a₀ t a = (a ≤ n) × Holds a (score pairs) t × OwnKept t₀ t
+Inv-loop pairs n t₀ a₀ t a = (a ≤ n) × Holds a (score pairs) t × OwnKept t₀ t × (length t ≡ length t₀)
 
 abbrev μ-loop : tie.MeasureT-loop
 μ-loop pairs n t₀ a₀ t a = n - a
 
 loop-holds : tie.Need-loop-holds Inv-loop μ-loop
-loop-holds c = (omega arith, holds-start _ _ (c .pre .2), record { own = λ a h. refl })
+loop-holds c = (omega arith, holds-start _ _, record { own = λ a h. refl }, refl)
 
 row-start-requires : tie.Need-row-start-requires Inv-loop μ-loop
 row-start-requires c κs = search needs
@@ -28,7 +29,7 @@ fill-row-requires c κs = let r = c .before in
       omega arith,
       r .row-start .ensures,
       omega (arith, g .pre .1, r .row-start .ensures, row-lt (g .args .n) (s .loop .a) (s .loop .a) (omega arith) (omega arith)),
-      s .loop .inv .1 .size,
+      omega (arith, g .pre .2, s .loop .inv .3),
     )
 
 add-a : tie.Need-add-a Inv-loop μ-loop
@@ -38,11 +39,16 @@ loop-less : tie.Need-loop-less Inv-loop μ-loop
 loop-less c = search needs
 
 loop-again : tie.Need-loop-again Inv-loop μ-loop
-loop-again c = let s = c .before .before .before .before in (
-  omega arith,
-  holds-next (score-symm (s .before .args .pairs .now)) (omega arith) (s .loop .inv .1) (c .fill-row .ensures),
-  own-next (s .loop .inv .2) (c .fill-row .ensures),
-)
+loop-again c = let d = c .before .fill-row .ensures in
+    let s = c .before .before .before .before .before in (
+      omega arith,
+      holds-next (score-symm (s .before .args .pairs .now)) (omega arith) (omega (arith, s .before .pre .2, s .loop .inv .3)) (s .loop .inv .1) d,
+      own-next (s .loop .inv .2) d,
+      d .size ∙ s .loop .inv .3,
+    )
+
+same-length : tie.Need-same-length Inv-loop μ-loop
+same-length c = c .before .loop .inv .3
 
 returns : tie.Need-returns Inv-loop μ-loop
 returns c = let l = c .before .loop in
@@ -61,4 +67,5 @@ fill-spec =
     add-a
     loop-less
     loop-again
+    same-length
     returns)

@@ -21,7 +21,7 @@ abbrev μ-loop : tie.MeasureT-loop
 μ-loop pairs a start t₀ b₀ t b = a - b
 
 loop-holds : tie.Need-loop-holds Inv-loop μ-loop
-loop-holds c = (omega arith, written-start _ _ _ (c .pre .3))
+loop-holds c = (omega arith, written-start _ _ _)
 
 add-wide : tie.Need-add-wide Inv-loop μ-loop
 add-wide c = search needs
@@ -36,7 +36,7 @@ wide-requires : tie.Need-wide-requires Inv-loop μ-loop
 wide-requires c κs = search needs
 
 put-requires : tie.Need-put-requires Inv-loop μ-loop
-put-requires c κs = search needs
+put-requires c κs = let s = c .before .before .before .before .loop .inv .1 .size in (omega arith, omega arith, omega (arith, s), omega (arith, s))
 
 add-b : tie.Need-add-b Inv-loop μ-loop
 add-b c = search needs
@@ -45,14 +45,18 @@ loop-less : tie.Need-loop-less Inv-loop μ-loop
 loop-less c = search needs
 
 loop-again : tie.Need-loop-again Inv-loop μ-loop
-loop-again c = let s = c .before .before .before .before .before in
+loop-again c = let p = c .before in
+    let s = p .before .before .before .before .before in
     let a = s .before .args in
-    let w = c .before .wide in
+    let w = p .before .wide in
     let e : w .result ≡ score (a .pairs .now) (a .a) (s .loop .b) = w .ensures
-    ∙ toZ-ofZ (sfits-of (c .before .before .wide-arg .given))
+    ∙ toZ-ofZ (sfits-of (p .before .before .wide-arg .given))
     ∙ ap (λ (i : ℕ). getD (a .pairs .now) (i + s .loop .b) (pos 0)) (s .before .pre .1)
     ∙ sym (score-row (a .pairs .now) (a .a) (s .loop .b) (omega arith)) in
-    (omega arith, rw (c .put .ensures) (written-next (s .loop .inv .1) (passed w64 (w .ok) e) (omega arith) (omega arith)))
+    (omega arith, rw (p .put .ensures) (written-next (s .loop .inv .1) (passed w64 (w .ok) e) (omega arith) (omega arith) (omega arith) (omega arith)))
+
+same-length : tie.Need-same-length Inv-loop μ-loop
+same-length c = c .before .loop .inv .1 .size
 
 returns : tie.Need-returns Inv-loop μ-loop
 returns c = let l = c .before .loop in
@@ -74,4 +78,5 @@ fill-row-spec =
     add-b
     loop-less
     loop-again
+    same-length
     returns)

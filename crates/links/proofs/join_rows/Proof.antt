@@ -34,13 +34,15 @@ unfolding at-loop start
 second c = passed w64 (c .get2 .ok) (c .get2 .ensures ∙ written-left (at-loop c .loop .inv .1) (start c .args .j) (omega arith) (omega arith) (omega arith))
 
 loop-holds : tie.Need-loop-holds Inv-loop μ-loop
-loop-holds c = (omega arith, written-start _ _ _ (c .pre .3 .size))
+loop-holds c = (omega arith, written-start _ _ _)
 
 get-requires : tie.Need-get-requires Inv-loop μ-loop
-get-requires c κs = search needs
+get-requires c κs = let l = c .before .before .before in
+    (omega arith, omega arith, omega (arith, l .loop .inv .1 .size, l .before .pre .3 .size))
 
 get-requires-2 : tie.Need-get-requires-2 Inv-loop μ-loop
-get-requires-2 c κs = search needs
+get-requires-2 c κs = let l = c .before .before .before .before .before in
+    (omega arith, omega arith, omega (arith, l .loop .inv .1 .size, l .before .pre .3 .size))
 
 join-requires : tie.Need-join-requires Inv-loop μ-loop
 unfolding at-loop start
@@ -49,7 +51,10 @@ join-requires c κs = let s = start c in
     rw (first c, second c) (small-any (s .pre .3) (s .args .i) p (omega arith) (omega arith), small-any (s .pre .3) (s .args .j) p (search needs) (omega arith))
 
 put-requires : tie.Need-put-requires Inv-loop μ-loop
-put-requires c κs = search needs
+put-requires c κs = let l = c .before .before .before .before .before .before .before in
+    let s = l .loop .inv .1 .size in
+    let e = l .before .pre .3 .size in
+    (omega arith, omega arith, omega (arith, s, e), omega (arith, s, e))
 
 add-q : tie.Need-add-q Inv-loop μ-loop
 add-q c = search needs
@@ -59,11 +64,16 @@ loop-less c = search needs
 
 loop-again : tie.Need-loop-again Inv-loop μ-loop
 unfolding at-loop start joinedRow
-loop-again c = let d = c .before .before in (
-  omega arith,
-  rw (c .put .ensures) (written-next (at-loop d .loop .inv .1) (passed w64 (c .before .join .ok)
-      (c .before .join .ensures ∙ ap₂ (joined (start d .args .average)) (first d) (second d))) (omega arith) (omega arith)),
-)
+loop-again c = let p = c .before in
+    let d = p .before .before in
+    let e = start d .pre .3 .size in (
+      omega arith,
+      rw (p .put .ensures) (written-next (at-loop d .loop .inv .1) (passed w64 (p .before .join .ok)
+          (p .before .join .ensures ∙ ap₂ (joined (start d .args .average)) (first d) (second d))) (omega arith) (omega arith) (omega (arith, e)) (omega (arith, e))),
+    )
+
+same-length : tie.Need-same-length Inv-loop μ-loop
+same-length c = c .before .loop .inv .1 .size
 
 returns : tie.Need-returns Inv-loop μ-loop
 returns c = let l = c .before .loop in
@@ -84,4 +94,5 @@ join-rows-spec =
     add-q
     loop-less
     loop-again
+    same-length
     returns)

@@ -16,13 +16,13 @@ abbrev μ-loop : tie.MeasureT-loop
 μ-loop last j t₀ q₀ t q = last - q
 
 loop-holds : tie.Need-loop-holds Inv-loop μ-loop
-loop-holds c = (omega arith, written-start _ _ _ (c .pre .2))
+loop-holds c = (omega arith, written-start _ _ _)
 
 get-requires : tie.Need-get-requires Inv-loop μ-loop
-get-requires c κs = search needs
+get-requires c κs = let s = c .before .before .before .loop .inv .1 .size in (omega arith, omega arith, omega (arith, s))
 
 put-requires : tie.Need-put-requires Inv-loop μ-loop
-put-requires c κs = search needs
+put-requires c κs = let s = c .before .before .before .before .loop .inv .1 .size in (omega arith, omega arith, omega (arith, s), omega (arith, s))
 
 add-q : tie.Need-add-q Inv-loop μ-loop
 add-q c = search needs
@@ -31,13 +31,17 @@ loop-less : tie.Need-loop-less Inv-loop μ-loop
 loop-less c = search needs
 
 loop-again : tie.Need-loop-again Inv-loop μ-loop
-loop-again c = let s = c .before .before .before .before .before in
+loop-again c = let p = c .before in
+    let s = p .before .before .before .before .before in
     let l = s .loop in
     let a = s .before .args in (
       omega arith,
-      rw (c .put .ensures) (written-next (l .inv .1) (passed w64 (c .before .get .ok)
-          (c .before .get .ensures ∙ written-left (l .inv .1) (a .last) (search needs) (omega arith) (search needs))) (omega arith) (omega arith)),
+      rw (p .put .ensures) (written-next (l .inv .1) (passed w64 (p .before .get .ok)
+          (p .before .get .ensures ∙ written-left (l .inv .1) (a .last) (search needs) (omega arith) (search needs))) (omega arith) (omega arith) (omega arith) (omega arith)),
     )
+
+same-length : tie.Need-same-length Inv-loop μ-loop
+same-length c = c .before .loop .inv .1 .size
 
 returns : tie.Need-returns Inv-loop μ-loop
 returns c = let l = c .before .loop in
@@ -56,4 +60,5 @@ move-row-spec =
     add-q
     loop-less
     loop-again
+    same-length
     returns)

@@ -13,8 +13,8 @@ add-z c = search needs
 mul-z-2 : tie.Need-mul-z-2
 mul-z-2 c = search needs
 
-element-set-from-z : tie.Need-element-set-from-z
-element-set-from-z c = search needs
+slice-set-from-z : tie.Need-slice-set-from-z
+slice-set-from-z c = search needs
 
 mul-z-3 : tie.Need-mul-z-3
 mul-z-3 c = search needs
@@ -25,8 +25,11 @@ add-z-2 c = search needs
 mul-z-4 : tie.Need-mul-z-4
 mul-z-4 c = search needs
 
-element-set-from-z-2 : tie.Need-element-set-from-z-2
-element-set-from-z-2 c = search needs
+slice-set-from-z-2 : tie.Need-slice-set-from-z-2
+slice-set-from-z-2 c = search needs
+
+same-length : tie.Need-same-length
+same-length c = search needs
 
 returns : tie.Need-returns
 unfolding stored
@@ -39,9 +42,10 @@ put-spec =
     mul-z
     add-z
     mul-z-2
-    element-set-from-z
+    slice-set-from-z
     mul-z-3
     add-z-2
     mul-z-4
-    element-set-from-z-2
+    slice-set-from-z-2
+    same-length
     returns)
