@@ -7,14 +7,14 @@ use Prim.Native.Nat.{ℕ, _+_, _^_, _<_}
 use native.Mathlib.Omega.{arith}
 use lib.Dec.{T, lit≤}
 use lib.IntN.{ℤ, pos, negℤ, _-ℤ_}
-use lib.ListN.{length, set, replicate, length-set}
+use lib.ListN.{length, set, length-set}
 use lib.Signed.{_≤ℤ_}
 use mir.Syntax.{w64}
 use mir.Val.{toZ}
 use Rattle.lists.specs.Lists.{below, keep}
 use Rattle.lists.proofs.Lists.{below-lt, lt-below, in-map, of-map, map-cong}
 use Rattle.lists.proofs.Tests.{T-true, T-false, cond-elim}
-use Rattle.lists.proofs.Written.{place-more, getD-default}
+use Rattle.lists.proofs.Written.{place-more}
 use Rattle.integers.specs.Integers.{minZ, least, greatest}
 use Rattle.integers.specs.Range.{Within}
 use Rattle.integers.proofs.Linear.{zarith, up, dn, -at}
@@ -27,7 +27,8 @@ use Rattle.smallest.proofs.Tops.{top}
 use Rattle.clusters.specs.PairList.{score}
 use Rattle.clusters.specs.Indices.{strongIndex}
 use Rattle.clusters.proofs.PairList.{score-symm}
-use Rattle.matrix.specs.Rows.{number, Row}
+use Rattle.matrix.specs.Rows.{number, Row, Cleared}
+use Rattle.matrix.proofs.Tables.{cleared-at}
 use Rattle.indices.specs.Asked.{SmallRow, Proper, Table}
 use Rattle.indices.specs.Margins.{margin, nearness, separationFrom, leastMargin, spread, Numbers, Parted, AtMost}
 use Rattle.indices.proofs.Margins.{a-member, an-other, strong-margins}
@@ -123,8 +124,8 @@ unfolding margin
 margin-cong n A {f} {g} e = ap₂ (λ (l m : List ℤ). least l -ℤ greatest m)
     (map-cong f g (members n A) (λ y m. e y (of-members n A m .0))) (map-cong f g (others n A) (λ y m. e y (of-others n A {i = y} m .0)))
 
-pub zeros : (n : ℕ) → Numbers n (replicate 32 (pos 0))
-zeros n y _ = within-equal (getD-default (pos 0) 32 y) zero-within
+pub zeros : (n : ℕ) {t : List ℤ} → Cleared t → Numbers n t
+zeros n z y _ = within-equal (cleared-at z y) zero-within
 
 module _ {n A : ℕ} {inside outside : List ℤ} (l : List ℤ) where
   -- a loop over one side has found the least margin
@@ -138,22 +139,22 @@ module _ {n A : ℕ} {inside outside : List ℤ} (l : List ℤ) where
       (keep (λ y. Bool·beq (has A y) inner) (below n)) (λ x m. let (h, k) = of-side n A inner m in parted-spread v u (small x h k) p))
 
   -- the scores of a member with the entries outside
-  pub near-most : Parted n (replicate 32 (pos 0)) A inside outside → (a : ℕ) {z : ℤ}
+  pub near-most : {t : List ℤ} → Cleared t → Parted n t A inside outside → (a : ℕ) {z : ℤ}
       → AtMost n (score l a) outside z → (c : ℕ) → c < n → A ∌ c → score l a c ≤ℤ z
   unfolding up dn
-  near-most t a v c h k = omega (zarith, v c h, -at (score l a c) (number outside c), at-other t c h k .1, getD-default (pos 0) 32 c)
+  near-most z t a v c h k = omega (zarith, v c h, -at (score l a c) (number outside c), at-other t c h k .1, cleared-at z c)
 
 -- the strong index and the separation from an entry as least margins, less no number and less the entry's distances
 module _ {n A : ℕ} (l : List ℤ) (p : Proper n A) where
   of-entry : List ℤ → ℕ → ℤ
   of-entry t x = margin n (λ y. score l x y -ℤ number t y) A
 
-  pub strong-least : leastMargin n (score l) A (replicate 32 (pos 0)) true ≡ strongIndex n (score l) A
+  pub strong-least : {t : List ℤ} → Cleared t → leastMargin n (score l) A t true ≡ strongIndex n (score l) A
   unfolding leastMargin of-entry up dn
-  strong-least = let none : List ℤ = replicate 32 (pos 0) in
-      ap (λ (m : List ℕ). least (map (of-entry none) m)) (side-members n A)
-      ∙ ap least (map-cong (of-entry none) (λ a. margin n (score l a) A) (members n A) λ x _.
-      margin-cong n A (λ y _. omega (zarith, -at (score l x y) (number none y), getD-default (pos 0) 32 y)))
+  strong-least {t} z =
+      ap (λ (m : List ℕ). least (map (of-entry t) m)) (side-members n A)
+      ∙ ap least (map-cong (of-entry t) (λ a. margin n (score l a) A) (members n A) λ x _.
+      margin-cong n A (λ y _. omega (zarith, -at (score l x y) (number t y), cleared-at z y)))
       ∙ strong-margins n (score l) A p
 
   pub separation-least : (t : List ℤ) (a : ℕ) → Row n (score l a) t → leastMargin n (score l) A t false ≡ separationFrom n (score l) A a

@@ -79,18 +79,16 @@ pub fn pair(pairs: &[i32], a: usize, b: usize) -> Pair
     pairs::pair_of(pairs[place_of(a, b)])
 }
 
-// The scores of a, for each entry.
-pub fn row(n: usize, pairs: &[i32], a: usize) -> [i32; 32]
-    requires { ⌜ Scores n (now pairs) × (a < n) ⌝ }
-    ensures { λ r. ⌜ Row n (score (now (pairs .entry)) a) r ⌝ }
+// Puts the scores of a into a table, one for each entry.
+pub fn put_row(row: &mut [i32], n: usize, pairs: &[i32], a: usize)
+    requires { ⌜ Scores n (now pairs) × (a < n) × (n ≤ length (now row)) ⌝ }
+    ensures { λ _. ⌜ Row n (score (now (pairs .entry)) a) (now (row .exit)) ⌝ }
 {
-    let mut found = [0i32; 32];
     let mut at = place_of(a, 0);
     for y in 0..n {
-        found[y] = pairs[at];
+        row[y] = pairs[at];
         at = next_place(at, a, y);
     }
-    found
 }
 
 // Check 6.

@@ -19,14 +19,15 @@ use Rattle.indices.proofs.least_margin.Statement.{statement}
 use Rattle.indices.proofs.least_margin.Tie as tie
 
 abbrev Inv-loop : tie.InvT-loop
-Inv-loop n pairs set inner inside outside least₀ x₀ least x = (x ≤ n)
+Inv-loop inside outside n pairs set numbers inner least₀ x₀ least x = (x ≤ n)
     × Run minZ top (λ x. Bool·beq (has set x) inner) (λ x. spread n (score pairs x) inside outside) x least
 
 abbrev μ-loop : tie.MeasureT-loop
-μ-loop n pairs set inner inside outside least₀ x₀ least x = n - x
+μ-loop inside outside n pairs set numbers inner least₀ x₀ least x = n - x
 
 part-requires : tie.Need-part-requires Inv-loop μ-loop
-part-requires c κs = c .pre .0 .few
+part-requires c κs = let (inside, outside, numbers) = c .before .before .pre .1 in
+    (c .before .before .pre .0 .0 .few, (search (inside, outside), search (inside, outside), numbers))
 
 loop-holds : tie.Need-loop-holds Inv-loop μ-loop
 loop-holds c = (omega arith, run-start top-held)
@@ -34,19 +35,13 @@ loop-holds c = (omega arith, run-start top-held)
 has-requires : tie.Need-has-requires Inv-loop μ-loop
 has-requires c κs = search needs
 
-slice-aggregate-spread : tie.Need-slice-aggregate-spread Inv-loop μ-loop
-slice-aggregate-spread c = search needs
-
-slice-aggregate-spread-2 : tie.Need-slice-aggregate-spread-2 Inv-loop μ-loop
-slice-aggregate-spread-2 c = search needs
-
 spread-requires : tie.Need-spread-requires Inv-loop μ-loop
 spread-requires c κs = let t = c .before .before in
     let h = t .before .before .before .before .before .before in
-    let g = h .before in
-    let (inside, outside) = tables (h .part .ensures) (g .pre .2) in
+    let g = h .before .before .before in
+    let (inside, outside) = tables (h .part .ensures) (g .pre .0 .2) in
     let side = ap (λ (b : Bool). Bool·beq b (g .args .inner)) (t .before .has .ensures) in
-    (g .pre .0, omega arith, g .pre .3 _ (omega arith) (true-T (sym side ∙ t .if1 .taken)), search (inside, outside), search (inside, outside))
+    (g .pre .0 .0, omega arith, g .pre .0 .3 _ (omega arith) (true-T (sym side ∙ t .if1 .taken)), search (inside, outside), search (inside, outside))
 
 smaller-requires : tie.Need-smaller-requires Inv-loop μ-loop
 smaller-requires c κs = search needs
@@ -59,7 +54,7 @@ loop-less c = search needs
 
 loop-again : tie.Need-loop-again Inv-loop μ-loop
 loop-again c = let s = c .before .before .before in
-    let g = s .before .before .before .before in
+    let g = s .before .before .before .before .before .before in
     let t = ap (λ (b : Bool). Bool·beq b (g .args .inner)) (c .before .has .ensures) in
     ⊎-elim
     (λ w. (
@@ -70,11 +65,17 @@ loop-again c = let s = c .before .before .before in
     (λ w. (omega arith, run-no (s .loop .inv .1) (sym t ∙ w .0 .left) (w .1)))
     (c .if1 .came)
 
+same-length : tie.Need-same-length Inv-loop μ-loop
+same-length c = search needs
+
+same-length-2 : tie.Need-same-length-2 Inv-loop μ-loop
+same-length-2 c = search needs
+
 returns : tie.Need-returns Inv-loop μ-loop
 returns c = let s = c .before in
     let h = s .before .before .before in
-    let g = h .before in
-    least-spread (g .args .pairs .now) (g .pre .1) _ (g .pre .2) (h .part .ensures) (omega arith) (g .args .inner) (g .pre .3) (s .loop .inv .1)
+    let g = h .before .before .before in
+    least-spread (g .args .pairs .now) (g .pre .0 .1) _ (g .pre .0 .2) (h .part .ensures) (omega arith) (g .args .inner) (g .pre .0 .3) (s .loop .inv .1)
 
 pub least-margin-spec : {M : Type 1} → statement M
 least-margin-spec =
@@ -85,11 +86,11 @@ least-margin-spec =
     part-requires
     loop-holds
     has-requires
-    slice-aggregate-spread
-    slice-aggregate-spread-2
     spread-requires
     smaller-requires
     add-x
     loop-less
     loop-again
+    same-length
+    same-length-2
     returns)

@@ -4,8 +4,8 @@ use mathlib.Core.List.{List}
 use Prim.Native.Nat.{_+_, _-_, _≤_}
 use native.Mathlib.Omega.{arith}
 use borrow.Author.Needs.{needs}
-use lib.IntN.{ℤ}
-use lib.ListN.{length, length-set}
+use lib.IntN.{ℤ, pos}
+use lib.ListN.{length, replicate, length-set}
 use mir.Syntax.{w32}
 use Rattle.lists.proofs.Tests.{false-T}
 use Rattle.integers.proofs.Linear.{zarith}
@@ -25,8 +25,11 @@ Inv-loop n pairs set inside outside found₀ a₀ found a = (a ≤ n) × (length
 abbrev μ-loop : tie.MeasureT-loop
 μ-loop n pairs set inside outside found₀ a₀ found a = n - a
 
-part-requires : tie.Need-part-requires Inv-loop μ-loop
-part-requires c κs = c .pre .0 .few
+slice-aggregate-sides-of : tie.Need-slice-aggregate-sides-of Inv-loop μ-loop
+slice-aggregate-sides-of c = search needs
+
+sides-of-requires : tie.Need-sides-of-requires Inv-loop μ-loop
+sides-of-requires c κs = let h = c .before .pre .0 .few in (h, h)
 
 loop-holds : tie.Need-loop-holds Inv-loop μ-loop
 loop-holds c = (omega arith, refl, λ a h. absurd (omega arith))
@@ -42,8 +45,8 @@ slice-aggregate-greatest-of-2 c = search needs
 
 greatest-of-requires : tie.Need-greatest-of-requires Inv-loop μ-loop
 greatest-of-requires c κs = let h = c .before .before .before .before .before .before .before .before in
-    let g = h .before .pre in
-    let (inside, outside) = tables (h .part .ensures) (zeros _) in
+    let g = h .before .before .pre in
+    let (inside, outside) = tables (h .sides-of .ensures) (zeros _ {t = replicate 32 (pos 0)} refl) in
     (g .0, omega arith, small-row (g .2) _, inside, outside)
 
 mul-found : tie.Need-mul-found Inv-loop μ-loop
@@ -62,7 +65,7 @@ loop-again : tie.Need-loop-again Inv-loop μ-loop
 loop-again c = let s = c .before .before .before in
     let l = s .loop in
     let h = s .before .before .before in
-    let g = h .before in
+    let g = h .before .before in
     let t = c .before .has .ensures in
     let near : List ℤ → Type 0 = Near (g .args .n) (score (g .args .pairs .now)) (g .args .set) (l .a + 1) in
     ⊎-elim
@@ -70,7 +73,7 @@ loop-again c = let s = c .before .before .before in
       omega arith,
       ap length (w .4) ∙ length-set (l .found) (l .a) _ ∙ l .inv .1,
       subst near (sym (w .4)) (near-more (l .found) (l .inv .2) (omega (arith, l .inv .1, g .pre .0 .few)) λ c k o.
-          omega (zarith, passed w32 {z = w .3 .result} (w .3 .ok) refl, near-most (g .args .pairs .now) (h .part .ensures) (l .a) (w .3 .ensures) c k o)),
+          omega (zarith, passed w32 {z = w .3 .result} (w .3 .ok) refl, near-most (g .args .pairs .now) refl (h .sides-of .ensures) (l .a) (w .3 .ensures) c k o)),
     ))
     (λ w. (
       omega arith,
@@ -81,7 +84,7 @@ loop-again c = let s = c .before .before .before in
 
 returns : tie.Need-returns Inv-loop μ-loop
 returns c = let s = c .before in
-    let l = s .loop in (omega (arith, l .inv .1, s .before .before .before .before .pre .0 .few), λ a h. l .inv .2 a (omega arith))
+    let l = s .loop in (omega (arith, l .inv .1, s .before .before .before .before .before .pre .0 .few), λ a h. l .inv .2 a (omega arith))
 
 pub nearest-spec : {M : Type 1} → statement M
 nearest-spec =
@@ -89,7 +92,8 @@ nearest-spec =
     (tie.spec
     Inv-loop
     μ-loop
-    part-requires
+    slice-aggregate-sides-of
+    sides-of-requires
     loop-holds
     has-requires
     slice-aggregate-greatest-of
