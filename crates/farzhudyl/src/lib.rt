@@ -35,10 +35,7 @@ fn list_pairs(kind: i32, n: usize, pairs: &[i32], out: &mut [u8]) -> Answer
     let sets = found.sets;
     let indices = found.indices;
     let count = found.count;
-    // room for the first line and 64 of the longest lines
-    let mut text = [0u8; 2191];
-    let written = listing::write(&mut text, &sets, &indices, count);
-    listing::hand_over(&text, written, out)
+    listing::hand_listing(&sets, &indices, count, out)
 }
 
 // The listing of a sheet, of a kind that there is, or the refusal: check by check.

@@ -146,3 +146,20 @@ pub fn hand_over(text: &[u8], written: usize, out: &mut [u8]) -> Answer
     bytes::copy(&text[..written], out);
     Answer::Count(written)
 }
+
+// The same of the listing of the first count groups. A buffer with room for the longest lines is written to at once.
+pub fn hand_listing(sets: &[u32], indices: &[i64], count: usize, out: &mut [u8]) -> Answer
+    requires { ⌜ Slots count (now sets) (now indices) × (count ≤ 64) ⌝ }
+    ensures { λ r. ⌜ HandedOver (listing (map (lineOf 32) (groupsOf count (now (sets .entry)) (now (indices .entry)))))
+        (now (out .entry)) r (now (out .exit)) ⌝ }
+{
+    let room = 15 + 34 * count;
+    if room <= out.len() {
+        let length = write(out, sets, indices, count);
+        return Answer::Count(length);
+    }
+    // room for the first line and 64 of the longest lines
+    let mut text = [0u8; 2191];
+    let written = write(&mut text, sets, indices, count);
+    hand_over(&text, written, out)
+}

@@ -3,7 +3,7 @@ use mathlib.Core.Bool.{Bool, false, not}
 use mathlib.Core.List.{List}
 use Prim.Native.Nat.{ℕ}
 use borrow.Author.Tests.{not-false}
-use lib.ListN.{length, take, length-take}
+use lib.ListN.{length}
 use mir.Facts.{toZ-ofZ}
 use Rattle.lists.proofs.Tests.{true-T}
 use Rattle.clusters.specs.PairList.{scoresInRange}
@@ -16,8 +16,7 @@ use Rattle.matrix.specs.Checks.{Checked}
 use Rattle.kinds.proofs.Listed.{told, accepted}
 use Rattle.groups.specs.Found.{Groups}
 use Rattle.interface.specs.Listing.{groupsFound, pairsListing}
-use Rattle.listing.specs.Over.{overRefusal}
-use Rattle.listing.proofs.Puts.{written}
+use Rattle.listing.specs.Over.{overRefusal, HandedOver}
 use Rattle.listing.proofs.Over.{handed-over}
 use Rattle.farzhudyl.specs.Pairs.{pairsRefusal, PairsListed}
 use Rattle.farzhudyl.proofs.Found.{found-slots, found-listing}
@@ -52,18 +51,14 @@ these : (c : tie.After-find) → let s = c .before .before .before .before .befo
 these c = let s = c .before .before .before .before .before .before .before .before in
     subst (λ k. Groups (kindOf k) (s .args .n) (s .args .pairs .now) (c .find .result)) (toZ-ofZ (s .fits .kind)) (c .find .ensures)
 
--- the writer wrote the listing
-wrote : (c : tie.After-write) → let s = c .before .before .before .before .before .before .before .before .before .before .before .before .before .before in
-    (c .write .result ≡ length (text s)) × (take (c .write .result) (c .write .last .0) ≡ text s)
+-- what was handed over is the listing
+handed : (c : tie.After-hand-listing) → let s = c .before .before .before .before .before .before .before .before .before .before .before .before .before .before in
+    HandedOver (text s) (s .args .out .now) (c .hand-listing .result) (c .hand-listing .last .1 .1 .1 .0)
 unfolding pairsListing groupsFound
-wrote c =
-    let f = c .before .before .before .before .before .before in
+handed c = let f = c .before .before .before .before .before .before in
     let s = f .before .before .before .before .before .before .before .before in
     let listed = found-listing (kindOf (s .args .kind)) (s .args .n) (s .args .pairs .now) (f .find .result) (these f) (s .pre .1) in
-    written _ listed (c .write .ensures .0) (c .write .ensures .1)
-
-long : (c : tie.After-write) → length (take (c .write .result) (c .write .last .0)) ≡ c .write .result
-long c = ap length (wrote c .1) ∙ sym (wrote c .0)
+    subst (λ (t : List ℕ). HandedOver t (s .args .out .now) (c .hand-listing .result) (c .hand-listing .last .1 .1 .1 .0)) listed (c .hand-listing .ensures)
 
 scores-in-range-requires : tie.Need-scores-in-range-requires
 scores-in-range-requires c κs = search needs
@@ -109,23 +104,14 @@ find-requires c κs =
     let checked : Checked (s .args .n) (s .args .pairs .now) = record { some = s .pre .0; few = s .pre .1; long = s .pre .2; range = range } in
     rw (toZ-ofZ (s .fits .kind)) (accepted (s .args .kind) checked (asked-16 (u .before) (u .if2 .left)))
 
-slice-aggregate-write : tie.Need-slice-aggregate-write
-slice-aggregate-write c = search needs
+slice-aggregate-hand-listing : tie.Need-slice-aggregate-hand-listing
+slice-aggregate-hand-listing c = search needs
 
-slice-aggregate-write-2 : tie.Need-slice-aggregate-write-2
-slice-aggregate-write-2 c = search needs
+slice-aggregate-hand-listing-2 : tie.Need-slice-aggregate-hand-listing-2
+slice-aggregate-hand-listing-2 c = search needs
 
-slice-aggregate-write-3 : tie.Need-slice-aggregate-write-3
-slice-aggregate-write-3 c = search needs
-
-write-requires : tie.Need-write-requires
-write-requires c κs = let g = these (c .before .before .before .before .before) in (found-slots _ _ _ _ g, omega (arith, g .few))
-
-slice-aggregate-hand-over : tie.Need-slice-aggregate-hand-over
-slice-aggregate-hand-over c = search needs
-
-hand-over-requires : tie.Need-hand-over-requires
-hand-over-requires c κs = let w = c .before .before .before in omega (arith, long w, length-take (w .write .result) (w .write .last .0))
+hand-listing-requires : tie.Need-hand-listing-requires
+hand-listing-requires c κs = let g = these (c .before .before .before .before .before) in (found-slots _ _ _ _ g, omega (arith, g .few))
 
 same-length : tie.Need-same-length
 same-length c = search needs
@@ -134,12 +120,11 @@ returns-4 : tie.Need-returns-4
 unfolding pairsRefusal overRefusal
 returns-4 c =
     let o = c .before .before in
-    let w = o .before .before .before .before in
-    let f = w .before .before .before .before .before .before in
+    let f = o .before .before .before .before .before .before in
     let d = f .before in
     let u = d .before .before in
     let p = first-no (asked-16 (u .before) (u .if2 .left)) (first-no (asked-12 (d .before) (d .if3 .left)) (record { is = refl })) in
-    let (a, t) = handed-over (wrote w .1) (gives (first-no (passed-11 (u .before .before)) p)) (o .hand-over .ensures) in
+    let (a, t) = handed-over refl (gives (first-no (passed-11 (u .before .before)) p)) (handed o) in
     record { answered = a; written = t }
 
 pub list-pairs-spec : {M : Type 1} → statement M
@@ -153,11 +138,8 @@ list-pairs-spec =
     are-wrong-distances-requires
     returns-3
     find-requires
-    slice-aggregate-write
-    slice-aggregate-write-2
-    slice-aggregate-write-3
-    write-requires
-    slice-aggregate-hand-over
-    hand-over-requires
+    slice-aggregate-hand-listing
+    slice-aggregate-hand-listing-2
+    hand-listing-requires
     same-length
     returns-4)
