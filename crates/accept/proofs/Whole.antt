@@ -126,7 +126,7 @@ module _ {s : List ℕ} {n last next : ℕ} {new : List ℕ} (count : n ≡ entr
   mirror-right = T-true {b = all (λ i. all (λ j. eqZ (value s i j) (value s j i)) (below n)) (below n)} (in-all (λ i. all (λ j. eqZ (value s i j) (value s j i)) (below n)) (below n) λ a m.
       in-all (λ j. eqZ (value s a j) (value s j a)) (below n) λ b k. yes-eqZ (value s a b) (value s b a) (values-same a b (below-lt n m) (below-lt n k)))
 
-  pub rows-end : {lent old o : List ℤ} → Rows (value s) lent old last → o ≡ sets old (rowStart last) (map (value s last) (below (suc last))) 
+  pub rows-end : {lent old o : List ℤ} → Rows (value s) lent old last → o ≡ sets old (rowStart last) (map (value s last) (below (suc last)))
       → rowStart n ≤ length lent → RowsRead s n lent o
   rows-end {lent} {old} {o} r e long = record {
     lines = lines-right;

@@ -119,7 +119,15 @@ fn is_half(sheet: &[u8], at: usize, stop: u8) -> bool
 }
 
 // Digits with `.5` behind them, at p and at q; or whatever else stands there.
-fn read_half(sheet: &[u8], p: usize, q: usize, near: u8, far: u8, number: u32, size: usize) -> CellRead
+fn read_half(
+    sheet: &[u8],
+    p: usize,
+    q: usize,
+    near: u8,
+    far: u8,
+    number: u32,
+    size: usize,
+) -> CellRead
     requires { ⌜ (p + 10 ≤ length (now sheet)) × (q + 10 ≤ length (now sheet)) × Run (now sheet) p q number size ⌝ }
     ensures { λ r. ⌜ IfRead r (BothAt (now (sheet .entry)) p q near far) ⌝ }
 {
@@ -154,7 +162,11 @@ fn read_both(sheet: &[u8], p: usize, q: usize, stop: u8) -> CellRead
     let number = digits.number;
     let end = p + size;
     let other = q + size;
-    if (size == 0) | (sheet[end] != b' ') | (sheet[other] != stop) | ((sheet[p] == b'0') & (size != 1)) {
+    if (size == 0)
+        | (sheet[end] != b' ')
+        | (sheet[other] != stop)
+        | ((sheet[p] == b'0') & (size != 1))
+    {
         return read_half(sheet, p, q, b' ', stop, number, size);
     }
     let halves = (number * 2) as i32;

@@ -54,9 +54,16 @@ fn list_checked(kind: i32, sheet: &[u8], out: &mut [u8]) -> Answer
     }
 }
 
-// The same in one pass where that will do, with slots for the pair list, behind the names: n of them, and the value lines
-// start at from.
-fn list_rows(pairs: &mut [i32], kind: i32, sheet: &[u8], n: usize, from: usize, out: &mut [u8]) -> Answer
+// The same in one pass where that will do, with slots for the pair list: the n names are read, and the value lines start
+// at from.
+fn list_with(
+    pairs: &mut [i32],
+    kind: i32,
+    sheet: &[u8],
+    n: usize,
+    from: usize,
+    out: &mut [u8],
+) -> Answer
     requires { ⌜ (wrongKind kind ≡ false) × NamesRead (now sheet) n from × (rowStart n ≤ length (now pairs)) ⌝ }
     ensures { λ r. ⌜ SheetCall kind (now (sheet .entry)) (now (out .entry)) r (now (out .exit)) ⌝ }
 {
@@ -73,7 +80,7 @@ fn list_8(kind: i32, sheet: &[u8], n: usize, from: usize, out: &mut [u8]) -> Ans
     ensures { λ r. ⌜ SheetCall kind (now (sheet .entry)) (now (out .entry)) r (now (out .exit)) ⌝ }
 {
     let mut pairs = [0i32; 36];
-    list_rows(&mut pairs, kind, sheet, n, from, out)
+    list_with(&mut pairs, kind, sheet, n, from, out)
 }
 
 fn list_16(kind: i32, sheet: &[u8], n: usize, from: usize, out: &mut [u8]) -> Answer
@@ -81,15 +88,15 @@ fn list_16(kind: i32, sheet: &[u8], n: usize, from: usize, out: &mut [u8]) -> An
     ensures { λ r. ⌜ SheetCall kind (now (sheet .entry)) (now (out .entry)) r (now (out .exit)) ⌝ }
 {
     let mut pairs = [0i32; 136];
-    list_rows(&mut pairs, kind, sheet, n, from, out)
+    list_with(&mut pairs, kind, sheet, n, from, out)
 }
 
 fn list_32(kind: i32, sheet: &[u8], n: usize, from: usize, out: &mut [u8]) -> Answer
-    requires { ⌜ (wrongKind kind ≡ false) × NamesRead (now sheet) n from × (n ≤ 32) ⌝ }
+    requires { ⌜ (wrongKind kind ≡ false) × NamesRead (now sheet) n from ⌝ }
     ensures { λ r. ⌜ SheetCall kind (now (sheet .entry)) (now (out .entry)) r (now (out .exit)) ⌝ }
 {
     let mut pairs = [0i32; 528];
-    list_rows(&mut pairs, kind, sheet, n, from, out)
+    list_with(&mut pairs, kind, sheet, n, from, out)
 }
 
 // The sheet call: the listing's length, and the listing in the first bytes; or the refusal, and nothing is written.

@@ -63,7 +63,7 @@ returns-4 c = let l = c .before .before in
     rw (toZ-ofZ (start (l .before .before .before .before) .fits .kind)) at (l .list-16 .ensures)
 
 list-32-requires : tie.Need-list-32-requires
-list-32-requires c κs = let e = c .before .before .before in (right-kind (e .before .before), names e, names e .line .few)
+list-32-requires c κs = let e = c .before .before .before in (right-kind (e .before .before), names e)
 
 same-length-4 : tie.Need-same-length-4
 same-length-4 c = search needs

@@ -7,8 +7,8 @@ use Rattle.interface.specs.Sheet.{pairs}
 use Rattle.accept.specs.Accepted.{Accepted}
 use Rattle.reader.proofs.Answers.{accepted-answer, accepted-pairs, few-entries, some-entries, pairs-long, pairs-fit}
 use Rattle.farzhudyl.proofs.Sheets.{read-sheet}
-use Rattle.farzhudyl.proofs.list_rows.Statement.{statement}
-use Rattle.farzhudyl.proofs.list_rows.Tie as tie
+use Rattle.farzhudyl.proofs.list_with.Statement.{statement}
+use Rattle.farzhudyl.proofs.list_with.Tie as tie
 
 read-rows-requires : tie.Need-read-rows-requires
 read-rows-requires c κs = let b = c .before .before .before in (b .pre .1, b .pre .2)
@@ -68,8 +68,8 @@ returns-2 c =
     read-sheet _ _ (b .args .out .now) (b .pre .0) (accepted-answer (accepted (k .before))) (pairs-are k)
     (rw (toZ-ofZ (b .fits .kind)) at (l .list-pairs .ensures))
 
-pub list-rows-spec : {M : Type 1} → statement M
-list-rows-spec =
+pub list-with-spec : {M : Type 1} → statement M
+list-with-spec =
     tie.close
     (tie.spec
     read-rows-requires
