@@ -27,7 +27,7 @@ use Rattle.interface.proofs.Pieces.{joined-cut, all-joined}
 use Rattle.interface.proofs.Values.{name-word, cell-word, word-allowed}
 use Rattle.text.specs.Reading.{pieceAt}
 use Rattle.accept.specs.Places.{cell, At, Mirror, RowRead}
-use Rattle.accept.specs.Accepted.{Accepted}
+use Rattle.accept.specs.Read.{PairsRead}
 use Rattle.accept.specs.Names.{NamesRead}
 use Rattle.accept.proofs.Cursors.{line-next}
 
@@ -183,7 +183,7 @@ unfolding wrongCount mostEntries
 count-right n h k = rw (ne-eqb n 0 (λ e. absurd (omega (arith, e))), le-ltb 32 n k)
 
 -- the sheet is accepted
-pub sheet-accepted : {s : List ℕ} {n next : ℕ} {lent o : List ℤ} → NamesRead s n next → RowsRead s n lent o → Accepted s n lent o
+pub sheet-accepted : {s : List ℕ} {n next : ℕ} {lent o : List ℤ} → NamesRead s n next → RowsRead s n lent o → PairsRead s n lent o
 unfolding readerRefusal readerChecks pairs
 sheet-accepted {s} {n} {next} {lent} {o} names r =
     let line = names .line in

@@ -1,3 +1,3 @@
 pub mod Places
 pub mod Names
-pub mod Accepted
+pub mod Read

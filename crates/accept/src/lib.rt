@@ -12,7 +12,7 @@ ghost use Rattle.clusters.specs.PairList.{rowStart};
 ghost use Rattle.interface.specs.Sheet.{value};
 ghost use Rattle.accept.specs.Places.{Run, Half, CellAt, BothAt, IfRead, At, RowRead};
 ghost use Rattle.accept.specs.Names.{NameRun, LineRead, NamesRead};
-ghost use Rattle.accept.specs.Accepted.{Accepted};
+ghost use Rattle.accept.specs.Read.{PairsRead};
 use text::ValueRead;
 
 // A value's number in the pair list and the length of its text; or no value is read.
@@ -192,9 +192,9 @@ fn read_one(sheet: &[u8], p: usize, stop: u8) -> CellRead
     CellRead::Cell(halves, size)
 }
 
-// Row i up to its own place: cells (i, 0) .. (i, i) go to the slots from start on. Cell (j, i), j < i, has to stand at the
-// cursor of line j, with the same text; the cursor then moves past it. Answers where the row is left, 0 if it is not
-// accepted.
+// Row i up to its own place: cells (i, 0) .. (i, i) go to the slots from start on. Cell (j, i), j < i, has to stand at
+// the cursor of line j, with the same text; the cursor then moves past it. Answers where the row is left, 0 if it is
+// not accepted.
 fn read_row(
     cur: &mut [usize],
     pairs: &mut [i32],
@@ -342,7 +342,7 @@ pub fn read_names(sheet: &[u8]) -> Names
 // first slots; or the reader has to say which check refuses, if any, and nothing is known of the slots.
 pub fn read_rows(pairs: &mut [i32], sheet: &[u8], n: usize, from: usize) -> bool
     requires { ⌜ NamesRead (now sheet) n from × (rowStart n ≤ length (now pairs)) ⌝ }
-    ensures { λ r. ⌜ (r ≡ true → Accepted (now (sheet .entry)) n (now (pairs .entry)) (now (pairs .exit))) ⌝ }
+    ensures { λ r. ⌜ (r ≡ true → PairsRead (now (sheet .entry)) n (now (pairs .entry)) (now (pairs .exit))) ⌝ }
 {
     let mut cur = [0usize; 32];
     let mut at = from;
@@ -367,7 +367,7 @@ pub fn read_rows(pairs: &mut [i32], sheet: &[u8], n: usize, from: usize) -> bool
 // Both, with slots for every sheet: the number of entries, 0 if the sheet is not accepted.
 pub fn accept(pairs: &mut [i32], sheet: &[u8]) -> usize
     requires { ⌜ 528 ≤ length (now pairs) ⌝ }
-    ensures { λ r. ⌜ (0 < r → Accepted (now (sheet .entry)) r (now (pairs .entry)) (now (pairs .exit))) ⌝ }
+    ensures { λ r. ⌜ (0 < r → PairsRead (now (sheet .entry)) r (now (pairs .entry)) (now (pairs .exit))) ⌝ }
 {
     let names = read_names(sheet);
     let n = names.count;

@@ -54,8 +54,8 @@ fn list_checked(kind: i32, sheet: &[u8], out: &mut [u8]) -> Answer
     }
 }
 
-// The same in one pass where that will do, with slots for the pair list: the n names are read, and the value lines start
-// at from.
+// The same in one pass where that will do, with slots for the pair list: the n names are read, and the value lines
+// start at from.
 fn list_with(
     pairs: &mut [i32],
     kind: i32,

@@ -36,7 +36,7 @@ use Rattle.interface.specs.Refusals.{
 use Rattle.interface.specs.Calls.{ReaderCall, hasName, nameOf, startOf, nameStart, behind, NameCall}
 use Rattle.interface.proofs.Refusals.{Gives, no-first, right-count}
 use Rattle.interface.proofs.Pieces.{some-piece}
-use Rattle.accept.specs.Accepted.{Accepted}
+use Rattle.accept.specs.Read.{PairsRead}
 use Rattle.reader.specs.Square.{square, Holds}
 use Rattle.reader.specs.Names.{NamePart}
 use Rattle.reader.specs.Own.{SheetRead}
@@ -129,7 +129,7 @@ pub slots-pairs : (s : List ℕ) (l : List ℤ) → readerRefusal s ≡ 0
 slots-pairs s l e = rw (e, slots-written (pairs s) l) (take-at (pairs s) _ (rowStart (entries s)) (pairs-length s))
 
 -- a sheet that was accepted in one pass
-module _ {s : List ℕ} {n : ℕ} {lent after : List ℤ} (a : Accepted s n lent after) where
+module _ {s : List ℕ} {n : ℕ} {lent after : List ℤ} (a : PairsRead s n lent after) where
   pub accepted-answer : answer (readerRefusal s) (entries s) ≡ Count n
   unfolding answer
   accepted-answer = sym (ap₂ answer (sym (a .passed)) (a .count))

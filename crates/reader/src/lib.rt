@@ -167,7 +167,8 @@ pub fn read_own(pairs: &mut [i32; 528], sheet: &[u8]) -> Answer
 // Writes the numbers to the first slots.
 fn put(out: &mut [i32], numbers: &[i32])
     requires { ⌜ length (now numbers) ≤ length (now out) ⌝ }
-    ensures { λ _. ⌜ now (out .exit) ≡ now (numbers .entry) ++ drop (length (now (numbers .entry))) (now (out .entry)) ⌝ }
+    ensures { λ _. ⌜ now (out .exit) ≡
+        now (numbers .entry) ++ drop (length (now (numbers .entry))) (now (out .entry)) ⌝ }
 {
     for i in 0..numbers.len() {
         let number = numbers[i];

@@ -4,7 +4,7 @@ use mir.Facts.{toZ-ofZ}
 use borrow.Author.Needs.{needs}
 use borrow.Author.Tests.{not-false}
 use Rattle.interface.specs.Sheet.{pairs}
-use Rattle.accept.specs.Accepted.{Accepted}
+use Rattle.accept.specs.Read.{PairsRead}
 use Rattle.reader.proofs.Answers.{accepted-answer, accepted-pairs, few-entries, some-entries, pairs-long, pairs-fit}
 use Rattle.farzhudyl.proofs.Sheets.{read-sheet}
 use Rattle.farzhudyl.proofs.list_with.Statement.{statement}
@@ -30,7 +30,7 @@ returns c =
 -- the sheet is accepted, and its pair list stands in the slots
 accepted : (c : tie.Else1) → let r = c .before .before in
     let a = r .before .before .before .before .args in
-    Accepted (a .sheet .now) (a .n) (a .pairs .now) (r .read-rows .last .0)
+    PairsRead (a .sheet .now) (a .n) (a .pairs .now) (r .read-rows .last .0)
 accepted c = c .before .before .read-rows .ensures (not-false _ (c .if1 .left))
 
 pairs-are : (c : tie.After-pair-count) → let r = c .before .before .before in

@@ -5,7 +5,7 @@ use lib.IntN.{pos}
 use lib.ListN.{take, replicate}
 use Rattle.clusters.proofs.PairList.{rowStart-le}
 use Rattle.interface.specs.Sheet.{pairs}
-use Rattle.accept.specs.Accepted.{Accepted}
+use Rattle.accept.specs.Read.{PairsRead}
 use Rattle.reader.proofs.Answers.{few-entries, accepted-answer, accepted-pairs, accepted-call, pairs-long, pairs-fit}
 use Rattle.reader.proofs.read.Statement.{statement}
 use Rattle.reader.proofs.read.Tie as tie
@@ -24,7 +24,7 @@ returns c = c .read-checked .ensures
 
 -- the sheet was accepted, and its pair list stands in the own slots
 accepted : (c : tie.Else1) → let p = c .before .before in
-    Accepted (p .before .before .before .args .sheet .now) (p .accept .result) (replicate 528 (pos 0)) (p .accept .last .0)
+    PairsRead (p .before .before .before .args .sheet .now) (p .accept .result) (replicate 528 (pos 0)) (p .accept .last .0)
 accepted c = c .before .before .accept .ensures (omega arith)
 
 pair-count-requires : tie.Need-pair-count-requires
