@@ -130,7 +130,7 @@ enum {
 #define FARZHUDYL_GROUPS_MAX 64
 #define FARZHUDYL_BLOCKS_MAX 31
 
-/* The most bytes of stack that a call takes; the pool and the listing take the most, some 22,000 and 20,000 with 32 entries. */
+/* The most bytes of stack that a call takes; the listing and the pool take the most, some 22,000 each with 32 entries. */
 #define FARZHUDYL_STACK_MAX 24576
 
 /* The listing of a kind, as text, of the sheet of sheet_len bytes, to the buffer out of out_len bytes.
