@@ -1,21 +1,24 @@
--- What checks 11 and 16 leave of the pairs, for each call that makes them.
-use mathlib.Core.Path.{_≡_, subst}
+-- What checks 9, 11 and 16 leave of the pairs, for each call that makes them.
+use mathlib.Core.Path.{_≡_, sym, ap, subst}
 use mathlib.Core.Bool.{Bool, true, false, not, _&&_}
 use mathlib.Core.Logic.{_≢_}
 use mathlib.Core.List.{List}
-use Prim.Native.Nat.{ℕ}
+use Prim.Native.Nat.{ℕ, _<_}
 use lib.Dec.{T, lit<, not-T}
 use lib.IntN.{ℤ, pos}
 use lib.ListN.{length}
-use Rattle.lists.specs.Lists.{all}
+use Rattle.lists.specs.Lists.{below, all}
+use Rattle.lists.proofs.Lists.{lt-below, all-in}
 use Rattle.lists.proofs.Tests.{T-false}
 use Rattle.integers.specs.Integers.{eqZ}
 use Rattle.integers.proofs.Linear.{eqZ-yes}
-use Rattle.clusters.specs.PairList.{rowStart, score, scoreLimit, hasLength, scoresInRange, hasUnscored}
+use Rattle.pairs.specs.declared.Carried.the-variants.{Unscored}
+use Rattle.pairs.specs.Pairs.{mark, carried}
+use Rattle.clusters.specs.PairList.{Similarity, rowStart, score, scoreLimit, hasLength, isAllowedPair, scoresInRange, hasUnscored}
 use Rattle.clusters.specs.Fillings.{AllScored}
 use Rattle.clusters.proofs.PairList.{length-pairList}
 use Rattle.clusters.proofs.Scored.{AllAllowed, list-allowed, list-scored}
-use Rattle.interface.specs.Sheet.{entries, value, pairs}
+use Rattle.interface.specs.Sheet.{entries, value, mirrored, pairs}
 use Rattle.interface.specs.Refusals.{
   wrongUnscored,
   sheetCallChecks,
@@ -30,6 +33,24 @@ use Rattle.interface.proofs.Refusals.{passes, right-length}
 pub not-not : (b : Bool) → T (not (not b)) → T b
 not-not true t = tt
 not-not false t = absurd t
+
+-- what 9 leaves
+pub mirrored-same : (n : ℕ) (v : Similarity) → T (mirrored n v) → (i j : ℕ) → i < n → j < n → v i j ≡ v j i
+unfolding mirrored
+mirrored-same n v t i j h k = eqZ-yes (v i j) (v j i) (all-in (λ j. eqZ (v i j) (v j i)) (below n)
+    (all-in (λ i. all (λ j. eqZ (v i j) (v j i)) (below n)) (below n) t (lt-below n i h)) (lt-below n j k))
+
+-- 11, with the mark exempt
+pub marked : {z : ℤ} → z ≡ mark → carried z ≡ Unscored
+unfolding carried eqZ mark
+marked e = ap carried e
+
+exempt : T (isAllowedPair scoreLimit Unscored)
+unfolding isAllowedPair
+exempt = tt
+
+pub mark-allowed : {v : ℤ} → v ≡ mark → T (isAllowedPair scoreLimit (carried v))
+mark-allowed e = subst (λ p. T (isAllowedPair scoreLimit p)) (sym (marked e)) exempt
 
 -- what 16 leaves to a kind that is not 1
 pub unscored-left : (kind : ℤ) (l : List ℤ) → kind ≢ pos 1 → T (not (wrongUnscored kind l)) → T (not (hasUnscored l))

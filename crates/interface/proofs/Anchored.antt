@@ -1,4 +1,4 @@
--- The anchored call and the way back: what passes their checks, and the way back's 15 as document 01 says it.
+-- The anchored call and the way back: what passes their checks, and that the one undoes the other.
 use mathlib.Core.Path.{_≡_, refl, sym, _∙_}
 use mathlib.Core.Bool.{Bool, true, false, not, _||_}
 use mathlib.Core.Logic.{_⊎_, inl, inr, _↔_}
@@ -30,7 +30,6 @@ use Rattle.interface.specs.Refusals.{
   backChecks,
   backRefusal,
 }
-use Rattle.interface.specs.Demands.{Distances, BackFifteen}
 use Rattle.interface.proofs.Refusals.{no-first, right-length}
 
 -- "judged as kind 3"
@@ -90,79 +89,3 @@ way-back n x l slots slots′ e h =
       simp (p .count, eq-eqb (length S) (rowStart n) size, lt-leb n x (p .anchor), le-ltb slots′ (rowStart n) h, test),
       anchored-back n x l (p .anchor) (p .long) (p .distances),
     )
-
--- the third number of three is given exactly if its condition holds and the first two do not
-third : (a b c : Bool) → (firstOf ((6, a) ∷ (10, b) ∷ (15, c) ∷ []) ≡ 15) ↔ (T (none ((6, a) ∷ (10, b) ∷ [])) × T c)
-unfolding firstOf all
-third true b c = (λ e. absurd (omega arith), λ (t, _). absurd t)
-third false true c = (λ e. absurd (omega arith), λ (t, _). absurd t)
-third false false true = (λ e. (tt, tt), λ _. refl)
-third false false false = (λ e. absurd (omega arith), λ (_, t). absurd t)
-
-third-passes : (a b : Bool) → T (none ((6, a) ∷ (10, b) ∷ [])) → b ≡ false
-unfolding all
-third-passes true b t = absurd t
-third-passes false true t = absurd t
-third-passes false false t = refl
-
-module _ (n x : ℕ) (l : List ℤ) (slots : ℕ) (long : length l ≡ rowStart n) where
-  -- there are no distances of which the list is the anchored scores
-  abbrev Not : Type 0
-  Not = (d : List ℤ) → Distances n d → l ≡ anchoredScores n x d → ⊥
-
-  abbrev anchor : Bool
-  anchor = wrongAnchor n x
-
-  abbrev short : Bool
-  short = shortSlice slots (rowStart n)
-
-  not-anchored : x < n → T (notAnchored n x l) → Not
-  unfolding notAnchored hasLength
-  not-anchored hx t d p e =
-      let size = eqb-true (length d) (rowStart n) (T-true (p .long)) in
-      T-not (isAnchored n x l) t (anchored-iff n x l hx long .1 (d, size, p .range, p .distances, sym e))
-
-  no-distances : x < n → Not → T (notAnchored n x l)
-  unfolding notAnchored hasLength
-  no-distances hx f = go (T-or-not (isAnchored n x l))
-    where
-      go : T (isAnchored n x l) ⊎ T (not (isAnchored n x l)) → T (not (isAnchored n x l))
-      go (inr t) = t
-      go (inl t) =
-          let (d, size, range, distances, e) = anchored-iff n x l hx long .0 t in
-          absurd (f d (record { long = eqb-yes (length d) (rowStart n) size; range = range; distances = distances }) (sym e))
-
-  fifteen-says : T (anchor || short || notAnchored n x l) → (n ≤ x) ⊎ (slots < rowStart n) ⊎ Not
-  unfolding wrongAnchor shortSlice
-  fifteen-says t = go (T-or-not anchor) (or-T (anchor || short) (notAnchored n x l) t)
-    where
-      either : T anchor ⊎ T short → (n ≤ x) ⊎ (slots < rowStart n) ⊎ Not
-      either (inl a) = inl (leb→le n x a)
-      either (inr s) = inr (inl (ltb→lt slots (rowStart n) s))
-
-      go : T anchor ⊎ T (not anchor) → T (anchor || short) ⊎ T (notAnchored n x l) → (n ≤ x) ⊎ (slots < rowStart n) ⊎ Not
-      go (inl a) _ = inl (leb→le n x a)
-      go (inr u) (inl t) = either (or-T anchor short t)
-      go (inr u) (inr t) = inr (inr (not-anchored (leb-false n x (T-false u)) t))
-
-  says-fifteen : (n ≤ x) ⊎ (slots < rowStart n) ⊎ Not → T (anchor || short || notAnchored n x l)
-  unfolding wrongAnchor shortSlice
-  says-fifteen h = go (T-or-not anchor) h
-    where
-      go : T anchor ⊎ T (not anchor) → (n ≤ x) ⊎ (slots < rowStart n) ⊎ Not → T (anchor || short || notAnchored n x l)
-      go (inl a) _ = T-or-left (anchor || short) (notAnchored n x l) (T-or-left anchor short a)
-      go (inr u) (inl h) = absurd (T-not anchor u (le→leb n x h))
-      go (inr u) (inr (inl h)) = T-or-left (anchor || short) (notAnchored n x l) (T-or-right anchor short (lt→ltb slots (rowStart n) h))
-      go (inr u) (inr (inr f)) = T-or-right (anchor || short) (notAnchored n x l) (no-distances (leb-false n x (T-false u)) f)
-
--- the way back's 15
-pub back-fifteen : BackFifteen
-unfolding backRefusal backChecks
-back-fifteen n x l slots =
-    let iff = third (wrongCount n) (not (hasLength n l)) (wrongAnchor n x || shortSlice slots (rowStart n) || notAnchored n x l) in (
-      λ e. let (t, c) = iff .0 e in (t, fifteen-says n x l slots (long t) c),
-      λ (t, h). iff .1 (t, says-fifteen n x l slots (long t) h),
-    )
-  where
-    long : T (none ((6, wrongCount n) ∷ (10, not (hasLength n l)) ∷ [])) → length l ≡ rowStart n
-    long t = right-length n l (third-passes (wrongCount n) (not (hasLength n l)) t)

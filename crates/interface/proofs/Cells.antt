@@ -11,7 +11,7 @@ use lib.IntN.{ℤ}
 use lib.ListN.{length}
 use Rattle.lists.specs.Lists.{_∈_, below, all}
 use Rattle.lists.proofs.Lists.{no-length, lt-below, all-in, getD-in, some-fails}
-use Rattle.lists.proofs.Tests.{and-T, or-T, T-or-not, T-false}
+use Rattle.lists.proofs.Tests.{and-T, or-T, T-or-not, T-or-right, T-false}
 use Rattle.integers.specs.Integers.{eqZ}
 use Rattle.integers.specs.Range.{Within}
 use Rattle.integers.proofs.Linear.{up, dn, zarith}
@@ -25,12 +25,11 @@ use Rattle.clusters.proofs.PairList.{in-pairList, of-pairList}
 use Rattle.clusters.proofs.Scored.{allowed-within, within-range}
 use Rattle.interface.specs.Sheet.{isLoneMinus, isValue, isCell, valueOf, pairSaid, entries, words, value, mirrored, pairs}
 use Rattle.interface.specs.Refusals.{none, wrongValues, isRow, readerChecks}
-use Rattle.interface.specs.Requests.{InPoints, wordAt, CellSays, points, lone-minus, PointsOut}
+use Rattle.interface.specs.Sentences.{InPoints, CellSays, points, lone-minus, wordAt, PointsOut}
 use Rattle.interface.proofs.Refusals.{first-none, passes}
-use Rattle.interface.proofs.Accepted.{not-not}
+use Rattle.interface.proofs.Accepted.{not-not, mirrored-same}
 use Rattle.interface.proofs.Values.{signed-lone}
-use Rattle.interface.proofs.InPoints.{says-written, says-value, written-says, value-back}
-use Rattle.interface.proofs.Pool.{mirrored-same}
+use Rattle.interface.proofs.InPoints.{says-written, says-value, written-says, value-back, well-formed}
 
 -- a value is not the mark's number: 7 digits are too few
 pub value-scored : {z : ℤ} → Within 19999999 z → z ≢ mark
@@ -56,11 +55,15 @@ pub said-value : (w : List ℕ) → T (not (isLoneMinus w)) → listNumber (pair
 unfolding listNumber pairSaid numberFor
 said-value w t = rw (T-false {b = isLoneMinus w} t)
 
+lone-formed : T (isCell (45 ∷ []))
+unfolding isCell isLoneMinus
+lone-formed = tt
+
 alone : CellSays (45 ∷ []) (carried (listNumber (pairSaid (45 ∷ []))))
 unfolding isLoneMinus pairSaid listNumber numberFor carried eqZ mark
 alone = lone-minus
 
-cell-says : (w : List ℕ) → T (isCell w) → CellSays w (carried (listNumber (pairSaid w)))
+pub cell-says : (w : List ℕ) → T (isCell w) → CellSays w (carried (listNumber (pairSaid w)))
 unfolding isCell
 cell-says w t = go (T-or-not (isLoneMinus w)) (or-T (isLoneMinus w) (isValue w) t)
   where
@@ -77,9 +80,21 @@ no-lone : {z : ℤ} → InPoints (45 ∷ []) z → ⊥
 unfolding isLoneMinus
 no-lone {z} p = true≢false (ap isLoneMinus (says-written p) ∙ signed-lone z)
 
-said-points : {w : List ℕ} {c : Carried} {z : ℤ} → CellSays w c → InPoints w z → c ≡ Scored z
+pub said-points : {w : List ℕ} {c : Carried} {z : ℤ} → CellSays w c → InPoints w z → c ≡ Scored z
 said-points (points q _) p = ap Scored (sym (says-value q) ∙ says-value p)
 said-points lone-minus p = absurd (no-lone p)
+
+-- a cell says one thing
+pub one-cell : {w : List ℕ} {c d : Carried} → CellSays w c → CellSays w d → c ≡ d
+one-cell p (points q _) = said-points p q
+one-cell (points p _) lone-minus = absurd (no-lone p)
+one-cell lone-minus lone-minus = refl
+
+-- a word that says something is well formed
+pub says-cell : {w : List ℕ} {c : Carried} → CellSays w c → T (isCell w)
+unfolding isCell
+says-cell (points {w} {z} p h) = T-or-right (isLoneMinus w) (isValue w) (well-formed w .1 (z, p, h))
+says-cell lone-minus = lone-formed
 
 -- of a sheet
 module _ (s : List ℕ) where
@@ -92,27 +107,30 @@ module _ (s : List ℕ) where
       let (e, are) = and-T (eqb (length (words s i)) n) (all isCell (words s i)) row in
       all-in isCell (words s i) are (getD-in (words s i) j [] (omega (arith, eqb→eq (length (words s i)) n e)))
 
+  pub cell : T (not (wrongValues s)) → (i j : ℕ) → i < entries s → j < entries s → CellSays (wordAt s i j) (carried (value s i j))
+  unfolding value
+  cell t i j h k = cell-says (wordAt s i j) (cell-at t i j h k)
+
+  -- the value of any cell stands in the pair list
+  pub listed-value : T (mirrored (entries s) (value s)) → (i j : ℕ) → i < entries s → j < entries s → value s i j ∈ pairs s
+  unfolding pairs
+  listed-value same i j h k = go (decLe j i)
+    where
+      go : Dec (j ≤ i) → value s i j ∈ pairs s
+      go (yes l) = in-pairList (entries s) (value s) h l
+      go (no l) = Memᴰ·cast (mirrored-same (entries s) (value s) same i j h k) (in-pairList (entries s) (value s) k (omega arith))
+
   module _ (t : T (none (readerChecks s))) where
-    formed : T (not (wrongValues s))
+    pub formed : T (not (wrongValues s))
     unfolding readerChecks all
     formed = passes (readerChecks s) tt (first-none (readerChecks s) tt .1 t) 6 (lit< tt)
 
-    same : T (mirrored (entries s) (value s))
+    pub same : T (mirrored (entries s) (value s))
     unfolding readerChecks all
     same = not-not (mirrored (entries s) (value s)) (passes (readerChecks s) tt (first-none (readerChecks s) tt .1 t) 7 (lit< tt))
 
     pub cells : (i j : ℕ) → i < entries s → j < entries s → CellSays (wordAt s i j) (carried (value s i j))
-    unfolding value
-    cells i j h k = cell-says (wordAt s i j) (cell-at formed i j h k)
-
-    -- the value of any cell stands in the pair list
-    listed-value : (i j : ℕ) → i < entries s → j < entries s → value s i j ∈ pairs s
-    unfolding pairs
-    listed-value i j h k = go (decLe j i)
-      where
-        go : Dec (j ≤ i) → value s i j ∈ pairs s
-        go (yes l) = in-pairList (entries s) (value s) h l
-        go (no l) = Memᴰ·cast (mirrored-same (entries s) (value s) same i j h k) (in-pairList (entries s) (value s) k (omega arith))
+    cells = cell formed
 
     -- a value is out of the range exactly if it is so in points
     fore : T (not (scoresInRange (pairs s))) → PointsOut s
@@ -137,7 +155,7 @@ module _ (s : List ℕ) where
     unfolding scoresInRange scoreLimit onePoint pointLimit
     rear p = not-T (scoresInRange (pairs s)) λ r.
         let (h, k) = p .here in
-        let allowed = all-in (λ v. isAllowedPair scoreLimit (carried v)) (pairs s) r (listed-value (p .i) (p .j) h k) in
+        let allowed = all-in (λ v. isAllowedPair scoreLimit (carried v)) (pairs s) r (listed-value same (p .i) (p .j) h k) in
         p .out (allowed-within (subst (λ c. T (isAllowedPair scoreLimit c)) (said-points (cells (p .i) (p .j) h k) (p .says)) allowed))
 
     pub points-out : T (not (scoresInRange (pairs s))) ↔ PointsOut s

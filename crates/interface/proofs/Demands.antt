@@ -1,5 +1,6 @@
 -- The demands, from the outcomes of the calls and the theorems about groups.
 use mathlib.Core.Path.{_≡_, refl, sym, ap, ap₂, _∙_, subst, subst₂}
+use mathlib.Core.Bool.{not, _&&_}
 use mathlib.Core.Logic.{_⊎_, inl, inr, _≢_, _↔_, Iff·trans}
 use mathlib.Core.List.{List, _++_, map, map-map, map-id}
 use mathlib.Core.Option.{some, Option·some-injective}
@@ -8,22 +9,24 @@ use native.Mathlib.Nat.{pow-le-pow-right}
 use native.Mathlib.Omega.{arith}
 use lib.IntN.{ℤ, pos, negℤ}
 use lib.Signed.{_≤ℤ_}
-use lib.Dec.{T, lit<}
+use lib.Dec.{T, leb, ltb, lit<}
 use lib.ListN.{length, take, drop, replicate, length-map}
 use lib.Seq.{take-append-seam, drop-append-seam}
 use Rattle.lists.specs.Lists.{_∈_, _lists_, all}
 use Rattle.lists.proofs.Lists.{of-map}
-use Rattle.lists.proofs.Tests.{T-false}
+use Rattle.lists.proofs.Tests.{and-T, T-and, T-false}
 use Rattle.integers.specs.Integers.{eqZ}
 use Rattle.integers.proofs.Linear.{zarith, up, dn}
-use Rattle.sets.specs.Sets.{size}
+use Rattle.sets.specs.Sets.{has, _∋_, _∌_, size, complement}
+use Rattle.sets.proofs.Sets.{has-no, no-has, member-size, less-size, complement-lt, in-complement, not-complement}
 use Rattle.clusters.specs.PairList.{Similarity, Symmetric, rowStart, score, scoreLimit}
 use Rattle.clusters.specs.Fillings.{Fills, AllScored}
 use Rattle.clusters.specs.Farris.{farris, unfarris, anchoredScores, distancesBack}
 use Rattle.sets.specs.Sets.{_∪_}
 use Rattle.clusters.specs.Linkage.{Linkage, singles, Tree, mergedBlocks, blocks}
 use Rattle.clusters.proofs.Exists.{tree-length}
-use Rattle.clusters.specs.Groups.{Kind, strong, clean, splits, kindOf, index, groupSets, groups, treeLinkage, TreeScores}
+use Rattle.clusters.specs.Groups.{Kind, strong, clean, splits, kindOf, proper, speaksOf, index, groupSets, groups, treeLinkage, TreeScores}
+use Rattle.clusters.proofs.Farris.{separation-either-side}
 use Rattle.clusters.proofs.PairList.{score-symm, length-pairList}
 use Rattle.clusters.proofs.Groups.{in-groups, in-groupSets, groups-rise, rising-distinct, of-listed, listed-index, is-listed, groups-sets}
 use Rattle.clusters.proofs.Scored.{AllAllowed}
@@ -35,8 +38,8 @@ use Rattle.answers.specs.declared.Answer.the-variants.{Count, Refused}
 use Rattle.answers.specs.Answers.{numberOf, countOf, answer, slots, filled}
 use Rattle.answers.proofs.Answers.{number-answer, count-answer, slots-refused, slots-written}
 use Rattle.interface.specs.Sheet.{entries, pairs}
-use Rattle.interface.specs.Listing.{Line, lineOf, groupsFound, pairsListing, sheetListing, listingRead}
-use Rattle.interface.specs.Refusals.{Check, firstOf, none, Given, mostEntries, sheetCallChecks, sheetRefusal, numbersRefusal, linkageRefusal, anchoredRefusal, backRefusal}
+use Rattle.interface.specs.Listing.{Line, lineOf, listing, groupsFound, pairsListing, sheetListing, listingRead}
+use Rattle.interface.specs.Refusals.{Check, firstOf, mostEntries, sheetCallChecks, sheetRefusal, numbersRefusal, linkageRefusal, anchoredRefusal, backRefusal}
 use Rattle.interface.specs.Calls.{cNumber, InC, CCall, NumbersCall, setsFound, indicesFound, groupsOf, LinkageCall, AnchoredCall, BackCall}
 use Rattle.interface.specs.Demands.{
   Demand1,
@@ -52,15 +55,19 @@ use Rattle.interface.specs.Demands.{
   IndexIs,
   Indices,
   Demand2,
+  Positive,
   SameGroups,
   Complete,
   Demand3,
 }
-use Rattle.interface.proofs.Refusals.{numbered, first-iff, first-none, passes, few-count}
+use Rattle.interface.specs.Tables.{Table, GivenFirst, NoneGiven, sheetTable}
+use Rattle.interface.proofs.Refusals.{numbered, passes, few-count}
 use Rattle.interface.proofs.Lines.{Readable, listing-read}
 use Rattle.interface.proofs.Slots.{groups-slots}
 use Rattle.interface.proofs.Accepted.{Passed, passed-allowed, passed-scored, sheet-passed, numbers-passed, linkage-scored}
 use Rattle.interface.proofs.Anchored.{length-anchored, way-back}
+use Rattle.interface.proofs.Agree.{le-says, lt-says, Agree, agree-first, agree-none, refused-number}
+use Rattle.interface.proofs.AgreeTables.{sheet-agrees, sheet-numbered}
 
 -- what a number in C says of the answer: a length, if nothing is refused; minus the number of the refusal
 pub c-count : (k c count : ℕ) → cNumber (answer k c) ≡ pos count → (k ≡ 0) × (c ≡ count)
@@ -69,10 +76,10 @@ c-count zero c count e = (refl, cc)
 c-count (suc k) c count e = let z : _≡_ {A = ℕ} 0 1 = cc in absurd (omega arith)
 
 pub c-refused : (k c j : ℕ) → 0 < j → (cNumber (answer k c) ≡ negℤ (pos j)) ↔ (k ≡ j)
-unfolding cNumber answer
-c-refused k c zero h = absurd (omega arith)
-c-refused zero c (suc j) h = (λ e. let z : _≡_ {A = ℕ} 0 1 = cc in absurd (omega arith), λ e. absurd (omega arith))
-c-refused (suc k) c (suc j) h = (λ e. let z : k ≡ j = cc in ap suc z, λ e. ap (λ (i : ℕ). negℤ (pos i)) e)
+c-refused k c j h =
+    let f = refused-number (answer k c) j h in
+    let e = number-answer k c in
+    (λ q. sym e ∙ f .0 q, λ z. f .1 (e ∙ z))
 
 c-listed : (k c : ℕ) → k ≡ 0 → cNumber (answer k c) ≡ pos c
 unfolding cNumber answer
@@ -122,17 +129,17 @@ module _ {Outcome : Answer → Type 0} {r : ℤ} (c : InC Outcome r) (checks : L
   pub text-number : (j : ℕ) → 0 < j → (r ≡ negℤ (pos j)) ↔ (firstOf checks ≡ j)
   text-number j h = let f = c-refused k (length text) j h in (λ q. f .0 (sym number ∙ q), λ z. number ∙ f .1 z)
 
-  pub text-refusal : (j : ℕ) → 0 < j → (r ≡ negℤ (pos j)) ↔ Given checks j
-  text-refusal j h = Iff·trans (text-number j h) (first-iff checks j h)
+  pub text-refusal : {table : Table} → Agree checks table → (j : ℕ) → 0 < j → (r ≡ negℤ (pos j)) ↔ GivenFirst table j
+  text-refusal a j h = Iff·trans (text-number j h) (agree-first a j h)
 
   pub text-refused : (j : ℕ) → 0 < j → r ≡ negℤ (pos j) → after ≡ lent
   text-refused j h q = let is = text-number j h .0 q in w ∙ slots-refused k text lent (omega arith)
 
   -- the text's length is answered exactly if no line holds; the text is then written, and nothing else
-  pub text-listed : T (numbered checks) → (r ≡ pos (length text)) ↔ T (none checks)
-  text-listed t = (
-    λ q. first-none checks t .0 (c-count k (length text) (length text) (sym number ∙ q) .0),
-    λ u. number ∙ c-listed k (length text) (first-none checks t .1 u),
+  pub text-listed : {table : Table} → Agree checks table → T (numbered checks) → (r ≡ pos (length text)) ↔ NoneGiven table
+  text-listed a t = (
+    λ q. agree-none a t .0 (c-count k (length text) (length text) (sym number ∙ q) .0),
+    λ u. number ∙ c-listed k (length text) (agree-none a t .1 u),
   )
 
   pub text-count : (count : ℕ) → r ≡ pos count → (firstOf checks ≡ 0) × (length text ≡ count)
@@ -151,16 +158,17 @@ module _ {Outcome : Answer → Type 0} {r : ℤ} (c : InC Outcome r) (checks : L
 
 -- demand 1
 pub demand-1 : (kind : ℤ) (sheet lent : List ℕ) (r : ℤ) (after : List ℕ) → CCall kind sheet lent r after → Demand1 kind sheet lent r after
-unfolding sheetRefusal sheetCallChecks all
+unfolding sheetRefusal
 demand-1 kind sheet lent r after c =
     let checks = sheetCallChecks kind sheet (length lent) in
     let text = sheetListing kind sheet in
     let e = c .outcome .answered in
     let w = c .outcome .written in
+    let agree = sheet-agrees kind sheet (length lent) in
     record {
-      refusal = text-refusal c checks text lent e w;
+      refusal = text-refusal c checks text lent e w agree;
       refused = text-refused c checks text lent e w;
-      listed = text-listed c checks text lent e w tt;
+      listed = text-listed c checks text lent e w agree (sheet-numbered kind sheet (length lent));
       written = text-written c checks text lent e w;
       either = text-either c checks text lent e w;
     }
@@ -202,10 +210,10 @@ digits-room n h = pow-le-pow-right (lit< tt) h
 
 -- the lines of a sheet that is listed
 module _ {kind : ℤ} {sheet bytes : List ℕ} (l : Listed kind sheet bytes) where
-  lines : List Line
+  pub lines : List Line
   lines = map (lineOf (entries sheet)) (groupsFound kind (entries sheet) (pairs sheet))
 
-  readable : (x : Line) → x ∈ lines → Readable x
+  pub readable : (x : Line) → x ∈ lines → Readable x
   unfolding lines groupsFound lineOf up dn
   readable x m =
       let n = entries sheet in
@@ -218,9 +226,12 @@ module _ {kind : ℤ} {sheet bytes : List ℕ} (l : Listed kind sheet bytes) whe
         natural = omega (zarith, listed-index (kindOf kind) n s (g .0) t);
       })
 
-  lines-read : listingRead bytes ≡ some lines
+  pub lines-are : bytes ≡ listing lines
   unfolding sheetListing pairsListing lines
-  lines-read = ap listingRead (accepted l .are) ∙ listing-read lines readable
+  lines-are = accepted l .are
+
+  pub lines-read : listingRead bytes ≡ some lines
+  lines-read = ap listingRead lines-are ∙ listing-read lines readable
 
   line-size : (x : Line) → x ∈ lines → x .size ≡ size (entries sheet) (x .set)
   unfolding lines lineOf
@@ -313,6 +324,17 @@ index-is strong n s symm A z = least-is scoreLimit n s symm A z
 index-is clean n s symm A z = (λ e. e, λ e. e)
 index-is splits n s symm A z = (λ e. e, λ e. e)
 
+-- a split by the side without the first entry
+split-spoken : (n A : ℕ) {a b : ℕ} → a < n → b < n → A ∋ a → A ∌ b → A ∌ 0 → T (speaksOf splits n A)
+unfolding speaksOf proper
+split-spoken n A ha hb ka kb z =
+    T-and (leb 1 (size n A) && ltb (size n A) n) (not (has A 0))
+    (T-and (leb 1 (size n A)) (ltb (size n A) n) (le-says 1 (size n A) .from (member-size n A ha ka)) (lt-says (size n A) n .from (less-size n A hb kb))) (no-has A 0 z)
+
+without-first : (n A : ℕ) → T (speaksOf splits n A) → A ∌ 0
+unfolding speaksOf
+without-first n A t = has-no A 0 (and-T (leb 1 (size n A) && proper n A) (not (has A 0)) t .1)
+
 -- demands 2 and 3 of the groups
 module _ (kind : ℤ) (n : ℕ) (s : Similarity) (symm : Symmetric s) where
   abbrev these : List (ℕ × ℤ)
@@ -334,23 +356,31 @@ module _ (kind : ℤ) (n : ℕ) (s : Similarity) (symm : Symmetric s) where
       (subst (λ (i : ℤ). TreeScores (kindOf i) n s f) (sym e) h) ms
       (subst (λ (i : ℤ). Tree (treeLinkage (kindOf i)) n f ms) (sym e) t)
 
+  exact : (A : ℕ) (z : ℤ) → (these lists (A, z)) ↔ Positive (kindOf kind) n s A z
+  exact A z =
+      let is = index-is (kindOf kind) n s symm A z in (
+        λ m.
+            let (h, t, e) = in-groups (kindOf kind) n s A z .0 m in
+            record {
+              fits = h;
+              spoken = of-listed (kindOf kind) n s A t .0;
+              index-is = is .1 e;
+              positive = subst (λ y. pos 1 ≤ℤ y) (sym e) (listed-index (kindOf kind) n s A t);
+            },
+        λ p.
+            let e = is .0 (p .index-is) in
+            in-groups (kindOf kind) n s A z .1 (p .fits, is-listed (kindOf kind) n s A (p .spoken) (subst (λ y. pos 1 ≤ℤ y) e (p .positive)), e),
+      )
+
+  -- of kind 3
+  split-exact : kind ≡ pos 3 → (A : ℕ) (z : ℤ) → (these lists (A, z)) ↔ Positive splits n s A z
+  unfolding kindOf eqZ
+  split-exact e A z = subst (λ (j : ℤ). (these lists (A, z)) ↔ Positive (kindOf j) n s A z) e (exact A z)
+
   complete : Complete kind n s these
   unfolding kindOf eqZ treeLinkage
   complete = record {
-    exactly = λ A z.
-        let is = index-is (kindOf kind) n s symm A z in (
-          λ m.
-              let (h, t, e) = in-groups (kindOf kind) n s A z .0 m in
-              record {
-                fits = h;
-                spoken = of-listed (kindOf kind) n s A t .0;
-                index-is = is .1 e;
-                positive = subst (λ y. pos 1 ≤ℤ y) (sym e) (listed-index (kindOf kind) n s A t);
-              },
-          λ p.
-              let e = is .0 (p .index-is) in
-              in-groups (kindOf kind) n s A z .1 (p .fits, is-listed (kindOf kind) n s A (p .spoken) (subst (λ y. pos 1 ≤ℤ y) e (p .positive)), e),
-        );
+    exactly = exact;
     once = rw (groups-sets (kindOf kind) n s) (rising-distinct n (groupSets (kindOf kind) n s) (groups-rise (kindOf kind) n s));
     rising = rw (groups-sets (kindOf kind) n s) (groups-rise (kindOf kind) n s);
     few = groups-bound (kindOf kind) n s symm;
@@ -358,6 +388,20 @@ module _ (kind : ℤ) (n : ℕ) (s : Similarity) (symm : Symmetric s) where
     clean-in-trees = λ e A z m. in-tree (pos 2) e A z m s refl;
     splits-in-trees = λ e A z m. in-tree (pos 3) e A z m (farris s 0) refl;
     nested = λ A B y z a b. groups-nested (kindOf kind) n s symm A B (member A y a) (member B z b);
+    one-split = λ e A z m.
+        let p = split-exact e A z .0 m in
+        (without-first n A (p .spoken), p .index-is, p .index-is ∙ sym (separation-either-side n s symm A));
+    either-side = λ e A low a b ha hb ka kb z is h. (
+      λ f. split-exact e A z .1 (record { fits = low; spoken = split-spoken n A ha hb ka kb f; index-is = is; positive = h }),
+      λ f.
+          let C = complement n A in
+          split-exact e C z .1 (record {
+            fits = complement-lt n A;
+            spoken = split-spoken n C hb ha (in-complement n A hb kb) (not-complement n A ha ka) (not-complement n A (omega arith) f);
+            index-is = is ∙ sym (separation-either-side n s symm A);
+            positive = h;
+          }),
+    );
   }
 
 -- demand 2: the anchored scores, and the way back from what was written
@@ -397,19 +441,36 @@ demand-2 = record {
       (b .number ∙ answer-in-C (b .given) z′ ∙ ap pos count′, sym (ap (λ (j : ℕ). take j after′) count′) ∙ e);
 }
 
--- the blocks that a linkage call writes are those of a tree, but for the single entries
-linked : {linkage : Linkage} {n : ℕ} {l : List ℤ} {lent after : List ℕ} {r : Answer} (c : LinkageCall linkage n l lent r after) → numberOf r ≡ 0
-    → (singles n ++ take (countOf r) after ≡ blocks n (c .merges)) × Tree linkage n (score l) (c .merges)
-unfolding blocks mergedBlocks
-linked {linkage} {n} {l} {lent} {r = r} c none =
+-- what a linkage call writes: as many blocks as a tree merges, in the order of its merges
+pub record Merged {linkage : Linkage} {n : ℕ} {l : List ℤ} {lent after : List ℕ} {r : Answer} (c : LinkageCall linkage n l lent r after) : Type 0 where
+  pub tree : Tree linkage n (score l) (c .merges)
+  pub count : suc (countOf r) ≡ n
+  pub many : length (c .merges) ≡ countOf r
+  pub long : length (mergedBlocks (c .merges)) ≡ countOf r
+  pub slots : take (countOf r) after ≡ mergedBlocks (c .merges)
+
+pub merged-slots : {linkage : Linkage} {n : ℕ} {l : List ℤ} {lent after : List ℕ} {r : Answer} (c : LinkageCall linkage n l lent r after) → numberOf r ≡ 0 → Merged c
+unfolding mergedBlocks
+merged-slots {linkage} {n} {l} {lent} {r = r} c none =
     let k = linkageRefusal n l (length lent) in
     let z = not-refused k (n - 1) (c .answered) none in
     let t = c .tree z in
-    let long = length-map (c .merges) (λ (U, W). U ∪ W) in
     let count = counted k (n - 1) (c .answered) none in
     let all = tree-length linkage n (score l) (c .merges) t in
-    let same : length (mergedBlocks (c .merges)) ≡ countOf r = omega (arith, long, count, all) in
-    (ap (λ (bs : List ℕ). singles n ++ bs) (taken z (mergedBlocks (c .merges)) lent (c .written) same), t)
+    let long : length (mergedBlocks (c .merges)) ≡ countOf r = length-map (c .merges) (λ (U, W). U ∪ W) ∙ omega (arith, count, all) in
+    record {
+      tree = t;
+      count = omega (arith, count, all);
+      many = omega (arith, count, all);
+      long = long;
+      slots = taken z (mergedBlocks (c .merges)) lent (c .written) long;
+    }
+
+-- they are the blocks of the tree, but for the single entries
+linked : {linkage : Linkage} {n : ℕ} {l : List ℤ} {lent after : List ℕ} {r : Answer} (c : LinkageCall linkage n l lent r after) → numberOf r ≡ 0
+    → (singles n ++ take (countOf r) after ≡ blocks n (c .merges)) × Tree linkage n (score l) (c .merges)
+unfolding blocks
+linked {n = n} c none = let m = merged-slots c none in (ap (λ (bs : List ℕ). singles n ++ bs) (m .slots), m .tree)
 
 wrote-all : {kind : ℤ} {n : ℕ} {s : Similarity} {found : List (ℕ × ℤ)} → Wrote kind n s found → Complete kind n s found
 wrote-all {kind} {n} {s} w = let (e, symm) = wrote w in subst (λ (g : List (ℕ × ℤ)). Complete kind n s g) (sym e) (complete kind n s symm)

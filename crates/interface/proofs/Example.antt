@@ -103,8 +103,7 @@ use Rattle.interface.specs.Refusals.{
   readerRefusal,
 }
 use Rattle.interface.specs.Calls.{cNumber, CCall, hasName, ReaderCall, nameOf, startOf, nameStart, NameInC}
-use Rattle.interface.proofs.Refusals.{first-iff}
-use Rattle.interface.proofs.Demands.{answered, demand-1}
+use Rattle.interface.proofs.Demands.{answered, text-number, demand-1}
 
 -- Program strong, standard input, and whole output
 unfoldable pub sheet : List ℕ
@@ -351,7 +350,8 @@ refused-with c m lent after r long call =
     let checks = sheetCallChecks (c .kind) (c .sheet) (length lent) in
     let first : firstOf checks ≡ c .number = ap (sheetRefusal (c .kind) (c .sheet)) long ∙ given in
     let demand = demand-1 (c .kind) (c .sheet) lent r after call in
-    let minus = demand .refusal (c .number) more .1 (first-iff checks (c .number) more .0 first) in
+    let text = sheetListing (c .kind) (c .sheet) in
+    let minus = text-number call checks text lent (call .outcome .answered) (call .outcome .written) (c .number) more .1 first in
     (minus, demand .refused (c .number) more minus)
 
 pub every-number : map (λ c. c .number) refused ≡ 1 ∷ 2 ∷ 3 ∷ 4 ∷ 4 ∷ 5 ∷ 6 ∷ 7 ∷ 8 ∷ 8 ∷ 8 ∷ 8 ∷ 9 ∷ 9 ∷ 11 ∷ 11 ∷ 11 ∷ 16 ∷ 16 ∷ 12 ∷ 14 ∷ []

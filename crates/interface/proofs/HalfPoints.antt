@@ -1,46 +1,42 @@
 -- Request 2.6, from the outcomes of the calls, what bytes say in points, and the theorems about doubled scores.
 use mathlib.Core.Path.{_≡_, refl, sym, ap, _∙_, subst}
 use mathlib.Core.Bool.{Bool, true, false, not, cond, _&&_}
-use mathlib.Core.Logic.{_⊎_, inl, inr, _↔_}
 use mathlib.Core.List.{List, [], _∷_, map, map-map}
 use mathlib.Core.Option.{some}
-use Prim.Native.Nat.{ℕ, zero, suc, _*_, _<_}
+use Prim.Native.Nat.{ℕ, zero, suc, _<_}
 use native.Mathlib.Omega.{arith}
-use borrow.Author.Tests.{ne-eqb, le-ltb}
 use lib.Dec.{T, eqb, ltb, lit<}
-use lib.IntN.{ℤ, pos, negℤ, _+ℤ_}
+use lib.IntN.{ℤ, pos, _+ℤ_}
 use lib.ListN.{length, length-map, getD, List·getD-map}
 use Rattle.lists.specs.Lists.{_∈_, all}
-use Rattle.lists.proofs.Lists.{all-in, in-all, getD-in}
-use Rattle.lists.proofs.Tests.{and-T, or-second}
-use Rattle.integers.specs.Range.{Within}
-use Rattle.pairs.specs.Pairs.{mark, carried}
-use Rattle.clusters.specs.PairList.{Similarity, onePoint, pointLimit, scoreLimit, score, pairList, isAllowedPair, scoresInRange}
+use Rattle.lists.proofs.Lists.{all-in, getD-in}
+use Rattle.lists.proofs.Tests.{and-T}
+use Rattle.pairs.specs.Pairs.{carried}
+use Rattle.clusters.specs.PairList.{onePoint, pointLimit, scoreLimit, score}
 use Rattle.clusters.specs.Groups.{kindOf}
 use Rattle.clusters.specs.Doubled.{twice, doubledGroup}
-use Rattle.clusters.proofs.PairList.{of-pairList}
-use Rattle.clusters.proofs.Scored.{within-allowed}
 use Rattle.clusters.proofs.Doubled.{same-range-doubled, weight-doubled}
 use Rattle.answers.specs.Answers.{answer, slots}
 use Rattle.answers.proofs.Answers.{slots-refused}
 use Rattle.interface.specs.Sheet.{point, wholePart, fraction, halfText, hasHalf, numberFrom, halfPoints, entries, value, pairs, sameBytes}
 use Rattle.interface.specs.Listing.{Line, signedPoints, isSet, isDecimal, isIndex, isLine, lineRead, lineWords, listingRead, sheetListing}
-use Rattle.interface.specs.Refusals.{Check, firstOf, none, mostEntries, wrongCount, check1, check11, check16Of, check12, check14, sheetCallChecks, sheetRefusal, readerChecks, readerRefusal, sheetChecks}
+use Rattle.interface.specs.Refusals.{Check, firstOf, none, check11, sheetCallChecks, sheetRefusal, readerChecks, readerRefusal, sheetChecks}
 use Rattle.interface.specs.Calls.{cNumber, CCall}
 use Rattle.interface.specs.WholePoints.{wholeListing, wholeChecks, wholeRefusal, WholeCall}
+use Rattle.interface.specs.Sentences.{InPoints, CellSays, wordAt}
 use Rattle.interface.specs.Demands.{Listed}
-use Rattle.interface.specs.Requests.{InPoints, wordAt, CellSays, by-reader, by-reader-in-C, PointsOut, FitsSheet, Pooled, Request-2-6}
+use Rattle.interface.specs.Requests.{by-reader, by-reader-in-C, Pooled, Request-2-6}
 use Rattle.interface.proofs.Refusals.{first-none, none-append, passes}
 use Rattle.interface.proofs.Points.{index-back}
 use Rattle.interface.proofs.Unique.{is-read, lines-form}
-use Rattle.interface.proofs.Demands.{answered, not-refused, counted, not-refused-in-C, accepted, wrote, wrote-allowed, wrote-scored, text-number}
-use Rattle.interface.proofs.SheetTexts.{WellFormed, sheetText-accepted, sheetText-value}
-use Rattle.interface.proofs.Unscored.{first-at, mark-allowed, numbers-eleven, given}
+use Rattle.interface.proofs.Demands.{answered, not-refused, counted, not-refused-in-C, accepted, wrote, wrote-allowed, wrote-scored}
 use Rattle.interface.proofs.RowStarts.{request-2-3}
 use Rattle.interface.proofs.Pool.{request-2-4}
 use Rattle.interface.proofs.Weighed.{found}
-use Rattle.interface.proofs.InPoints.{says-value, written-says, one-text, well-formed}
-use Rattle.interface.proofs.Cells.{cell-at, cells, points-out}
+use Rattle.interface.proofs.InPoints.{says-value, written-says, one-text}
+use Rattle.interface.proofs.Cells.{cell-at, cells}
+use Rattle.interface.proofs.Agree.{agree-none}
+use Rattle.interface.proofs.AgreeTables.{reader-agrees, reader-numbered, scores-agree, scores-numbered}
 use Rattle.interface.proofs.WholePoints.{
   Halveless,
   no-half-whole,
@@ -63,45 +59,6 @@ read-none sheet e = first-none (readerChecks sheet) tt .0 e
 at-place : (sheet : List ℕ) → readerRefusal sheet ≡ 0 → (i j : ℕ) → i < entries sheet → j < entries sheet → {z : ℤ} → z ≡ value sheet i j
     → CellSays (wordAt sheet i j) (carried z)
 at-place sheet e i j h k q = subst (λ z. CellSays (wordAt sheet i j) (carried z)) (sym q) (cells sheet (read-none sheet e) i j h k)
-
--- names and numbers that a sheet can have
-fits : {ns : List (List ℕ)} {s : Similarity} → FitsSheet ns s → WellFormed ns s
-unfolding scoresInRange scoreLimit onePoint pointLimit
-fits {ns} {s} f = record {
-  some = f .count .0;
-  named = f .named;
-  distinct = f .distinct;
-  symmetric = f .symmetric;
-  allowed = in-all (λ v. isAllowedPair scoreLimit (carried v)) (pairList (length ns) s) λ v m.
-      let (i, j, h, k, e) = of-pairList (length ns) s m in
-      subst (λ v. T (isAllowedPair scoreLimit (carried v))) (sym e) (go (f .range i j h (omega arith)));
-}
-  where
-    go : {z : ℤ} → (z ≡ mark) ⊎ Within (2 * 1000000) z → T (isAllowedPair scoreLimit (carried z))
-    go (inl e) = mark-allowed e
-    go (inr h) = within-allowed h
-
-fits-count : {ns : List (List ℕ)} {s : Similarity} → FitsSheet ns s → wrongCount (length ns) ≡ false
-unfolding wrongCount mostEntries
-fits-count {ns} f =
-    let (one, few) = f .count in
-    or-second (ne-eqb (length ns) 0 (λ e. omega arith)) (le-ltb 32 (length ns) few)
-
--- 11, of a sheet
-eleven : {kind r : ℤ} {sheet lent after : List ℕ} → CCall kind sheet lent r after
-    → (r ≡ negℤ (pos 11)) ↔ (T (none (check1 kind ∷ readerChecks sheet)) × PointsOut sheet)
-unfolding sheetRefusal sheetCallChecks readerChecks all
-eleven {kind} {r} {sheet} {lent} c =
-    let before = check1 kind ∷ readerChecks sheet in
-    let f = first-at 11 (lit< tt) before (not (scoresInRange (pairs sheet)))
-    (check16Of kind (pairs sheet) ∷ check12 kind (entries sheet) (pairs sheet) ∷ check14 (length lent) (sheetListing kind sheet) ∷ []) tt tt in
-    let g = text-number c (sheetCallChecks kind sheet (length lent)) (sheetListing kind sheet) lent (c .outcome .answered) (c .outcome .written) 11 (lit< tt) in (
-      λ e. let (t, o) = f .0 (g .0 e) in (t, points-out sheet (rest t) .0 o),
-      λ (t, p). g .1 (f .1 (t, points-out sheet (rest t) .1 p)),
-    )
-  where
-    rest : T (none (check1 kind ∷ readerChecks sheet)) → T (none (readerChecks sheet))
-    rest t = and-T (not (check1 kind .1)) (none (readerChecks sheet)) t .1
 
 -- the index of a line that is read back
 index-says : (ws : List (List ℕ)) → T (isLine ws) → InPoints (getD ws 2 []) (lineRead ws .index)
@@ -132,7 +89,8 @@ pool-cells : {first second bytes : List ℕ} → Pooled first second bytes → (
 unfolding sheetChecks entries
 pool-cells {bytes = bytes} p i j h k =
     let n = ap length (request-2-4 .its-names p .0) in
-    cells bytes (none-append (readerChecks bytes) (check11 (pairs bytes) ∷ []) .0 (request-2-4 .a-sheet p) .0) i j (omega (arith, n)) (omega (arith, n))
+    let none = first-none (sheetChecks bytes) (scores-numbered bytes) .0 (agree-none (scores-agree bytes) (scores-numbered bytes) .1 (request-2-4 .a-sheet p)) in
+    cells bytes (none-append (readerChecks bytes) (check11 (pairs bytes) ∷ []) .0 none .0) i j (omega (arith, n)) (omega (arith, n))
 
 -- two tables that give the same number: their conditions are equal as long as none before them holds
 record Alike (l m : List Check) : Type 0 where
@@ -206,11 +164,10 @@ whole-listed {kind} {sheet} l f =
 pub request-2-6 : Request-2-6
 unfolding scoreLimit onePoint pointLimit twice
 request-2-6 = record {
-  well-formed = well-formed;
   every-number = λ z. (signedPoints z, written-says z);
   one-text = one-text;
   one-number = λ a b. sym (says-value a) ∙ says-value b;
-  cells = cells;
+  cells = λ sheet g. cells sheet (first-none (readerChecks sheet) (reader-numbered sheet) .0 (agree-none (reader-agrees sheet) (reader-numbered sheet) .1 g));
   read = λ {sheet} c none i j h below.
       let e = c .answered in
       let n = counted _ _ e none in
@@ -220,10 +177,7 @@ request-2-6 = record {
       let (none, is) = not-refused-in-C c _ _ e q in
       let n = counted _ _ e none in
       at-place sheet (not-refused _ _ e none) i j (omega (arith, is, n)) (omega (arith, is, n)) (request-2-3 .written (by-reader-in-C c count q) i j h below);
-  taken = λ f. (sheetText-accepted (fits f) (fits-count f), sheetText-value (fits f));
   range = refl;
-  eleven = eleven;
-  eleven-numbers = λ {kind} {n} {l} {lentIndices} {indices} {lentSets} c. given _ _ (c .answered) (numbers-eleven kind n l (length lentSets) (length lentIndices));
   indices-in-points = index-read;
   pool-in-points = pool-cells;
   whole-points = whole-call;

@@ -1,10 +1,10 @@
 -- What bytes say in points (`InPoints`) is what is written for a number of half points; what is well formed, and what the cells of a sheet
 -- and the indices of a listing say.
-use mathlib.Core.Path.{_≡_, refl, sym, ap, _∙_, subst}
+use mathlib.Core.Path.{_≡_, refl, sym, ap, ap₂, _∙_, subst, subst₂}
 use mathlib.Core.Bool.{Bool, true, false, not, cond, _&&_, _||_}
-use mathlib.Core.Logic.{_↔_}
+use mathlib.Core.Logic.{_⊎_, inl, inr, _↔_}
 use mathlib.Core.List.{List, [], _∷_, _++_, append-nil}
-use Prim.Native.Nat.{ℕ, zero, suc, _+_, _*_, _^_, _<_, _≤_}
+use Prim.Native.Nat.{ℕ, zero, suc, _+_, _*_, _/_, _%_, _^_, _<_, _≤_}
 use native.Mathlib.Omega.{arith}
 use native.Mathlib.Decide.{decLe}
 use lib.Dec.{T, eqb, leb, leb→le, eqb→eq, lit<}
@@ -32,10 +32,9 @@ use Rattle.interface.specs.Sheet.{
   sameBytes,
 }
 use Rattle.interface.specs.Listing.{digit, decimalFrom, decimal, pointsText, signedPoints, isDecimal, isIndex}
-use Rattle.interface.specs.WholePoints.{signedDecimal}
-use Rattle.interface.specs.Requests.{InPoints, whole, half, minus-half}
-use Rattle.interface.proofs.Digits.{decimal-least}
-use Rattle.interface.proofs.Numerals.{decimal-back}
+use Rattle.interface.specs.Sentences.{DecimalSays, one-digit, one-more, InPoints, whole, half, minus-whole, minus-half}
+use Rattle.interface.proofs.Digits.{ten, decimal-one, decimal-more, decimal-least}
+use Rattle.interface.proofs.Numerals.{low-digit, decimal-back}
 use Rattle.interface.proofs.Points.{half-number, index-back}
 use Rattle.interface.proofs.Values.{read-signed, value-form}
 
@@ -48,17 +47,53 @@ odd-text : (n : ℕ) → pointsText (n + n + 1) ≡ decimal n ++ halfText
 unfolding onePoint
 odd-text n = let e : n + n + 1 ≡ n * 2 + 1 = omega arith in ap pointsText e ∙ half-number n true
 
--- what says a number is what is written for it
-pub says-written : {w : List ℕ} {z : ℤ} → InPoints w z → w ≡ signedPoints z
-unfolding signedPoints signedDecimal halfText
-says-written (whole (pos n)) = sym (even-text n)
-says-written (whole (negsuc n)) = let e : suc (suc (n + n)) ≡ suc n + suc n = omega arith in ap (λ (w : List ℕ). minus ∷ w) (sym (ap pointsText e ∙ even-text (suc n)))
-says-written (half k) = sym (odd-text k)
-says-written (minus-half k) = go (k + k + 1) (omega arith) (sym (odd-text k))
+-- the digits of a number say it
+decimal-says : (fuel n : ℕ) → n ≤ fuel → DecimalSays (decimal n) n
+decimal-says zero n h = subst (λ (m : ℕ). DecimalSays (decimal m) m) z (subst (λ (w : List ℕ). DecimalSays w 0) (sym nought) (one-digit 0 (omega arith)))
   where
-    go : (m : ℕ) → 0 < m → decimal k ++ halfText ≡ pointsText m → minus ∷ (decimal k ++ halfText) ≡ signedPoints (negℤ (pos m))
-    go zero h e = absurd (omega arith)
-    go (suc m) h e = ap (λ (w : List ℕ). minus ∷ w) e
+    z : 0 ≡ n
+    z = omega arith
+
+    nought : decimal 0 ≡ 48 ∷ []
+    nought = decimal-one 0 (omega arith) ∙ ap (λ (b : ℕ). b ∷ []) (low-digit 0 (omega arith))
+decimal-says (suc fuel) n h = go (ten n) (λ l. decimal-says fuel (n / 10) (omega arith))
+  where
+    go : (n < 10) ⊎ (10 ≤ n) → (10 ≤ n → DecimalSays (decimal (n / 10)) (n / 10)) → DecimalSays (decimal n) n
+    go (inl l) ih = subst (λ (w : List ℕ). DecimalSays w n) (sym (decimal-one n l ∙ ap (λ (b : ℕ). b ∷ []) (low-digit n l))) (one-digit n l)
+    go (inr l) ih =
+        let low : n % 10 < 10 = omega arith in
+        let e : 10 * (n / 10) + n % 10 ≡ n = omega arith in
+        let text : decimal (n / 10) ++ ((48 + n % 10) ∷ []) ≡ decimal n =
+        sym (decimal-more n l ∙ ap (λ (b : ℕ). decimal (n / 10) ++ (b ∷ [])) (low-digit (n % 10) low)) in
+        subst₂ (λ (w : List ℕ) (m : ℕ). DecimalSays w m) text e (one-more (ih l) (omega arith) (n % 10) low)
+
+pub decimal-said : (n : ℕ) → DecimalSays (decimal n) n
+decimal-said n = decimal-says n n (omega arith)
+
+-- and no others do
+says-decimal : {w : List ℕ} {n : ℕ} → DecimalSays w n → w ≡ decimal n
+says-decimal (one-digit d h) = sym (decimal-one d h ∙ ap (λ (b : ℕ). b ∷ []) (low-digit d h))
+says-decimal (one-more {w} {n} s p d h) =
+    let m = 10 * n + d in
+    let q : m / 10 ≡ n = omega arith in
+    let r : m % 10 ≡ d = omega arith in
+    ap₂ (λ (v : List ℕ) (b : ℕ). v ++ (b ∷ [])) (says-decimal s) (sym (low-digit d h))
+    ∙ sym (decimal-more m (omega arith) ∙ ap₂ (λ (j k : ℕ). decimal j ++ (digit k ∷ [])) q r)
+
+-- what says a number is what is written for it
+negative : (m : ℕ) → 0 < m → signedPoints (negℤ (pos m)) ≡ minus ∷ pointsText m
+unfolding signedPoints
+negative zero h = absurd (omega arith)
+negative (suc m) h = refl
+
+pub says-written : {w : List ℕ} {z : ℤ} → InPoints w z → w ≡ signedPoints z
+unfolding signedPoints halfText
+says-written (whole {n = n} s) = says-decimal s ∙ sym (even-text n)
+says-written (half {n = n} s) = ap (λ (v : List ℕ). v ++ halfText) (says-decimal s) ∙ sym (odd-text n)
+says-written (minus-whole {n = n} s p) =
+    ap (λ (v : List ℕ). minus ∷ v) (says-decimal s ∙ sym (even-text n)) ∙ sym (negative (n + n) (omega arith))
+says-written (minus-half {n = n} s) =
+    ap (λ (v : List ℕ). minus ∷ (v ++ halfText)) (says-decimal s) ∙ ap (λ (v : List ℕ). minus ∷ v) (sym (odd-text n)) ∙ sym (negative (n + n + 1) (omega arith))
 
 -- twice a number, or one more: there is no other
 data Halves : ℕ → Type 0 where
@@ -74,21 +109,17 @@ halves (suc k) = go (halves k)
     go (odd-one n) = let e : suc n + suc n ≡ suc (n + n + 1) = omega arith in subst Halves e (even (suc n))
 
 pub written-says : (z : ℤ) → InPoints (signedPoints z) z
-unfolding signedPoints signedDecimal halfText
+unfolding signedPoints halfText
 written-says (pos k) = go (halves k)
   where
     go : {k : ℕ} → Halves k → InPoints (pointsText k) (pos k)
-    go (even n) = subst (λ (w : List ℕ). InPoints w (pos (n + n))) (sym (even-text n)) (whole (pos n))
-    go (odd-one n) = subst (λ (w : List ℕ). InPoints w (pos (n + n + 1))) (sym (odd-text n)) (half n)
+    go (even n) = subst (λ (w : List ℕ). InPoints w (pos (n + n))) (sym (even-text n)) (whole (decimal-said n))
+    go (odd-one n) = subst (λ (w : List ℕ). InPoints w (pos (n + n + 1))) (sym (odd-text n)) (half (decimal-said n))
 written-says (negsuc k) = go (suc k) (halves (suc k)) (omega arith)
   where
     go : (k : ℕ) → Halves k → 0 < k → InPoints (minus ∷ pointsText k) (negℤ (pos k))
-    go _ (even zero) h = absurd (omega arith)
-    go _ (even (suc n)) h =
-        let e : suc (suc (n + n)) ≡ suc n + suc n = omega arith in
-        subst (λ (w : List ℕ). InPoints (minus ∷ w) (negℤ (pos (suc n + suc n)))) (sym (even-text (suc n)))
-        (subst (λ (m : ℕ). InPoints (minus ∷ decimal (suc n)) (negℤ (pos m))) e (whole (negsuc n)))
-    go _ (odd-one n) h = subst (λ (w : List ℕ). InPoints (minus ∷ w) (negℤ (pos (n + n + 1)))) (sym (odd-text n)) (minus-half n)
+    go _ (even n) h = subst (λ (w : List ℕ). InPoints (minus ∷ w) (negℤ (pos (n + n)))) (sym (even-text n)) (minus-whole (decimal-said n) (omega arith))
+    go _ (odd-one n) h = subst (λ (w : List ℕ). InPoints (minus ∷ w) (negℤ (pos (n + n + 1)))) (sym (odd-text n)) (minus-half (decimal-said n))
 
 pub one-text : {v w : List ℕ} {z : ℤ} → InPoints v z → InPoints w z → v ≡ w
 one-text a b = says-written a ∙ sym (says-written b)

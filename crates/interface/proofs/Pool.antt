@@ -1,67 +1,45 @@
 -- Request 2.4, from the outcomes of the calls, what is read back of a sheet as it is written, and the theorems about pooled scores.
 use mathlib.Core.Path.{_≡_, refl, sym, ap, ap₂, _∙_, subst, subst₂}
-use mathlib.Core.Bool.{Bool, true, false, not, cond}
-use mathlib.Core.Logic.{_⊎_, inl, inr, _≢_, _↔_, Iff·trans}
+use mathlib.Core.Bool.{Bool, true, not, cond, _&&_}
+use mathlib.Core.Logic.{_⊎_, inl, inr, _≢_, _↔_}
 use mathlib.Core.List.{List, [], _∷_, _++_}
 use Prim.Native.Nat.{ℕ, _^_, _≤_, _<_}
 use native.Mathlib.Omega.{arith}
-use borrow.Author.Tests.{not-false, lt-ltb, le-ltb}
-use lib.Dec.{T, T-not, not-T, eqb, eqb→eq, ltb, lit<}
+use borrow.Author.Tests.{lt-ltb, le-ltb, ltb-true}
+use lib.Dec.{T, ltb, lit<}
 use lib.IntN.{ℤ, pos, negℤ, _+ℤ_}
 use lib.ListN.{length, getD}
 use lib.Signed.{_≤ℤ_}
-use Rattle.lists.specs.Lists.{_lists_, below, all, Distinct}
-use Rattle.lists.proofs.Tests.{T-true, T-false, false-T, true-T, and-T, T-and, T-or-not, T-same, or-none}
-use Rattle.lists.proofs.Lists.{lt-below, all-in, some-fails}
-use Rattle.integers.specs.Integers.{eqZ}
-use Rattle.integers.proofs.Linear.{eqZ-yes}
+use Rattle.lists.specs.Lists.{_lists_, all}
+use Rattle.lists.proofs.Tests.{T-true, T-false, and-T, T-same}
 use Rattle.sets.specs.Sets.{has}
 use Rattle.sets.proofs.Sets.{has-yes, yes-has}
-use Rattle.pairs.specs.declared.Carried.{Carried}
-use Rattle.pairs.specs.declared.Carried.the-variants.{Scored, Unscored}
 use Rattle.pairs.specs.Pairs.{numberFor, carried}
-use Rattle.clusters.specs.PairList.{Similarity, Symmetric, score, scoreLimit, isAllowedPair, scoresInRange}
+use Rattle.clusters.specs.PairList.{score, scoreLimit, scoresInRange}
 use Rattle.clusters.specs.Groups.{strong, kindOf, index, writtenSet}
 use Rattle.clusters.specs.Reordering.{Permutation, Reordered, image}
-use Rattle.clusters.specs.Pooling.{added, pooled}
-use Rattle.clusters.proofs.PairList.{length-pairList, of-pairList, score-symm, score-mirrored, score-pairList}
+use Rattle.clusters.specs.Pooling.{added}
+use Rattle.clusters.proofs.PairList.{score-pairList}
 use Rattle.clusters.proofs.Groups.{of-listed, is-listed, listed-index, in-groups}
 use Rattle.clusters.proofs.Images.{image-only}
-use Rattle.clusters.proofs.Scored.{AllAllowed, allowed-within, within-range, list-allowed}
 use Rattle.clusters.proofs.Fillings.{filled-cong}
-use Rattle.clusters.proofs.Pooled.{both-scored, either-unscored, added-carried, pooled-symmetric, pooled-turned, pooled-index, pooled-strong}
-use Rattle.answers.specs.Answers.{answer}
-use Rattle.interface.specs.Sheet.{isName, lines, names, entries, value, pairs, mirrored}
-use Rattle.interface.specs.Listing.{sheetListing}
+use Rattle.clusters.proofs.Pooled.{both-scored, either-unscored, pooled-turned, pooled-index, pooled-strong}
+use Rattle.answers.specs.Answers.{numberOf, answer}
+use Rattle.answers.proofs.Answers.{number-answer}
+use Rattle.interface.specs.Sheet.{names, entries, value, pairs}
 use Rattle.interface.specs.Pool.{placeOn, poolScores, poolPairs, poolText}
-use Rattle.interface.specs.Refusals.{
-  Check,
-  firstOf,
-  none,
-  wrongKind,
-  wrongNames,
-  equalNames,
-  wrongCount,
-  wrongUnscored,
-  wrongDistances,
-  namesDiffer,
-  check17,
-  check18,
-  check14,
-  sheetCallChecks,
-  sheetRefusal,
-  readerChecks,
-  sheetChecks,
-  poolChecks,
-  poolRefusal,
-}
-use Rattle.interface.specs.Calls.{cNumber, InC, CCall, PoolCall}
+use Rattle.interface.specs.Refusals.{Check, firstOf, none, namesDiffer, check17, check18, check14, readerChecks, sheetChecks, poolChecks, poolRefusal}
+use Rattle.interface.specs.Calls.{cNumber, InC, PoolCall}
+use Rattle.interface.specs.Sentences.{SameName, SameNames}
 use Rattle.interface.specs.Demands.{Wrote}
-use Rattle.interface.specs.Requests.{Pooled, by-pool-call, by-pool-in-C, SameName, SameSet, SameNames, SumOutOfRange, Request-2-4}
-use Rattle.interface.proofs.Refusals.{gives, first-none, none-append, first-append, first-ahead, first-front, first-back, passes, some-count}
+use Rattle.interface.specs.Requests.{Pooled, by-pool-call, by-pool-in-C, SameSet, Request-2-4}
+use Rattle.interface.proofs.Refusals.{first-none, none-append, first-append, first-at, passes, some-count}
 use Rattle.interface.proofs.Accepted.{not-not}
-use Rattle.interface.proofs.Names.{distinct-names}
-use Rattle.interface.proofs.Places.{Matching, same-count, moved-lt, moved-name, moved-only, renumbering, same-names, names-same}
+use Rattle.interface.proofs.Places.{renumbering}
+use Rattle.interface.proofs.PoolScores.{Sound, sound, pool-symmetric, matching, same-entries, on-second, pool-number, pool-carried}
+use Rattle.interface.proofs.Agree.{agree-none, judged, judged-in-C}
+use Rattle.interface.proofs.AgreeNumbers.{names-say}
+use Rattle.interface.proofs.AgreeTables.{scores-agree, pool-agrees, scores-numbered, pool-numbered}
 use Rattle.interface.proofs.SheetTexts.{
   WellFormed,
   sheetText-cong,
@@ -72,129 +50,8 @@ use Rattle.interface.proofs.SheetTexts.{
   sheetText-accepted,
 }
 use Rattle.interface.proofs.Demands.{answered, taken, not-refused, counted, wrote-allowed, demand-3}
-use Rattle.interface.proofs.Demands.{text-number, text-refusal, text-refused, text-count, text-written, text-either}
-use Rattle.interface.proofs.Unscored.{never, first-at, strong-wrote}
-
--- what checks 2 to 9 and 11 leave of a sheet
-pub record Sound (s : List ℕ) : Type 0 where
-  pub named : T (all isName (names s))
-  pub distinct : Distinct (names s)
-  pub count : wrongCount (length (names s)) ≡ false
-  pub range : T (scoresInRange (pairs s))
-  pub scores : (i j : ℕ) → i < entries s → j < entries s → score (pairs s) i j ≡ value s i j
-  pub allowed : AllAllowed scoreLimit (entries s) (value s)
-
-left : (s : List ℕ) → T (none (sheetChecks s))
-    → T (not (wrongNames s)) × T (not (equalNames s)) × T (not (wrongCount (entries s))) × T (mirrored (entries s) (value s)) × T (scoresInRange (pairs s))
-unfolding sheetChecks readerChecks all
-left s t =
-    let checks = sheetChecks s in
-    let e = first-none checks tt .1 t in (
-      passes checks tt e 2 (lit< tt),
-      passes checks tt e 3 (lit< tt),
-      passes checks tt e 4 (lit< tt),
-      not-not (mirrored (entries s) (value s)) (passes checks tt e 7 (lit< tt)),
-      not-not (scoresInRange (pairs s)) (passes checks tt e 8 (lit< tt)),
-    )
-
-pub mirrored-same : (n : ℕ) (v : Similarity) → T (mirrored n v) → (i j : ℕ) → i < n → j < n → v i j ≡ v j i
-unfolding mirrored
-mirrored-same n v t i j h k = eqZ-yes (v i j) (v j i) (all-in (λ j. eqZ (v i j) (v j i)) (below n)
-    (all-in (λ i. all (λ j. eqZ (v i j) (v j i)) (below n)) (below n) t (lt-below n i h)) (lt-below n j k))
-
-pub sound : (s : List ℕ) → T (none (sheetChecks s)) → Sound s
-unfolding wrongNames equalNames entries pairs
-sound s t =
-    let (four, five, six, nine, eleven) = left s t in
-    let n = entries s in
-    let same = score-mirrored n (value s) (mirrored-same n (value s) nine) in
-    record {
-      named = true-T (not-false (all isName (names s)) (or-none (eqb (length (lines s)) 1) (not (all isName (names s))) (T-false {b = wrongNames s} four) .1));
-      distinct = distinct-names (names s) (T-false {b = equalNames s} five);
-      count = T-false {b = wrongCount n} six;
-      range = eleven;
-      scores = same;
-      allowed = λ i j h k. subst (λ z. T (isAllowedPair scoreLimit (carried z))) (same i j h k)
-          (list-allowed n (pairs s) (length-pairList n (value s)) eleven i j h k);
-    }
-
--- the pool's scores are symmetric, and those that its pair list holds
-pub pool-symmetric : (first second : List ℕ) → Symmetric (poolScores first second)
-unfolding poolScores
-pool-symmetric first second =
-    pooled-symmetric (placeOn first second) (score (pairs first)) (score (pairs second)) (score-symm (pairs first)) (score-symm (pairs second))
-
-pool-allowed : (first second : List ℕ) → T (scoresInRange (poolPairs first second)) → AllAllowed scoreLimit (entries first) (poolScores first second)
-unfolding poolPairs
-pool-allowed first second t i j h k =
-    let n = entries first in
-    let s = poolScores first second in
-    subst (λ z. T (isAllowedPair scoreLimit (carried z))) (score-pairList n s (pool-symmetric first second) i j h k)
-    (list-allowed n (poolPairs first second) (length-pairList n s) t i j h k)
-
--- two sheets that pass their checks, with the same names
-module _ {first second : List ℕ} (a : Sound first) (b : Sound second) (m : SameNames first second) where
-  matching : Matching (names first) (names second)
-  matching = record { first = a .distinct; second = b .distinct; there = m .there; back = m .back }
-
-  same-entries : entries first ≡ entries second
-  unfolding entries
-  same-entries = same-count matching
-
-  -- entry i of the first: the second has its name at one place
-  on-second : (i : ℕ) → i < entries first → SameName first second i (placeOn first second i)
-  unfolding entries placeOn
-  on-second i h = record { here = h; there = omega (arith, same-count matching, moved-lt matching i h); same = sym (moved-name matching i h) }
-
-  only-there : {i j : ℕ} → SameName first second i j → placeOn first second i ≡ j
-  unfolding entries placeOn
-  only-there {i} {j} q = moved-only matching i j (q .there) (q .same)
-
-  -- "each score is the sum. A pair unscored in either is unscored in the pool."
-  pool-number : {i i′ j j′ : ℕ} → SameName first second i i′ → SameName first second j j′
-      → poolScores first second i j ≡ numberFor (added (carried (value first i j)) (carried (value second i′ j′)))
-  unfolding poolScores pooled
-  pool-number {i} {i′} {j} {j′} p q = ap₂ (λ y z. numberFor (added (carried y) (carried z))) (a .scores i j (p .here) (q .here))
-      (ap₂ (score (pairs second)) (only-there p) (only-there q) ∙ b .scores i′ j′ (p .there) (q .there))
-
-  pool-carried : {i i′ j j′ : ℕ} → SameName first second i i′ → SameName first second j j′
-      → carried (poolScores first second i j) ≡ added (carried (value first i j)) (carried (value second i′ j′))
-  pool-carried {i} {i′} {j} {j′} p q = ap carried (pool-number p q)
-      ∙ added-carried (carried (value first i j)) (carried (value second i′ j′)) (a .allowed i j (p .here) (q .here)) (b .allowed i′ j′ (p .there) (q .there))
-
-  -- 18: "a sum out of range"
-  sum-out : T (not (scoresInRange (poolPairs first second))) → SumOutOfRange first second
-  unfolding scoresInRange poolPairs added isAllowedPair
-  sum-out t =
-      let (v, k, f) = some-fails (λ v. isAllowedPair scoreLimit (carried v)) (poolPairs first second) t in
-      let (i, j, h, l, e) = of-pairList (entries first) (poolScores first second) k in
-      let p = on-second i h in
-      let q = on-second j (omega arith) in
-      go i (placeOn first second i) j (placeOn first second j) p q (carried (value first i j)) (carried (value second (placeOn first second i) (placeOn first second j))) refl refl
-      (subst (λ c. T (not (isAllowedPair scoreLimit c))) (ap carried e ∙ pool-carried p q) f)
-    where
-      go : (i i′ j j′ : ℕ) → SameName first second i i′ → SameName first second j j′ → (c d : Carried) → carried (value first i j) ≡ c → carried (value second i′ j′) ≡ d
-          → T (not (isAllowedPair scoreLimit (added c d))) → SumOutOfRange first second
-      go i i′ j j′ p q (Scored y) (Scored z) e f t = record {
-        i = i;
-        j = j;
-        i′ = i′;
-        j′ = j′;
-        one = p;
-        other = q;
-        y = y;
-        z = z;
-        here = e;
-        there = f;
-        out = λ w. T-not (isAllowedPair scoreLimit (Scored (y +ℤ z))) t (within-range w);
-      }
-      go i i′ j j′ p q (Scored y) Unscored e f t = absurd t
-      go i i′ j j′ p q Unscored d e f t = absurd t
-
-  out-sum : SumOutOfRange first second → T (not (scoresInRange (poolPairs first second)))
-  unfolding added
-  out-sum o = not-T (scoresInRange (poolPairs first second)) (λ t. o .out (allowed-within (subst (λ c. T (isAllowedPair scoreLimit c))
-      (pool-carried (o .one) (o .other) ∙ ap₂ added (o .here) (o .there)) (pool-allowed first second t (o .i) (o .j) (o .one .here) (o .other .here)))))
+use Rattle.interface.proofs.Demands.{text-number, text-refused, text-count, text-written, text-either}
+use Rattle.interface.proofs.Unscored.{strong-wrote}
 
 -- the table
 module _ (first second : List ℕ) where
@@ -210,50 +67,12 @@ module _ (first second : List ℕ) where
   both-sound : T (none before) → Sound first × Sound second
   both-sound t = let (p, q) = none-append (sheetChecks first) (sheetChecks second) .0 t in (sound first p, sound second q)
 
-  -- 17: "the two name sets differ"
-  same-iff : T (not differing) ↔ SameNames first second
-  same-iff = (
-    λ t. let (f, g) = same-names (names first) (names second) (T-false {b = differing} t) in record { there = f; back = g },
-    λ m. false-T (names-same (names first) (names second) (m .there) (m .back)),
-  )
-
-  differ-iff : T differing ↔ (SameNames first second → ⊥)
-  differ-iff = (λ t m. T-not differing (same-iff .1 m) t, λ f. go f (T-or-not differing))
-    where
-      go : (SameNames first second → ⊥) → T differing ⊎ T (not differing) → T differing
-      go f (inl t) = t
-      go f (inr t) = absurd (f (same-iff .0 t))
-
   module _ (buffer : ℕ) where
     abbrev room : Check
     room = check14 buffer (poolText first second)
 
     abbrev last : List Check
     last = check17 first second ∷ check18 (poolPairs first second) ∷ room ∷ []
-
-    at-seventeen : (poolRefusal first second buffer ≡ 17) ↔ (T (none before) × T differing)
-    unfolding poolRefusal poolChecks sheetChecks readerChecks all
-    at-seventeen = first-at 17 (lit< tt) before differing (check18 (poolPairs first second) ∷ room ∷ []) tt tt
-
-    at-eighteen : (poolRefusal first second buffer ≡ 18) ↔ (T (none (before ++ (check17 first second ∷ []))) × T (not ranging))
-    unfolding poolRefusal poolChecks sheetChecks readerChecks all
-    at-eighteen = first-at 18 (lit< tt) (before ++ (check17 first second ∷ [])) (not ranging) (room ∷ []) tt tt
-
-    pool-seventeen : (poolRefusal first second buffer ≡ 17) ↔ (T (none before) × (SameNames first second → ⊥))
-    pool-seventeen = Iff·trans at-seventeen (λ (t, u). (t, differ-iff .0 u), λ (t, f). (t, differ-iff .1 f))
-
-    pool-eighteen : (poolRefusal first second buffer ≡ 18) ↔ (T (none before) × SameNames first second × SumOutOfRange first second)
-    unfolding all
-    pool-eighteen =
-        let g = none-append before (check17 first second ∷ []) in
-        Iff·trans at-eighteen (
-          λ (t, u).
-              let (s, d) = g .0 t in
-              let (a, b) = both-sound s in
-              let m = same-iff .0 (and-T (not differing) true d .0) in
-              (s, m, sum-out a b m u),
-          λ (s, m, o). let (a, b) = both-sound s in (g .1 (s, T-and (not differing) true (same-iff .1 m) tt), out-sum a b m o),
-        )
 
     -- what a table that gives no number leaves
     pool-passed : poolRefusal first second buffer ≡ 0 → T (none before) × T (not differing) × T ranging
@@ -264,16 +83,6 @@ module _ (first second : List ℕ) where
           passes checks tt e 18 (lit< tt),
           not-not ranging (passes checks tt e 19 (lit< tt)),
         )
-
-    -- the number of the first sheet, then of the second
-    pool-first : (k : ℕ) → 0 < k → firstOf (sheetChecks first) ≡ k → poolRefusal first second buffer ≡ k
-    unfolding poolRefusal poolChecks sheetChecks readerChecks all
-    pool-first k h e = sym (gives (first-front (sheetChecks first) (sheetChecks second ++ last) tt (sym e) (λ z. omega arith)))
-
-    pool-second : (k : ℕ) → 0 < k → T (none (sheetChecks first)) → firstOf (sheetChecks second) ≡ k → poolRefusal first second buffer ≡ k
-    unfolding poolRefusal poolChecks sheetChecks readerChecks all
-    pool-second k h t e = sym (gives (first-back (sheetChecks first) (sheetChecks second ++ last) tt (sym (first-none (sheetChecks first) tt .1 t)) refl
-        (first-front (sheetChecks second) last tt (sym e) (λ z. omega arith))))
 
     -- and only 14 is left to two that pass, with the same names and sums in range
     pool-last : T (none before) → T (not differing) → T ranging → poolRefusal first second buffer ≡ cond (ltb buffer (length (poolText first second))) 14 0
@@ -294,7 +103,7 @@ accepted : (first second : List ℕ) (buffer : ℕ) {bytes : List ℕ} → poolR
 accepted first second buffer e q =
     let (t, m, r) = pool-passed first second buffer e in
     let (a, b) = both-sound first second t in
-    record { one = a; two = b; same = same-iff first second .0 m; range = r; left = λ other. pool-last first second other t m r; are = q }
+    record { one = a; two = b; same = names-say first second .to m; range = r; left = λ other. pool-last first second other t m r; are = q }
 
 written : {first second bytes : List ℕ} → Pooled first second bytes → Written first second bytes
 unfolding poolRefusal
@@ -419,26 +228,26 @@ pool-fits {first} {second} {lent} {bytes = bytes} {r = r} c x = (
     is e = answered c (poolRefusal first second (length lent)) (length (poolText first second)) (c .outcome .answered)
         ∙ ap₂ (λ (k : ℕ) (t : List ℕ). cNumber (answer k (length t))) e (sym (x .are))
 
--- and a buffer of so many bytes is not short
-pool-counted : {first second lent after : List ℕ} {r : ℤ} → InC (λ a. PoolCall first second lent a after) r → T (none (sheetChecks first ++ sheetChecks second))
-    → SameNames first second → (SumOutOfRange first second → ⊥) → 10528 ≤ length lent → r ≡ pos (length (poolText first second))
-pool-counted {first} {second} {lent} {r = r} c t m f h = go (T-or-not (scoresInRange (poolPairs first second)))
-  where
-    both : Sound first × Sound second
-    both = both-sound first second t
-
-    go : T (scoresInRange (poolPairs first second)) ⊎ T (not (scoresInRange (poolPairs first second))) → r ≡ pos (length (poolText first second))
-    go (inl g) =
-        let x : Written first second (poolText first second) = record {
-          one = both .0;
-          two = both .1;
-          same = m;
-          range = g;
-          left = λ buffer. pool-last first second buffer t (same-iff first second .1 m) g;
-          are = refl;
-        } in
-        pool-fits c x .1 (omega (arith, pool-most x))
-    go (inr u) = absurd (f (sum-out (both .0) (both .1) m u))
+-- 14 comes after all else: of a buffer of so many bytes it is not given
+pool-never-short : (first second : List ℕ) (buffer : ℕ) → 10528 ≤ buffer → poolRefusal first second buffer ≢ 14
+unfolding poolRefusal poolChecks sheetChecks readerChecks all
+pool-never-short first second buffer h e =
+    let short = ltb buffer (length (poolText first second)) in
+    let front = check17 first second ∷ check18 (poolPairs first second) ∷ [] in
+    let (t, s) = first-at 14 (lit< tt) (before first second ++ front) short [] tt tt .0 e in
+    let (b, rest) = none-append (before first second) front .0 t in
+    let (seventeen, eighteen) = and-T (not (differing first second)) (not (not (ranging first second)) && true) rest in
+    let (sums, _) = and-T (not (not (ranging first second))) true eighteen in
+    let (one, two) = both-sound first second b in
+    let x : Written first second (poolText first second) = record {
+      one = one;
+      two = two;
+      same = names-say first second .to seventeen;
+      range = not-not (ranging first second) sums;
+      left = λ other. pool-last first second other b seventeen (not-not (ranging first second) sums);
+      are = refl;
+    } in
+    omega (arith, pool-most x, ltb-true buffer (length (poolText first second)) (T-true s))
 
 -- a set of names, of sheets with the same lines of names
 set-named : {s t s′ t′ : List ℕ} {A B : ℕ} → names s ≡ names s′ → names t ≡ names t′ → SameSet s t A B → SameSet s′ t′ A B
@@ -500,29 +309,12 @@ other-order {first} {second} {second′} x x′ f = x′ .are ∙ sheetText-cong
         (f (placeOn first second i) (placeOn first second′ i) (placeOn first second j) (placeOn first second′ j) (across i h) (across j k))
         ∙ sym (pool-number (x .one) (x .two) (x .same) (here i h) (here j k))
 
--- the C call makes for kind 1 the checks of a sheet, and 14
-module _ {s lent after : List ℕ} {r : ℤ} (c : CCall (pos 1) s lent r after) where
-  abbrev listing : List ℕ
-  listing = sheetListing (pos 1) s
-
-  abbrev short : List Check
-  short = check14 (length lent) listing ∷ []
-
-  sheet-refused : (k : ℕ) → 0 < k → k ≢ 14 → r ≡ negℤ (pos k) → firstOf (sheetChecks s) ≡ k
-  unfolding sheetRefusal sheetCallChecks sheetChecks readerChecks all firstOf wrongKind wrongUnscored wrongDistances eqZ
-  sheet-refused k h d e = first-ahead (sheetChecks s) short tt
-      (never k short h (T-and (not (eqb 14 k)) true (not-T (eqb 14 k) (λ t. d (sym (eqb→eq 14 k t)))) tt))
-      (text-number c (sheetCallChecks (pos 1) s (length lent)) listing lent (c .outcome .answered) (c .outcome .written) k h .0 e)
-
-  sheet-counted : (count : ℕ) → r ≡ pos count → T (none (sheetChecks s))
-  unfolding sheetRefusal sheetCallChecks sheetChecks readerChecks all firstOf wrongKind wrongUnscored wrongDistances eqZ
-  sheet-counted count e = none-append (sheetChecks s) short .0 (first-none (sheetChecks s ++ short) tt .0
-      (text-count c (sheetCallChecks (pos 1) s (length lent)) listing lent (c .outcome .answered) (c .outcome .written) count e .0)) .0
-
 pub request-2-4 : Request-2-4
 unfolding poolRefusal
 request-2-4 = record {
-  refusal = λ {first} {second} {lent} c. text-refusal c (table first second lent) (poolText first second) lent (c .outcome .answered) (c .outcome .written);
+  judged = λ {first} {second} {lent} c. judged-in-C c (λ a o.
+      judged (pool-agrees first second (length lent)) (pool-numbered first second (length lent))
+      (ap numberOf (o .answered) ∙ number-answer (firstOf (table first second lent)) (length (poolText first second))));
   refused = λ {first} {second} {lent} c. text-refused c (table first second lent) (poolText first second) lent (c .outcome .answered) (c .outcome .written);
   own-bytes = λ {first} {second} {lent} c count e.
       let checks = table first second lent in
@@ -533,25 +325,10 @@ request-2-4 = record {
       (ap length bytes ∙ text-count c checks text lent a w count e .1, rest);
   either = λ {first} {second} {lent} c.
       or-count (text-either c (table first second lent) (poolText first second) lent (c .outcome .answered) (c .outcome .written));
-  judged = λ {first} {second} {lent} c one other.
-      let number = text-number c (table first second lent) (poolText first second) lent (c .outcome .answered) (c .outcome .written) in
-      record {
-        first-sheet = λ k h d e. number k h .1 (pool-first first second (length lent) k h (sheet-refused one k h d e));
-        second-sheet = λ count q k h d e.
-            number k h .1 (pool-second first second (length lent) k h (sheet-counted one count q) (sheet-refused other k h d e));
-        passed = λ count count′ e e′ m f h. (
-          length (poolText first second),
-          pool-counted c (none-append (sheetChecks first) (sheetChecks second) .1 (sheet-counted one count e, sheet-counted other count′ e′)) m f h,
-        );
-      };
-  seventeen = λ {first} {second} {lent} c. Iff·trans
-      (text-number c (table first second lent) (poolText first second) lent (c .outcome .answered) (c .outcome .written) 17 (lit< tt))
-      (pool-seventeen first second (length lent));
-  eighteen = λ {first} {second} {lent} c. Iff·trans
-      (text-number c (table first second lent) (poolText first second) lent (c .outcome .answered) (c .outcome .written) 18 (lit< tt))
-      (pool-eighteen first second (length lent));
   room = λ c d. pool-fits c (written d);
-  a-sheet = λ c. pool-sheet (written c);
+  never-short = λ {first} {second} {lent} c h e. pool-never-short first second (length lent) h
+      (text-number c (table first second lent) (poolText first second) lent (c .outcome .answered) (c .outcome .written) 14 (lit< tt) .0 e);
+  a-sheet = λ {bytes = bytes} c. agree-none (scores-agree bytes) (scores-numbered bytes) .0 (first-none (sheetChecks bytes) (scores-numbered bytes) .1 (pool-sheet (written c)));
   its-names = λ c. let x = written c in (pool-names x, x .same);
   sums = λ c i i′ j j′ p q y z e f. pool-pair (written c) p q ∙ ap₂ added e f ∙ both-scored y z;
   unscored = λ c i i′ j j′ p q u. pool-pair (written c) p q ∙ either-unscored _ _ u;

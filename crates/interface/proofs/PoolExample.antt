@@ -70,8 +70,7 @@ use Rattle.interface.specs.Refusals.{
   poolRefusal,
 }
 use Rattle.interface.specs.Calls.{cNumber, InC, PoolCall}
-use Rattle.interface.proofs.Refusals.{first-iff}
-use Rattle.interface.proofs.Demands.{answered}
+use Rattle.interface.proofs.Demands.{answered, text-number}
 use Rattle.interface.proofs.Pool.{pool-buffer, request-2-4}
 use Rattle.interface.proofs.Example.{Case, many, refused}
 
@@ -163,7 +162,7 @@ refused-as : {first second lent after : List ℕ} {r : ℤ} → InC (λ a. PoolC
     → (k : ℕ) → 0 < k → poolRefusal first second (length lent) ≡ k → (r ≡ negℤ (pos k)) × (after ≡ lent)
 unfolding poolRefusal
 refused-as {first} {second} {lent} c k h e =
-    let minus = request-2-4 .refusal c k h .1 (first-iff (poolChecks first second (length lent)) k h .0 e) in
+    let minus = text-number c (poolChecks first second (length lent)) (poolText first second) lent (c .outcome .answered) (c .outcome .written) k h .1 e in
     (minus, request-2-4 .refused c k h minus)
 
 -- each pool is written in a buffer of its length or more, of which the further bytes stay; a shorter one gets 14

@@ -13,7 +13,7 @@ use Rattle.lists.specs.Lists.{all}
 use Rattle.lists.proofs.Lists.{all-in, getD-in}
 use Rattle.lists.proofs.Tests.{and-T, cond-elim, eqb-no, or-none}
 use Rattle.clusters.specs.PairList.{rowStart, hasLength}
-use Rattle.interface.specs.Refusals.{firstOf, none, Given, mostEntries, wrongCount, wrongAnchor, wrongEntries}
+use Rattle.interface.specs.Refusals.{Check, firstOf, none, mostEntries, wrongCount, wrongAnchor, wrongEntries}
 
 -- down the table l, which gives r
 pub record Gives (l : List (ℕ × Bool)) (r : ℕ) : Type 0 where
@@ -71,30 +71,6 @@ pub right-entries : (n i j : ℕ) → wrongEntries n i j ≡ false → (i < n) �
 unfolding wrongEntries wrongAnchor
 right-entries n i j e = let (p, q) = or-none (leb n i) (leb n j) e in (leb-false n i p, leb-false n j q)
 
-given-first : (before after : List (ℕ × Bool)) (k : ℕ) → T (none before) → firstOf (before ++ ((k, true) ∷ after)) ≡ k
-unfolding firstOf all
-given-first [] after k t = refl
-given-first (c ∷ before) after k t = go (c .1) t (given-first before after k)
-  where
-    go : (b : Bool) → T (not b && none before) → (T (none before) → firstOf (before ++ ((k, true) ∷ after)) ≡ k)
-        → cond b (c .0) (firstOf (before ++ ((k, true) ∷ after))) ≡ k
-    go true t ih = absurd t
-    go false t ih = ih t
-
-first-given : (checks : List (ℕ × Bool)) (k : ℕ) → 0 < k → firstOf checks ≡ k → Given checks k
-unfolding firstOf all
-first-given [] k h e = absurd (omega arith)
-first-given (c ∷ checks) k h e = go (c .0) (c .1) refl e (first-given checks k h)
-  where
-    go : (m : ℕ) (b : Bool) → _≡_ {A = ℕ × Bool} c (m, b) → cond b m (firstOf checks) ≡ k → (firstOf checks ≡ k → Given checks k) → Given (c ∷ checks) k
-    go m true q e ih = record { before = []; after = checks; parts = ap (λ (x : ℕ × Bool). x ∷ checks) (q ∙ ap (λ (j : ℕ). (j, true)) e); passed = tt }
-    go m false q e ih =
-        let g = ih e in
-        record { before = (m, false) ∷ g .before; after = g .after; parts = λ i. q i ∷ g .parts i; passed = g .passed }
-
-pub first-iff : (checks : List (ℕ × Bool)) (k : ℕ) → 0 < k → (firstOf checks ≡ k) ↔ Given checks k
-first-iff checks k h = (first-given checks k h, λ g. ap firstOf (g .parts) ∙ given-first (g .before) (g .after) k (g .passed))
-
 -- no number of the table is 0
 abbrev pub numbered : List (ℕ × Bool) → Bool
 numbered checks = all (λ c. not (eqb (c .0) 0)) checks
@@ -147,28 +123,31 @@ module _ (l m : List (ℕ × Bool)) {k : ℕ} (t : T (numbered l)) (e : k ≡ fi
   pub first-back : {r : ℕ} → k ≡ 0 → Gives m r → Gives (l ++ m) r
   first-back z g = record { is = g .is ∙ sym (first-append l m t ∙ rw (sym e, eq-eqb k 0 z)) }
 
--- two tables with the same front, behind which each has one check more: what the second gives, beside what the first gives
-pub record Beside (holds : Bool) (k first second : ℕ) : Type 0 where
-  pub refused : first ≢ 0 → second ≡ first
-  pub last : first ≡ 0 → holds ≡ true → second ≡ k
-  pub passed : first ≡ 0 → holds ≡ false → second ≡ 0
+-- a number that does not stand in a table is not given
+abbrev pub apart : ℕ → List Check → Bool
+apart k checks = all (λ c. not (eqb (c .0) k)) checks
 
-pub beside : (l : List (ℕ × Bool)) → T (numbered l) → (j k : ℕ) (other holds : Bool) → 0 < j → firstOf (l ++ ((j, other) ∷ [])) ≢ j
-    → Beside holds k (firstOf (l ++ ((j, other) ∷ []))) (firstOf (l ++ ((k, holds) ∷ [])))
-unfolding firstOf
-beside l t j k other holds h d =
-    subst₂ (Beside holds k) (sym (first-append l ((j, other) ∷ []) t)) (sym (first-append l ((k, holds) ∷ []) t))
-    (go (firstOf l) other (λ e. d (first-append l ((j, other) ∷ []) t ∙ e)))
+pub never : (k : ℕ) (checks : List Check) → 0 < k → T (apart k checks) → firstOf checks ≢ k
+unfolding firstOf all
+never k [] h t e = absurd (omega arith)
+never k (c ∷ checks) h t e = go (c .0) (c .1) t e (never k checks h)
   where
-    go : (front : ℕ) (other : Bool) → cond (eqb front 0) (cond other j 0) front ≢ j
-        → Beside holds k (cond (eqb front 0) (cond other j 0) front) (cond (eqb front 0) (cond holds k 0) front)
-    go zero true d = absurd (d refl)
-    go zero false d = record { refused = λ f. absurd (f refl); last = λ _ e. rw e; passed = λ _ e. rw e }
-    go (suc front) other d = record {
-      refused = λ _. rw (eqb·suc-zero front);
-      last = λ e. absurd (some e);
-      passed = λ e. absurd (some e);
-    }
-      where
-        some : cond (eqb (suc front) 0) (cond other j 0) (suc front) ≡ 0 → ⊥
-        some e = let q : suc front ≡ 0 = sym (rw (eqb·suc-zero front)) ∙ e in omega arith
+    go : (m : ℕ) (b : Bool) → T (not (eqb m k) && apart k checks) → cond b m (firstOf checks) ≡ k → (T (apart k checks) → firstOf checks ≡ k → ⊥) → ⊥
+    go m true t e ih = eqb-no m k (and-T (not (eqb m k)) (apart k checks) t .0) e
+    go m false t e ih = ih (and-T (not (eqb m k)) (apart k checks) t .1) e
+
+-- one that stands once is given exactly if its condition holds and none before it does
+pub first-at : (k : ℕ) → 0 < k → (before : List Check) (holds : Bool) (after : List Check) → T (apart k before) → T (apart k after)
+    → (firstOf (before ++ ((k, holds) ∷ after)) ≡ k) ↔ (T (none before) × T holds)
+unfolding firstOf all
+first-at k h [] true after t u = (λ _. (tt, tt), λ _. refl)
+first-at k h [] false after t u = (λ e. absurd (never k after h u e), λ (_, f). absurd f)
+first-at k h (c ∷ before) holds after t u = go (c .0) (c .1) t (λ v. first-at k h before holds after v u)
+  where
+    rest : ℕ
+    rest = firstOf (before ++ ((k, holds) ∷ after))
+
+    go : (m : ℕ) (b : Bool) → T (not (eqb m k) && apart k before) → (T (apart k before) → (rest ≡ k) ↔ (T (none before) × T holds))
+        → (cond b m rest ≡ k) ↔ (T (not b && none before) × T holds)
+    go m true t ih = (λ e. absurd (eqb-no m k (and-T (not (eqb m k)) (apart k before) t .0) e), λ (f, _). absurd f)
+    go m false t ih = ih (and-T (not (eqb m k)) (apart k before) t .1)

@@ -1,18 +1,14 @@
--- The requests of document 02, from the outcomes of the calls and the theorems about groups.
+-- Request 2.1, from the outcomes of the call and the theorems about groups.
 use mathlib.Core.Path.{_≡_, refl, sym, ap, ap₂, _∙_, subst, subst₂}
 use mathlib.Core.Bool.{Bool, true, false, not, cond, _||_}
-use mathlib.Core.Logic.{_⊎_, inl, inr, _≢_}
-use mathlib.Core.List.{List, [], _∷_, _++_}
-use Prim.Native.Nat.{ℕ, zero, _^_, _<_, _≤_}
+use mathlib.Core.List.{List}
+use Prim.Native.Nat.{ℕ, zero, _^_, _<_}
 use native.Mathlib.Omega.{arith}
-use borrow.Author.Tests.{le-leb, lt-leb}
-use lib.Dec.{T, T-not, not-T, leb, le→leb, lit<}
+use lib.Dec.{T, T-not, lit<}
 use lib.IntN.{ℤ, pos}
-use lib.ListN.{length}
 use Rattle.lists.specs.Lists.{_∈_, _lists_, all}
-use Rattle.lists.proofs.Tests.{or-false, T-true, T-false, false-T, or-first, or-second, T-or-right}
+use Rattle.lists.proofs.Tests.{T-false, false-T}
 use Rattle.integers.specs.Integers.{eqZ}
-use Rattle.integers.proofs.Linear.{eqZ-yes}
 use Rattle.clusters.specs.PairList.{Similarity, Symmetric, score}
 use Rattle.clusters.specs.Groups.{Kind, strong, clean, splits, kindOf, index, groupSets, groups}
 use Rattle.clusters.specs.Reordering.{image}
@@ -23,71 +19,16 @@ use Rattle.clusters.proofs.Hierarchies.{Hierarchy, groups-hierarchy}
 use Rattle.clusters.proofs.Shared.{shared-swapped, shared-of-all, shared-line, shared-none, shared-holds, shared-all}
 use Rattle.clusters.proofs.Shared.{shared-inside, shared-only, shared-single}
 use Rattle.clusters.proofs.Images.{ofGroups, shared-image, shared-image-none}
-use Rattle.answers.specs.Answers.{numberOf}
 use Rattle.answers.specs.Shared.{sharedNumber, sharedSet, sharedLine, sharedAnswer}
-use Rattle.answers.proofs.Answers.{number-answer, shared-number, shared-nothing, shared-found}
+use Rattle.answers.proofs.Answers.{shared-number, shared-nothing, shared-found}
 use Rattle.interface.specs.Listing.{groupsFound}
-use Rattle.interface.specs.Refusals.{
-  Check,
-  firstOf,
-  wrongKind,
-  wrongGroupKind,
-  wrongAnchor,
-  wrongEntries,
-  fewSlots,
-  check1,
-  check6,
-  check10,
-  check11,
-  check16Of,
-  check12,
-  check13,
-  check15,
-  numbersChecks,
-  numbersRefusal,
-  sharedChecks,
-  sharedRefusal,
-}
+use Rattle.interface.specs.Refusals.{wrongKind, wrongGroupKind, wrongAnchor, wrongEntries, sharedChecks, sharedRefusal}
 use Rattle.interface.specs.Calls.{setsFound, sharedFound}
-use Rattle.interface.specs.Requests.{SharedAnswered, by-shared-call, by-shared-in-C, refused-in-C, SmallestFound, JudgedAfter, Request-2-1}
-use Rattle.interface.proofs.Refusals.{numbered, first-iff, passes, right-entries, Beside, beside}
+use Rattle.interface.specs.Requests.{SharedAnswered, by-shared-call, by-shared-in-C, refused-in-C, SmallestFound, Request-2-1}
+use Rattle.interface.proofs.Refusals.{passes, right-entries}
+use Rattle.interface.proofs.Agree.{judged}
+use Rattle.interface.proofs.AgreeTables.{shared-agrees, shared-numbered}
 use Rattle.interface.proofs.Demands.{c-count, c-refused, wrote}
-
--- the checks of the numbers call before 13, which others make too
-unfoldable pub beforeSlots : ℤ → ℕ → List ℤ → List Check
-beforeSlots kind n l = check1 kind ∷ check6 n ∷ check10 n l ∷ check11 l ∷ check16Of kind l ∷ check12 kind n l ∷ []
-
-pub numbered-before : (kind : ℤ) (n : ℕ) (l : List ℤ) → T (numbered (beforeSlots kind n l))
-unfolding beforeSlots all
-numbered-before kind n l = tt
-
-shared-before : (kind : ℤ) (n : ℕ) (l : List ℤ) (i j : ℕ) → kind ≢ pos 3 → sharedChecks kind n l i j ≡ beforeSlots kind n l ++ (check15 (wrongEntries n i j) ∷ [])
-unfolding sharedChecks beforeSlots wrongGroupKind
-shared-before kind n l i j d = rw (not-third, or-false (wrongKind kind))
-  where
-    not-third : eqZ kind (pos 3) ≡ false
-    not-third = T-false {b = eqZ kind (pos 3)} (not-T (eqZ kind (pos 3)) (λ t. d (eqZ-yes kind (pos 3) t)))
-
-pub numbers-before : (kind : ℤ) (n : ℕ) (l : List ℤ) (sets indices : ℕ) → numbersChecks kind n l sets indices ≡ beforeSlots kind n l ++ (check13 n sets indices ∷ [])
-unfolding numbersChecks beforeSlots
-numbers-before kind n l sets indices = refl
-
-third : (kind : ℤ) (n : ℕ) (l : List ℤ) (i j : ℕ) → kind ≡ pos 3 → sharedRefusal kind n l i j ≡ 1
-unfolding sharedRefusal sharedChecks firstOf wrongGroupKind wrongKind eqZ
-third kind n l i j e = ap (λ (k : ℤ). sharedRefusal k n l i j) e
-
--- behind the beforeSlots checks stands 13 in the one table, 15 in the other
-judged-after : {n i j numbers number : ℕ} → Beside (wrongEntries n i j) 15 numbers number → JudgedAfter n i j numbers number
-unfolding wrongEntries wrongAnchor
-judged-after {n} {i} {j} b = record {
-  refused = b .refused;
-  past = λ z p. b .last z (far p);
-  passed = λ z hi hj. b .passed z (or-second (lt-leb n i hi) (lt-leb n j hj));
-}
-  where
-    far : (n ≤ i) ⊎ (n ≤ j) → leb n i || leb n j ≡ true
-    far (inl p) = or-first (leb n j) (le-leb n i p)
-    far (inr p) = T-true {b = leb n i || leb n j} (T-or-right (leb n i) (leb n j) (le→leb n j p))
 
 -- what was answered, by the checks and by what was found
 record Answered (kind : ℤ) (n : ℕ) (l : List ℤ) (i j number set line : ℕ) : Type 0 where
@@ -119,9 +60,6 @@ answered {kind} {n} {l} {i} {j} (refused-in-C c number h e) =
       is-set = c .written ∙ ap sharedSet q;
       is-line = sym (shared-nothing (sharedFound kind n l i j .set) (sharedFound kind n l i j .line) k (λ z. omega arith) .1);
     }
-
-pub shared-given : {kind : ℤ} {n : ℕ} {l : List ℤ} {i j number set line : ℕ} → SharedAnswered kind n l i j number set line → number ≡ sharedRefusal kind n l i j
-shared-given c = answered c .is-number
 
 -- the sets gone down are the groups
 found-is : (kind : ℤ) (n : ℕ) (l : List ℤ) (i j : ℕ) → sharedFound kind n l i j ≡ smallestShared n i j (groupSets (kindOf kind) n (score l))
@@ -222,24 +160,14 @@ unfolding sharedFound
 found-swapped kind n l i j = shared-swapped n j i (setsFound kind n l)
 
 pub request-2-1 : (kind : ℤ) → Request-2-1 kind
-unfolding sharedRefusal numbersRefusal
+unfolding sharedRefusal
 request-2-1 kind = record {
-  refusal = λ {n} {l} {i} {j} c k h. let f = first-iff (sharedChecks kind n l i j) k h in let e = answered c .is-number in
-      (λ q. f .0 (sym e ∙ q), λ g. e ∙ f .1 g);
+  judged = λ {n} {l} {i} {j} c. judged (shared-agrees kind n l i j) (shared-numbered kind n l i j) (answered c .is-number);
   refused = λ {n} {l} {i} {j} c d.
       let a = answered c in
       let hit = sharedFound kind n l i j in
       let (s, t) = shared-nothing (hit .set) (hit .line) (sharedRefusal kind n l i j) (λ z. d (a .is-number ∙ z)) in
       (a .is-set ∙ s, a .is-line ∙ t);
-  third-kind = λ e {n} {l} {i} {j} c. answered c .is-number ∙ third kind n l i j e;
-  judged = λ d {n} {l} {i} {j} {number} c {lentSets} {sets} {lentIndices} {indices} {r} m room.
-      let k = numbersRefusal kind n l (length lentSets) (length lentIndices) in
-      let numbers : numberOf r ≡ k = ap numberOf (m .answered) ∙ number-answer k (length (groupsFound kind n l)) in
-      let first = numbers ∙ ap firstOf (numbers-before kind n l (length lentSets) (length lentIndices)) in
-      let second = answered c .is-number ∙ ap firstOf (shared-before kind n l i j d) in
-      judged-after (subst₂ (Beside (wrongEntries n i j) 15) (sym first) (sym second)
-      (beside (beforeSlots kind n l) (numbered-before kind n l) 13 15 (fewSlots n (length lentSets) (length lentIndices)) (wrongEntries n i j) (lit< tt)
-      (λ e. room (first ∙ e))));
   smallest = λ {n} {l} {i} {j} {set} {line} c w.
       let a = found c in
       let (e, symm) = wrote w in

@@ -7,7 +7,7 @@ use Prim.Native.Nat.{ℕ, _+_, _-_, _^_, _<_, _≤_}
 use native.Mathlib.Decide.{decLt}
 use native.Mathlib.Omega.{arith}
 use borrow.Author.Tests.{lt-leb, le-ltb, ltb-false, leb-false, eq-eqb}
-use lib.Dec.{leb, ltb, lit<}
+use lib.Dec.{T, lit<}
 use lib.IntN.{ℤ, pos, _+ℤ_, _-ℤ_, _*ℤ_}
 use lib.Signed.{_≤ℤ_}
 use lib.ListN.{length}
@@ -36,14 +36,11 @@ use Rattle.answers.proofs.Answers.{number-answer, weighed-number, weighed-nothi
 use Rattle.interface.specs.Sheet.{entries, value, pairs}
 use Rattle.interface.specs.Listing.{groupsFound}
 use Rattle.interface.specs.Refusals.{
-  firstOf,
-  wrongKind,
   wrongCount,
   wrongUnscored,
+  wrongDistances,
   wrongSide,
-  fewSlots,
-  check12,
-  check19,
+  numbersChecks,
   numbersRefusal,
   sheetCallChecks,
   sheetRefusal,
@@ -55,19 +52,19 @@ use Rattle.interface.specs.Requests.{
   SideWeighed,
   by-weight-call,
   by-weight-in-C,
-  OnSides,
-  TwoSides,
   SamePair,
   Unordered,
   WroteOf,
   for-list,
   for-sheet,
-  WeighedAfter,
   Request-2-5,
 }
-use Rattle.interface.proofs.Refusals.{gives, first-no, no-more, first-iff, passes, right-length, Beside, beside}
+use Rattle.interface.specs.Sentences.{OnSides}
+use Rattle.interface.proofs.Refusals.{gives, first-no, no-more, passes, right-length}
+use Rattle.interface.proofs.Sides.{Sides, sides, right-side, of-sides}
+use Rattle.interface.proofs.Agree.{judged}
+use Rattle.interface.proofs.AgreeTables.{weight-agrees, weight-numbered}
 use Rattle.interface.proofs.Demands.{wrote, accepted, numbers-taken}
-use Rattle.interface.proofs.Requests.{beforeSlots, numbered-before, numbers-before}
 
 -- what was answered, by the checks and the definition
 record Answered (n : ℕ) (l : List ℤ) (A number : ℕ) (w : ℤ) : Type 0 where
@@ -88,63 +85,6 @@ answered {n} {l} {A} (by-weight-in-C c number e) =
       is-number = pos-equal (sym e ∙ c .answered) ∙ ap weighedNumber q ∙ weighed-number _ (weightRefusal n l A);
       is-weight = c .written ∙ ap weighedWeight q;
     }
-
--- what 19 leaves: two entries or more on each side, and no other
-pub record Sides (n A : ℕ) : Type 0 where
-  pub fits : A < 2 ^ n
-  pub two : 2 ≤ size n A
-  pub rest : size n A + 2 ≤ n
-
-pub sides : {n A : ℕ} → wrongSide n A ≡ false → Sides n A
-unfolding wrongSide
-sides {n} {A} e =
-    let (e₁, high) = or-none (ltb (size n A) 2 || ltb (size n (complement n A)) 2) (leb (2 ^ n) A) e in
-    let (one, other) = or-none (ltb (size n A) 2) (ltb (size n (complement n A)) 2) e₁ in
-    let few = ltb-false (size n (complement n A)) 2 other in
-    record {
-      fits = leb-false (2 ^ n) A high;
-      two = ltb-false (size n A) 2 one;
-      rest = omega (arith, few, size-complement n A);
-    }
-
-right-side : {n A : ℕ} → Sides n A → wrongSide n A ≡ false
-unfolding wrongSide
-right-side {n} {A} s =
-    or-second (or-second (le-ltb (size n A) 2 (s .two)) (le-ltb (size n (complement n A)) 2 (omega (arith, s .rest, size-complement n A))))
-    (lt-leb (2 ^ n) A (s .fits))
-
--- as the request says it: by entries
-of-sides : (n A : ℕ) (q : Quartet) → Across n A q → OnSides n A (q .a) (q .a′) (q .b) (q .b′)
-of-sides n A q x =
-    let (ha, la, ka, ka′) = x .one-side in
-    let (hb, lb, kb, kb′) = x .other-side in
-    record { one-side = (ha, omega arith, ka, ka′, λ e. omega arith); other-side = (hb, omega arith, kb, kb′, λ e. omega arith) }
-
-two-sides : {n A : ℕ} → Sides n A → TwoSides n A
-two-sides {n} {A} s =
-    let (q, m) = length-some (quartets n A) (omega (arith, quartets-many n A (s .two) (s .rest), s .two, s .rest)) in
-    record {
-      members = fits-members n A (s .fits);
-      a = q .a;
-      a′ = q .a′;
-      b = q .b;
-      b′ = q .b′;
-      entries = of-sides n A q (in-quartets n A q .0 m);
-    }
-
-two-members : (n A : ℕ) {i j : ℕ} → i < n → j < n → A ∋ i → A ∋ j → i ≢ j → 2 ≤ size n A
-two-members n A {i} {j} hi hj ki kj d = go (decLt i j)
-  where
-    go : Dec (i < j) → 2 ≤ size n A
-    go (yes l) = two-size n A hj l kj ki
-    go (no l) = two-size n A {i = i} {j = j} hi (omega arith) ki kj
-
-of-two-sides : {n A : ℕ} → TwoSides n A → Sides n A
-of-two-sides {n} {A} t =
-    let (ha, ha′, ka, ka′, d) = t .entries .one-side in
-    let (hb, hb′, kb, kb′, e) = t .entries .other-side in
-    let others = two-members n (complement n A) hb hb′ (in-complement n A hb kb) (in-complement n A hb′ kb′) e in
-    record { fits = members-fit n A (t .members); two = two-members n A ha ha′ ka ka′ d; rest = omega (arith, others, size-complement n A) }
 
 -- two different numbers in falling order: there is one such order
 record Falling (i j : ℕ) : Type 0 where
@@ -200,41 +140,29 @@ unordered n A a a′ b b′ s =
     equal : (r q : Quartet) → (r .a ≡ q .a) × (r .a′ ≡ q .a′) → (r .b ≡ q .b) × (r .b′ ≡ q .b′) → r ≡ q
     equal r q (e, f) (g, h) = λ i. record { a = e i; a′ = f i; b = g i; b′ = h i }
 
--- behind the checks that the numbers call makes for kind 3, 13 stands in its table, 19 here
-weight-before : (n : ℕ) (l : List ℤ) (A : ℕ) → weightRefusal n l A ≡ firstOf (beforeSlots (pos 3) n l ++ (check19 n A ∷ []))
-unfolding weightRefusal weightChecks beforeSlots firstOf wrongKind wrongUnscored eqZ
-weight-before n l A = refl
-
-weighed-after : {n A numbers number : ℕ} → Beside (wrongSide n A) 19 numbers number → WeighedAfter n A numbers number
-weighed-after {n} {A} b = record {
-  refused = b .refused;
-  wrong-side = λ z f. b .last z (wrong (wrongSide n A) refl f);
-  passed = λ z t. b .passed z (right-side (of-two-sides t));
-}
-  where
-    wrong : (c : Bool) → wrongSide n A ≡ c → (TwoSides n A → ⊥) → wrongSide n A ≡ true
-    wrong true e f = e
-    wrong false e f = absurd (f (two-sides (sides e)))
+-- what 6, 10, 11, 16 and 12 leave, and 19
+weight-left : (n : ℕ) (l : List ℤ) (A : ℕ) → T (not (wrongCount n)) → length l ≡ rowStart n → T (not (not (scoresInRange l))) → T (not (hasUnscored l))
+    → T (not (wrongDistances (pos 3) n l)) → wrongSide n A ≡ false → weightRefusal n l A ≡ 0
+unfolding weightRefusal weightChecks hasLength
+weight-left n l A six ten eleven sixteen twelve right =
+    sym (gives (first-no (T-false six) (first-no (ap not (eq-eqb (length l) (rowStart n) ten)) (first-no (T-false eleven)
+    (first-no (T-false sixteen) (first-no (T-false twelve) (first-no right no-more)))))))
 
 -- a list that the numbers call takes for kind 3, and the list of a sheet that is listed
 list-left : (n : ℕ) (l : List ℤ) (i j A : ℕ) → numbersRefusal (pos 3) n l i j ≡ 0 → wrongSide n A ≡ false → weightRefusal n l A ≡ 0
-unfolding numbersRefusal
-list-left n l i j A z right =
-    let first = sym (ap firstOf (numbers-before (pos 3) n l i j)) ∙ z in
-    weight-before n l A ∙ beside (beforeSlots (pos 3) n l) (numbered-before (pos 3) n l) 13 19 (fewSlots n i j) (wrongSide n A) (lit< tt) (λ e. omega arith) .passed first right
+unfolding numbersRefusal numbersChecks all wrongUnscored eqZ
+list-left n l i j A e right =
+    let checks = numbersChecks (pos 3) n l i j in
+    weight-left n l A (passes checks tt e 1 (lit< tt)) (right-length n l (T-false {b = not (hasLength n l)} (passes checks tt e 2 (lit< tt))))
+    (passes checks tt e 3 (lit< tt)) (passes checks tt e 4 (lit< tt)) (passes checks tt e 5 (lit< tt)) right
 
 sheet-left : (sheet : List ℕ) (buffer : ℕ) (A : ℕ) → sheetRefusal (pos 3) sheet buffer ≡ 0 → wrongSide (entries sheet) A ≡ false
     → weightRefusal (entries sheet) (pairs sheet) A ≡ 0
-unfolding sheetRefusal sheetCallChecks weightRefusal weightChecks all pairs hasLength wrongUnscored eqZ
+unfolding sheetRefusal sheetCallChecks all pairs wrongUnscored eqZ
 sheet-left sheet buffer A e right =
     let checks = sheetCallChecks (pos 3) sheet buffer in
-    let n = entries sheet in
-    sym (gives (first-no (T-false {b = wrongCount n} (passes checks tt e 5 (lit< tt)))
-    (first-no (ap not (eq-eqb (length (pairs sheet)) (rowStart n) (length-pairList n (value sheet))))
-    (first-no (T-false {b = not (scoresInRange (pairs sheet))} (passes checks tt e 9 (lit< tt)))
-    (first-no (T-false {b = hasUnscored (pairs sheet)} (passes checks tt e 10 (lit< tt)))
-    (first-no (T-false {b = check12 (pos 3) n (pairs sheet) .1} (passes checks tt e 11 (lit< tt)))
-    (first-no right no-more)))))))
+    weight-left (entries sheet) (pairs sheet) A (passes checks tt e 5 (lit< tt)) (length-pairList (entries sheet) (value sheet))
+    (passes checks tt e 9 (lit< tt)) (passes checks tt e 10 (lit< tt)) (passes checks tt e 11 (lit< tt)) right
 
 taken : {n : ℕ} {l : List ℤ} {found : List (ℕ × ℤ)} → WroteOf (pos 3) n l found → (A : ℕ) → Sides n A → weightRefusal n l A ≡ 0
 taken (for-list {n} {l = l} c) A s = let t = numbers-taken c in list-left n l (t .setSlots) (t .indexSlots) A (t .passed) (right-side s)
@@ -334,21 +262,12 @@ apart n A C (inr (inl s)) i j k m hi hj hk hm _ _ _ (p, q) = clash (s .all m hm 
 apart n A C (inr (inr s)) i j k m hi hj hk hm _ _ (p, q) _ = clash q (of-complement n C hk (s .all k hk (in-complement n A hk p)))
 
 pub request-2-5 : Request-2-5
-unfolding weightRefusal numbersRefusal kindOf eqZ doubledScore
+unfolding weightRefusal kindOf eqZ doubledScore
 request-2-5 = record {
-  refusal = λ {n} {l} {A} c k h. let f = first-iff (weightChecks n l A) k h in let e = answered c .is-number in
-      (λ q. f .0 (sym e ∙ q), λ g. e ∙ f .1 g);
+  judged = λ {n} {l} {A} c. judged (weight-agrees n l A) (weight-numbered n l A) (answered c .is-number);
   refused = λ {n} {l} {A} c d. let a = answered c in
       a .is-weight ∙ weighed-nothing (refinedWeight n (score l) A) (weightRefusal n l A) (λ z. d (a .is-number ∙ z));
   in-C = λ c. (weighedNumber (c .given), c .answered);
-  judged = λ {n} {l} {A} c {lentSets} {sets} {lentIndices} {indices} {r} m room.
-      let k = numbersRefusal (pos 3) n l (length lentSets) (length lentIndices) in
-      let numbers : numberOf r ≡ k = ap numberOf (m .answered) ∙ number-answer k (length (groupsFound (pos 3) n l)) in
-      let first = numbers ∙ ap firstOf (numbers-before (pos 3) n l (length lentSets) (length lentIndices)) in
-      let second = answered c .is-number ∙ weight-before n l A in
-      weighed-after (subst₂ (Beside (wrongSide n A) 19) (sym first) (sym second)
-      (beside (beforeSlots (pos 3) n l) (numbered-before (pos 3) n l) 13 19 (fewSlots n (length lentSets) (length lentIndices)) (wrongSide n A) (lit< tt)
-      (λ e. room (first ∙ e))));
   unordered = unordered;
   of-sides = of-sides;
   doubled = λ d q. smaller-of (d (q .a) (q .b) +ℤ d (q .a′) (q .b′)) (d (q .a) (q .b′) +ℤ d (q .a′) (q .b)) (d (q .a) (q .a′) +ℤ d (q .b) (q .b′));

@@ -66,7 +66,7 @@ use Rattle.interface.specs.Sheet.{
   pairs,
   sameBytes,
 }
-use Rattle.interface.specs.Listing.{hexadecimal, decimal, lineOf, lineText, firstLine, listing, groupsFound, pairsListing, sheetListing}
+use Rattle.interface.specs.Listing.{hexadecimal, decimal, pointsText, signedPoints, lineOf, lineText, firstLine, listing, groupsFound, pairsListing, sheetListing}
 use Rattle.interface.specs.Refusals.{isAllowed, isRow, wrongByte, wrongValues, wrongUnscored, wrongDistances}
 use Rattle.interface.specs.WholePoints.{
   isWholeValue,
@@ -79,12 +79,13 @@ use Rattle.interface.specs.WholePoints.{
   wholeListing,
   isWholeByte,
   isWholeRow,
+  signedDecimal,
 }
-use Rattle.interface.specs.Requests.{whole, wordAt}
+use Rattle.interface.specs.Sentences.{wordAt}
 use Rattle.interface.proofs.Pieces.{free}
 use Rattle.interface.proofs.Points.{parts, fraction-front}
 use Rattle.interface.proofs.Accepted.{unscored-left}
-use Rattle.interface.proofs.InPoints.{says-written, value-back}
+use Rattle.interface.proofs.InPoints.{even-text, value-back}
 use Rattle.interface.proofs.Cells.{value-scored, lone-word, said-value, cell-at}
 
 -- a word without a point: its whole part is the word, and it has no half
@@ -260,10 +261,16 @@ same-byte : (b : ℕ) → T (not (eqb b point)) → isAllowed b ≡ isWholeByte 
 unfolding isAllowed isWholeByte
 same-byte b t = rw (T-false {b = eqb b point} t, or-false (isUpper b || isDigit b || eqb b minus))
 
+-- twice a number, in points
+doubled-text : (z : ℤ) → signedPoints (z +ℤ z) ≡ signedDecimal z
+unfolding signedPoints signedDecimal
+doubled-text (pos n) = even-text n
+doubled-text (negsuc n) = let e : suc (suc (n + n)) ≡ suc n + suc n = omega arith in ap (λ (w : List ℕ). minus ∷ w) (ap pointsText e ∙ even-text (suc n))
+
 -- a line of a group with twice its index, in points
 same-line : (n A : ℕ) (z : ℤ) → lineText (lineOf n (doubledGroup (A, z))) ≡ wholeLineText (lineOf n (A, z))
 unfolding lineText wholeLineText lineOf doubledGroup twice
-same-line n A z = ap (λ (u : List ℕ). hexadecimal A ++ (space ∷ []) ++ decimal (size n A) ++ (space ∷ []) ++ u) (sym (says-written (whole z)))
+same-line n A z = ap (λ (u : List ℕ). hexadecimal A ++ (space ∷ []) ++ decimal (size n A) ++ (space ∷ []) ++ u) (doubled-text z)
 
 pub strong-kind : {kind : ℤ} → kind ≡ pos 1 → kindOf kind ≡ strong
 unfolding kindOf eqZ

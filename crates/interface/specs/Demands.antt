@@ -9,11 +9,11 @@ use lib.Signed.{_≤ℤ_}
 use lib.Dec.{T}
 use lib.ListN.{length, take, drop}
 use Rattle.lists.specs.Lists.{_∈_, _lists_, Distinct}
-use Rattle.sets.specs.Sets.{size, Nested, Disjoint}
-use Rattle.clusters.specs.PairList.{Similarity, rowStart, score, scoreLimit, hasLength, inRange, areDistances}
+use Rattle.sets.specs.Sets.{_∋_, _∌_, size, complement, Nested, Disjoint}
+use Rattle.clusters.specs.PairList.{Similarity, score, scoreLimit}
 use Rattle.clusters.specs.Indices.{cleanIndex, separationIndex}
 use Rattle.clusters.specs.Fillings.{Fills, LeastFilling}
-use Rattle.clusters.specs.Farris.{farris, anchoredScores}
+use Rattle.clusters.specs.Farris.{farris}
 use Rattle.clusters.specs.Linkage.{single, average, singles, Tree, blocks}
 use Rattle.clusters.specs.Groups.{Kind, strong, clean, splits, kindOf, speaksOf, writtenSet, Rising, mostGroups}
 use Rattle.clusters.specs.Reordering.{Permutation, Reordered, image}
@@ -21,18 +21,18 @@ use Rattle.answers.specs.declared.Answer.{Answer}
 use Rattle.answers.specs.Answers.{numberOf, countOf}
 use Rattle.interface.specs.Sheet.{entries, pairs}
 use Rattle.interface.specs.Listing.{Line, sheetListing, listingRead}
-use Rattle.interface.specs.Refusals.{none, Given, check6, check10, sheetCallChecks, backRefusal}
 use Rattle.interface.specs.Calls.{SheetCall, InC, CCall, NumbersCall, groupsOf, LinkageCall}
 use Rattle.interface.specs.Calls.{AnchoredCall, BackCall}
+use Rattle.interface.specs.Tables.{GivenFirst, NoneGiven, sheetTable}
 
 -- Demand 1, of the C call: "any kind number, any sheet, any buffer gets the complete listing or the one refusal that
 -- document 01 names; a refusal writes no byte, a listing only its own bytes".
 pub record Demand1 (kind : ℤ) (sheet lent : List ℕ) (r : ℤ) (after : List ℕ) : Type 0 where
   -- minus a number is answered exactly if its line holds and none before it does
-  pub refusal : (k : ℕ) → 0 < k → (r ≡ negℤ (pos k)) ↔ Given (sheetCallChecks kind sheet (length lent)) k
+  pub refusal : (k : ℕ) → 0 < k → (r ≡ negℤ (pos k)) ↔ GivenFirst (sheetTable kind sheet (length lent)) k
   pub refused : (k : ℕ) → 0 < k → r ≡ negℤ (pos k) → after ≡ lent
   -- the listing's length is answered exactly if no line holds
-  pub listed : (r ≡ pos (length (sheetListing kind sheet))) ↔ T (none (sheetCallChecks kind sheet (length lent)))
+  pub listed : (r ≡ pos (length (sheetListing kind sheet))) ↔ NoneGiven (sheetTable kind sheet (length lent))
   pub written : (count : ℕ) → r ≡ pos count
       → (take count after ≡ sheetListing kind sheet) × (drop count after ≡ drop count lent)
   -- there is no third
@@ -119,6 +119,12 @@ pub record Complete (kind : ℤ) (n : ℕ) (s : Similarity) (found : List (ℕ �
   pub splits-in-trees : kind ≡ pos 3 → (A : ℕ) (z : ℤ) → found lists (A, z)
       → (ms : List (ℕ × ℕ)) → Tree single n (farris s 0) ms → A ∈ blocks n ms
   pub nested : (A B : ℕ) (y z : ℤ) → found lists (A, y) → found lists (B, z) → Nested n A B ⊎ Disjoint n A B
+  -- "A|B and B|A are one split", with one index, "written as the side without the first entry", and found by either
+  pub one-split : kind ≡ pos 3 → (A : ℕ) (z : ℤ) → found lists (A, z)
+      → (A ∌ 0) × IndexIs splits n s A z × IndexIs splits n s (complement n A) z
+  pub either-side : kind ≡ pos 3 → (A : ℕ) → A < 2 ^ n → (a b : ℕ) → a < n → b < n → A ∋ a → A ∌ b
+      → (z : ℤ) → IndexIs splits n s A z → pos 1 ≤ℤ z
+      → (A ∌ 0 → found lists (A, z)) × (A ∋ 0 → found lists (complement n A, z))
 
 -- and of every call: "neither the order of the entries nor any choice among equal scores changes what is found"
 pub record Demand3 (kind : ℤ) : Type 0 where
@@ -146,18 +152,3 @@ pub record Demand3 (kind : ℤ) : Type 0 where
   pub reordered : {n : ℕ} {s s′ : Similarity} {found found′ : List (ℕ × ℤ)}
       → Wrote kind n s found → Wrote kind n s′ found′
       → (p : Permutation n) → Reordered n p s s′ → SameGroups (kindOf kind) n p found found′
-
--- The way back's 15, as document 01 says it: it is given exactly if no line before it holds and the anchor is n or
--- more, or the slice is short, or there are no distances passing 11 and 12 of which the list is the anchored scores.
-pub record Distances (n : ℕ) (d : List ℤ) : Type 0 where
-  pub long : T (hasLength n d)
-  pub range : T (inRange d)
-  pub distances : T (areDistances n d)
-
-abbrev pub Fifteen : (n x : ℕ) → List ℤ → ℕ → Type 0
-Fifteen n x l slots =
-    T (none (check6 n ∷ check10 n l ∷ []))
-    × ((n ≤ x) ⊎ (slots < rowStart n) ⊎ ((d : List ℤ) → Distances n d → l ≡ anchoredScores n x d → ⊥))
-
-abbrev pub BackFifteen : Type 0
-BackFifteen = (n x : ℕ) (l : List ℤ) (slots : ℕ) → (backRefusal n x l slots ≡ 15) ↔ Fifteen n x l slots

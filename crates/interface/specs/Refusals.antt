@@ -1,11 +1,11 @@
--- Where a call is turned away (document 01): the table, one check for each line, in its order; and which call makes
--- which checks.
-use mathlib.Core.Path.{_≡_}
-use mathlib.Core.Bool.{Bool, true, not, cond, _&&_, _||_}
+-- Where a call is turned away (document 01), as tests, which the contracts of the code cite: the table, one check for each
+-- line, in its order; and which call makes which checks. What a reader must believe is interface/specs/Sentences and
+-- Tables, where the same is said in words; that both agree is proved (interface/proofs/AgreeTables).
+use mathlib.Core.Bool.{Bool, not, cond, _&&_, _||_}
 use mathlib.Core.List.{List, [], _∷_, _++_}
 use Prim.Native.Nat.{ℕ, _+_, _-_, _*_, _^_}
 use lib.IntN.{ℤ, pos}
-use lib.Dec.{T, eqb, leb, ltb}
+use lib.Dec.{eqb, leb, ltb}
 use lib.ListN.{length, getD}
 use Rattle.lists.specs.Lists.{below, all}
 use Rattle.integers.specs.Integers.{eqZ}
@@ -43,18 +43,11 @@ unfoldable pub firstOf : List Check → ℕ
 firstOf [] = 0
 firstOf ((number, holds) ∷ checks) = cond holds number (firstOf checks)
 
--- "Each number is given if and only if its line holds and none before it does."
+-- no condition holds
 abbrev pub none : List Check → Bool
 none checks = all (λ (number, holds). not holds) checks
 
-pub record Given (checks : List Check) (k : ℕ) : Type 0 where
-  pub before : List Check
-  pub after : List Check
-  pub parts : checks ≡ before ++ ((k, true) ∷ after)
-  pub passed : T (none before)
-
--- The table. Two of its limits have a name, and the range of 11 has one in clusters/specs/PairList; no theorem knows
--- their numbers.
+-- The table. Two of its limits have a name, and the range of 11 has one in clusters/specs/PairList.
 unfoldable pub mostBytes : ℕ
 mostBytes = 12288
 

@@ -8,17 +8,15 @@ use lib.IntN.{ℤ, pos, negℤ, _+ℤ_, _*ℤ_}
 use lib.Signed.{_≤ℤ_}
 use lib.Dec.{T}
 use lib.ListN.{length, getD, set, take, drop}
-use Rattle.lists.specs.Lists.{_∈_, _lists_, all, Distinct}
+use Rattle.lists.specs.Lists.{_∈_, _lists_}
 use Rattle.sets.specs.Sets.{_∋_, _∌_, size, allEntries, complement, Subset}
 use Rattle.integers.specs.Integers.{sumOf}
 use Rattle.integers.specs.Range.{Within}
-use Rattle.pairs.specs.declared.Carried.{Carried}
 use Rattle.pairs.specs.declared.Carried.the-variants.{Scored, Unscored}
 use Rattle.pairs.specs.Pairs.{mark, carried, isScored}
 use Rattle.clusters.specs.PairList.{Similarity, place, score, scoreLimit, hasLength}
 use Rattle.clusters.specs.Fillings.{Fills, AllScored, ScoredMore}
 use Rattle.clusters.specs.Farris.{farris, unfarris}
-use Rattle.clusters.specs.Linkage.{Linkage}
 use Rattle.clusters.specs.Groups.{splits, kindOf, plainSets, plainGroups, writtenSet}
 use Rattle.clusters.specs.Reordering.{Permutation, Reordered, image}
 use Rattle.clusters.specs.Nesting.{smallestOfAll, OnLine}
@@ -30,15 +28,15 @@ use Rattle.answers.specs.declared.Shared.{Shared}
 use Rattle.answers.specs.Shared.{sharedNumber, sharedSet, sharedLine}
 use Rattle.answers.specs.declared.Weighed.{Weighed}
 use Rattle.answers.specs.Weighed.{weighedNumber, weighedWeight}
-use Rattle.interface.specs.Sheet.{point, isName, isValue, hasHalf, names, entries, words, value, pairs}
-use Rattle.interface.specs.Listing.{Line, decimal, lineWords, listingRead}
-use Rattle.interface.specs.SheetText.{sheetText}
-use Rattle.interface.specs.Refusals.{Check, none, Given, check1, check6, check10, check11, check1Groups}
-use Rattle.interface.specs.Refusals.{readerChecks, sharedChecks, sheetChecks, poolChecks, weightChecks}
-use Rattle.interface.specs.Calls.{InC, CCall, NumbersCall, LinkageCall, AnchoredCall}
+use Rattle.interface.specs.Sheet.{point, hasHalf, names, entries, value, pairs}
+use Rattle.interface.specs.Listing.{Line, lineWords, listingRead}
+use Rattle.interface.specs.Calls.{InC, CCall, AnchoredCall}
 use Rattle.interface.specs.Calls.{BackCall, ReaderCall, ScoreInC, SharedCall, SharedInC, PoolCall}
 use Rattle.interface.specs.Calls.{groupsOf, WeightCall, WeightInC}
-use Rattle.interface.specs.WholePoints.{signedDecimal, wholeListing, WholeCall}
+use Rattle.interface.specs.WholePoints.{wholeListing, WholeCall}
+use Rattle.interface.specs.Sentences.{InPoints, CellSays, wordAt, SameName, SameNames, OnSides}
+use Rattle.interface.specs.Tables.{NoneGiven, Judged, JudgedInC}
+use Rattle.interface.specs.Tables.{readerTable, sharedTable, scoresTable, poolTable, weightTable}
 use Rattle.interface.specs.Demands.{Listed, Counted, Wrote}
 
 -- 2.1, the smallest group two entries share: the refusal's number, 0 for none, the set and the line that the call
@@ -69,27 +67,13 @@ pub record SmallestFound (n i j : ℕ) (found : List (ℕ × ℤ)) (set line : �
   pub no-line : (line ≡ 0) ↔ ((C : ℕ) (z : ℤ) → found lists (C, z) → C ∋ i → C ∋ j → ⊥)
   pub all-entries : (line ≡ 0) ↔ (set ≡ allEntries n)
 
--- "after the numbers call's checks, 13 left out, an entry number of n or more gets 15": the number given, beside that
--- which the numbers call gives
-pub record JudgedAfter (n i j numbers number : ℕ) : Type 0 where
-  pub refused : numbers ≢ 0 → number ≡ numbers
-  pub past : numbers ≡ 0 → (n ≤ i) ⊎ (n ≤ j) → number ≡ 15
-  pub passed : numbers ≡ 0 → i < n → j < n → number ≡ 0
-
 pub record Request-2-1 (kind : ℤ) : Type 0 where
-  -- each number is given if and only if its line holds and none before it does; "A refusal answers set 0, line 0."
-  pub refusal : {n : ℕ} {l : List ℤ} {i j number set line : ℕ} → SharedAnswered kind n l i j number set line
-      → (k : ℕ) → 0 < k → (number ≡ k) ↔ Given (sharedChecks kind n l i j) k
+  -- "Kind 3 gets 1 here; after the numbers call's checks, 13 left out, an entry number of n or more gets 15": each number
+  -- is given if and only if its line holds and none before it does; "A refusal answers set 0, line 0."
+  pub judged : {n : ℕ} {l : List ℤ} {i j number set line : ℕ} → SharedAnswered kind n l i j number set line
+      → Judged (sharedTable kind n l i j) number
   pub refused : {n : ℕ} {l : List ℤ} {i j number set line : ℕ} → SharedAnswered kind n l i j number set line
       → number ≢ 0 → (set ≡ 0) × (line ≡ 0)
-  -- "Kind 3 gets 1 here"; any other kind number is judged as the numbers call judges it, where that has room
-  pub third-kind : kind ≡ pos 3 → {n : ℕ} {l : List ℤ} {i j number set line : ℕ}
-      → SharedAnswered kind n l i j number set line → number ≡ 1
-  pub judged : kind ≢ pos 3 → {n : ℕ} {l : List ℤ} {i j number set line : ℕ}
-      → SharedAnswered kind n l i j number set line
-      → {lentSets sets : List ℕ} {lentIndices indices : List ℤ} {r : Answer}
-      → NumbersCall kind n l lentSets lentIndices r sets indices → numberOf r ≢ 13
-      → JudgedAfter n i j (numberOf r) number
   pub smallest : {n : ℕ} {l : List ℤ} {i j set line : ℕ} → SharedAnswered kind n l i j 0 set line
       → {found : List (ℕ × ℤ)} → Wrote kind n (score l) found → SmallestFound n i j found set line
   -- which of the two is named first makes no difference
@@ -104,18 +88,8 @@ pub record Request-2-1 (kind : ℤ) : Type 0 where
       → SharedAnswered kind n l i j 0 set line → SharedAnswered kind n l′ (p .to i) (p .to j) 0 set′ line′
       → Reordered n p (score l) (score l′) → (set′ ≡ image n p set) × ((line ≡ 0) ↔ (line′ ≡ 0))
 
--- 2.2, pairs that were never compared. "get 16 for a sheet with an unscored pair, placed right after 11": what passes
--- the checks up to 11 gets 16 exactly if the mark stands in the list
-abbrev pub Sixteen : (before : List Check) → List ℤ → Type 0
-Sixteen before l = T (none before) × (mark ∈ l)
-
--- the mark is "exempt from 11": a number that is not the mark is out of the range
-pub record OutOfRange (l : List ℤ) : Type 0 where
-  pub number : ℤ
-  pub there : number ∈ l
-  pub no-mark : number ≢ mark
-  pub out : Within scoreLimit number → ⊥
-
+-- 2.2, pairs that were never compared: that the mark is "exempt from 11", and that "Kinds 2 and 3, the linkage calls and
+-- the anchored scores get 16 .., placed right after 11", is in the tables of these calls (interface/specs/Tables)
 pub record Request-2-2 : Type 0 where
   -- "a set is listed exactly if every filling would list it"
   pub every-filling : {n : ℕ} {s : Similarity} {found : List (ℕ × ℤ)} → Wrote (pos 1) n s found
@@ -138,26 +112,6 @@ pub record Request-2-2 : Type 0 where
   -- what a call wrote for another kind is of scores only
   pub only-scored : {kind : ℤ} → kind ≢ pos 1 → {n : ℕ} {s : Similarity} {found : List (ℕ × ℤ)} → Wrote kind n s found
       → AllScored n s
-  -- "exempt from 11"
-  pub exempt-sheet : {kind r : ℤ} {sheet lent after : List ℕ} → CCall kind sheet lent r after
-      → r ≡ negℤ (pos 11) → OutOfRange (pairs sheet)
-  pub exempt-numbers : {kind : ℤ} {n : ℕ} {l lentIndices indices : List ℤ} {lentSets sets : List ℕ} {r : Answer}
-      → NumbersCall kind n l lentSets lentIndices r sets indices → numberOf r ≡ 11 → OutOfRange l
-  -- "Kinds 2 and 3, the linkage calls and the anchored scores get 16"; kind 1 does not
-  pub of-sheet : {kind r : ℤ} {sheet lent after : List ℕ} → CCall kind sheet lent r after
-      → (r ≡ negℤ (pos 16))
-      ↔ ((kind ≢ pos 1) × Sixteen ((check1 kind ∷ readerChecks sheet) ++ (check11 (pairs sheet) ∷ [])) (pairs sheet))
-  pub of-numbers : {kind : ℤ} {n : ℕ} {l lentIndices indices : List ℤ} {lentSets sets : List ℕ} {r : Answer}
-      → NumbersCall kind n l lentSets lentIndices r sets indices
-      → (numberOf r ≡ 16) ↔ ((kind ≢ pos 1) × Sixteen (check1 kind ∷ check6 n ∷ check10 n l ∷ check11 l ∷ []) l)
-  pub of-shared : {kind : ℤ} {n : ℕ} {l : List ℤ} {i j number set line : ℕ}
-      → SharedAnswered kind n l i j number set line
-      → (number ≡ 16) ↔ ((kind ≢ pos 1) × Sixteen (check1Groups kind ∷ check6 n ∷ check10 n l ∷ check11 l ∷ []) l)
-  pub of-linkage : {linkage : Linkage} {n : ℕ} {l : List ℤ} {lent after : List ℕ} {r : Answer}
-      → LinkageCall linkage n l lent r after
-      → (numberOf r ≡ 16) ↔ Sixteen (check6 n ∷ check10 n l ∷ check11 l ∷ []) l
-  pub of-anchored : {n x : ℕ} {l lent after : List ℤ} {r : Answer} → AnchoredCall n x l lent r after
-      → (numberOf r ≡ 16) ↔ Sixteen (check6 n ∷ check10 n l ∷ check11 l ∷ []) l
 
 -- 2.3, row starts by formula: a pair list of n entries that a call wrote, here or in C, and what it holds
 pub data WrotePairs : (n : ℕ) → Similarity → (after : List ℤ) → Type 0 where
@@ -191,50 +145,18 @@ pub data Pooled (first second : List ℕ) : (bytes : List ℕ) → Type 0 where
   by-pool-in-C : {lent after : List ℕ} {r : ℤ} → InC (λ a. PoolCall first second lent a after) r
       → (count : ℕ) → r ≡ pos count → Pooled first second (take count after)
 
--- entry i of one sheet and entry j of the other have the same name
-pub record SameName (first second : List ℕ) (i j : ℕ) : Type 0 where
-  pub here : i < entries first
-  pub there : j < entries second
-  pub same : getD (names first) i [] ≡ getD (names second) j []
-
 -- "a set of names": a set of entries of one sheet, and that of the entries of the other with the same names
 pub record SameSet (first second : List ℕ) (A B : ℕ) : Type 0 where
   pub here : A < 2 ^ entries first
   pub there : B < 2 ^ entries second
   pub same : (i j : ℕ) → SameName first second i j → (A ∋ i) ↔ (B ∋ j)
 
--- "the two name sets": every name of one sheet is on the other
-pub record SameNames (first second : List ℕ) : Type 0 where
-  pub there : (w : List ℕ) → w ∈ names first → w ∈ names second
-  pub back : (w : List ℕ) → w ∈ names second → w ∈ names first
-
--- the sum of the scores that two names have on either sheet is out of the range
-pub record SumOutOfRange (first second : List ℕ) : Type 0 where
-  pub i : ℕ
-  pub j : ℕ
-  pub i′ : ℕ
-  pub j′ : ℕ
-  pub one : SameName first second i i′
-  pub other : SameName first second j j′
-  pub y : ℤ
-  pub z : ℤ
-  pub here : carried (value first i j) ≡ Scored y
-  pub there : carried (value second i′ j′) ≡ Scored z
-  pub out : Within scoreLimit (y +ℤ z) → ⊥
-
--- what is answered for two sheets, beside what the C call answers for kind 1 and each of them, which makes 2 to 9, 11
--- and 14
-pub record PoolJudged (first second lent : List ℕ) (r one other : ℤ) : Type 0 where
-  pub first-sheet : (k : ℕ) → 0 < k → k ≢ 14 → one ≡ negℤ (pos k) → r ≡ negℤ (pos k)
-  pub second-sheet : (count : ℕ) → one ≡ pos count
-      → (k : ℕ) → 0 < k → k ≢ 14 → other ≡ negℤ (pos k) → r ≡ negℤ (pos k)
-  pub passed : (count count′ : ℕ) → one ≡ pos count → other ≡ pos count′ → SameNames first second
-      → (SumOutOfRange first second → ⊥) → 10528 ≤ length lent → (length : ℕ) × (r ≡ pos length)
-
 pub record Request-2-4 : Type 0 where
-  -- each number is given if and only if its line holds and none before it does; nothing is then written
-  pub refusal : {first second lent after : List ℕ} {r : ℤ} → InC (λ a. PoolCall first second lent a after) r
-      → (k : ℕ) → 0 < k → (r ≡ negℤ (pos k)) ↔ Given (poolChecks first second (length lent)) k
+  -- "The first sheet passes 2 to 9 and 11, then the second; after them 17 means the two name sets differ, 18 a sum out of
+  -- range, and 14 a short buffer": each number is given if and only if its line holds and none before it does; nothing is
+  -- then written
+  pub judged : {first second lent after : List ℕ} {r : ℤ} → InC (λ a. PoolCall first second lent a after) r
+      → JudgedInC (poolTable first second (length lent)) r
   pub refused : {first second lent after : List ℕ} {r : ℤ} → InC (λ a. PoolCall first second lent a after) r
       → (k : ℕ) → 0 < k → r ≡ negℤ (pos k) → after ≡ lent
   -- "answers its length and touches only its bytes"; there is no third
@@ -242,23 +164,15 @@ pub record Request-2-4 : Type 0 where
       → (count : ℕ) → r ≡ pos count → (length (take count after) ≡ count) × (drop count after ≡ drop count lent)
   pub either : {first second lent after : List ℕ} {r : ℤ} → InC (λ a. PoolCall first second lent a after) r
       → ((k : ℕ) × (0 < k) × (r ≡ negℤ (pos k))) ⊎ ((count : ℕ) × (r ≡ pos count))
-  -- "The first sheet passes 2 to 9 and 11, then the second"; a buffer of 10,528 bytes is never short
-  pub judged : {first second lent after : List ℕ} {r : ℤ} → InC (λ a. PoolCall first second lent a after) r
-      → {lent₁ after₁ lent₂ after₂ : List ℕ} {one other : ℤ}
-      → CCall (pos 1) first lent₁ one after₁ → CCall (pos 1) second lent₂ other after₂
-      → PoolJudged first second lent r one other
-  -- "17 means the two name sets differ, 18 a sum out of range"
-  pub seventeen : {first second lent after : List ℕ} {r : ℤ} → InC (λ a. PoolCall first second lent a after) r
-      → (r ≡ negℤ (pos 17)) ↔ (T (none (sheetChecks first ++ sheetChecks second)) × (SameNames first second → ⊥))
-  pub eighteen : {first second lent after : List ℕ} {r : ℤ} → InC (λ a. PoolCall first second lent a after) r
-      → (r ≡ negℤ (pos 18))
-      ↔ (T (none (sheetChecks first ++ sheetChecks second)) × SameNames first second × SumOutOfRange first second)
   -- "and 14 a short buffer": one shorter than the pool that another call wrote; any other has room
   pub room : {first second lent after bytes : List ℕ} {r : ℤ} → InC (λ a. PoolCall first second lent a after) r
       → Pooled first second bytes
       → (length lent < length bytes → r ≡ negℤ (pos 14)) × (length bytes ≤ length lent → r ≡ pos (length bytes))
+  -- a buffer of 10,528 bytes never is
+  pub never-short : {first second lent after : List ℕ} {r : ℤ} → InC (λ a. PoolCall first second lent a after) r
+      → 10528 ≤ length lent → r ≢ negℤ (pos 14)
   -- "The pool is written as a sheet": one that passes 2 to 9 and 11
-  pub a-sheet : {first second bytes : List ℕ} → Pooled first second bytes → T (none (sheetChecks bytes))
+  pub a-sheet : {first second bytes : List ℕ} → Pooled first second bytes → NoneGiven (scoresTable bytes)
   -- "the names stand in the first sheet's order", and each is on the second
   pub its-names : {first second bytes : List ℕ} → Pooled first second bytes
       → (names bytes ≡ names first) × SameNames first second
@@ -301,20 +215,6 @@ pub data SideWeighed (n : ℕ) (l : List ℤ) (A : ℕ) : (number : ℕ) (weight
   by-weight-in-C : {r weight : ℤ} → WeightInC n l A r weight
       → (number : ℕ) → r ≡ pos number → SideWeighed n l A number weight
 
--- "a, a' different on one side and b, b' different on the other"
-pub record OnSides (n A a a′ b b′ : ℕ) : Type 0 where
-  pub one-side : (a < n) × (a′ < n) × (A ∋ a) × (A ∋ a′) × (a ≢ a′)
-  pub other-side : (b < n) × (b′ < n) × (A ∌ b) × (A ∌ b′) × (b ≢ b′)
-
--- "Both sides have at least two entries"; and no member is numbered n or more
-pub record TwoSides (n A : ℕ) : Type 0 where
-  pub members : (i : ℕ) → A ∋ i → i < n
-  pub a : ℕ
-  pub a′ : ℕ
-  pub b : ℕ
-  pub b′ : ℕ
-  pub entries : OnSides n A a a′ b b′
-
 -- the same two entries, in one order or the other
 abbrev pub SamePair : (x x′ y y′ : ℕ) → Type 0
 SamePair x x′ y y′ = ((x ≡ y) × (x′ ≡ y′)) ⊎ ((x ≡ y′) × (x′ ≡ y))
@@ -332,25 +232,15 @@ pub data WroteOf (kind : ℤ) : ℕ → List ℤ → List (ℕ × ℤ) → Type 
   for-sheet : {sheet bytes : List ℕ} {ls : List Line} → Listed kind sheet bytes → listingRead bytes ≡ some ls
       → WroteOf kind (entries sheet) (pairs sheet) (map (λ l. (l .set, l .index)) ls)
 
--- "after 6, 10, 11, 16 and 12, judged as kind 3, a side with fewer than two, or a member numbered n or more, gives 19":
--- the number given, beside that which the numbers call gives for kind 3
-pub record WeighedAfter (n A numbers number : ℕ) : Type 0 where
-  pub refused : numbers ≢ 0 → number ≡ numbers
-  pub wrong-side : numbers ≡ 0 → (TwoSides n A → ⊥) → number ≡ 19
-  pub passed : numbers ≡ 0 → TwoSides n A → number ≡ 0
-
 pub record Request-2-5 : Type 0 where
+  -- "after 6, 10, 11, 16 and 12, judged as kind 3, a side with fewer than two, or a member numbered n or more, gives 19":
   -- each number is given if and only if its line holds and none before it does; "Refused, the weight is 0."
-  pub refusal : {n : ℕ} {l : List ℤ} {A number : ℕ} {w : ℤ} → SideWeighed n l A number w
-      → (k : ℕ) → 0 < k → (number ≡ k) ↔ Given (weightChecks n l A) k
+  pub judged : {n : ℕ} {l : List ℤ} {A number : ℕ} {w : ℤ} → SideWeighed n l A number w
+      → Judged (weightTable n l A) number
   pub refused : {n : ℕ} {l : List ℤ} {A number : ℕ} {w : ℤ} → SideWeighed n l A number w
       → number ≢ 0 → w ≡ pos 0
   -- every answer in C is such a number
   pub in-C : {n : ℕ} {l : List ℤ} {A : ℕ} {r w : ℤ} → WeightInC n l A r w → (number : ℕ) × (r ≡ pos number)
-  pub judged : {n : ℕ} {l : List ℤ} {A number : ℕ} {w : ℤ} → SideWeighed n l A number w
-      → {lentSets sets : List ℕ} {lentIndices indices : List ℤ} {r : Answer}
-      → NumbersCall (pos 3) n l lentSets lentIndices r sets indices → numberOf r ≢ 13
-      → WeighedAfter n A (numberOf r) number
   -- "all quartets aa'|bb' with a, a' different on one side and b, b' different on the other, pairs unordered": each
   -- is one, and there is no other
   pub unordered : (n A a a′ b b′ : ℕ) → OnSides n A a a′ b b′
@@ -388,50 +278,17 @@ pub record Request-2-5 : Type 0 where
       → {found : List (ℕ × ℤ)} → WroteOf (pos 3) n l found → A < 2 ^ n → 2 ≤ size n A → size n A + 2 ≤ n
       → (z : ℤ) → found lists (writtenSet splits n A, z) → ((pos (n - 3) *ℤ z) ≤ℤ w) × (pos 1 ≤ℤ w)
 
--- 2.6, half points: what the bytes of a value or an index say, counted in half points. "A value may end in `.5`"
-pub data InPoints : (bytes : List ℕ) → (halves : ℤ) → Type 0 where
-  whole : (y : ℤ) → InPoints (signedDecimal y) (y +ℤ y)
-  half : (k : ℕ) → InPoints (decimal k ++ (46 ∷ 53 ∷ [])) (pos (k + k + 1))
-  minus-half : (k : ℕ) → InPoints (45 ∷ (decimal k ++ (46 ∷ 53 ∷ []))) (negℤ (pos (k + k + 1)))
-
--- row i, column j of a sheet's values, as it is written
-abbrev pub wordAt : (sheet : List ℕ) → (i j : ℕ) → List ℕ
-wordAt sheet i j = getD (words sheet i) j []
-
--- what stands there: half points, with at most 7 digits before the point, or the mark, which "is unchanged"
-pub data CellSays : (bytes : List ℕ) → Carried → Type 0 where
-  points : {w : List ℕ} {z : ℤ} → InPoints w z → Within 19999999 z → CellSays w (Scored z)
-  lone-minus : CellSays (45 ∷ []) Unscored
-
--- "the range of 11 is the same in points": a value is below −1,000,000 or above 1,000,000 points
-pub record PointsOut (sheet : List ℕ) : Type 0 where
-  pub i : ℕ
-  pub j : ℕ
-  pub here : (i < entries sheet) × (j < entries sheet)
-  pub z : ℤ
-  pub says : InPoints (wordAt sheet i j) z
-  pub out : Within (2 * 1000000) z → ⊥
-
--- names and numbers that a sheet can have: 1 to 32 well-formed names, no two equal; of each pair one number for both
--- orders, half points from −1,000,000 to 1,000,000 points or the mark's
-pub record FitsSheet (ns : List (List ℕ)) (s : Similarity) : Type 0 where
-  pub count : (1 ≤ length ns) × (length ns ≤ 32)
-  pub named : T (all isName ns)
-  pub distinct : Distinct ns
-  pub symmetric : (i j : ℕ) → i < length ns → j < length ns → s i j ≡ s j i
-  pub range : (i j : ℕ) → i < length ns → j < length ns → (s i j ≡ mark) ⊎ Within (2 * 1000000) (s i j)
-
+-- 2.6, half points: `InPoints` and `CellSays` in interface/specs/Sentences are what the bytes of a value say, by which 8,
+-- 9, 11 and 12 of a sheet are said
 pub record Request-2-6 : Type 0 where
-  -- "A value may end in `.5` .. and `-0.5` is well formed": what is well formed says half points, and every number of
-  -- half points that needs at most 7 digits before the point is said by what is well formed
-  pub well-formed : (w : List ℕ) → T (isValue w) ↔ ((z : ℤ) × InPoints w z × Within 19999999 z)
+  -- every number of half points is said by some bytes
   pub every-number : (z : ℤ) → (w : List ℕ) × InPoints w z
   -- in one way, and no other number
   pub one-text : {v w : List ℕ} {z : ℤ} → InPoints v z → InPoints w z → v ≡ w
   pub one-number : {w : List ℕ} {y z : ℤ} → InPoints w y → InPoints w z → y ≡ z
   -- "The value reader now answers in half points, and all that use it follow: the pair list": of every sheet that
   -- passes 2 to 9, and of what the reader writes, here and in C
-  pub cells : (sheet : List ℕ) → T (none (readerChecks sheet)) → (i j : ℕ) → i < entries sheet → j < entries sheet
+  pub cells : (sheet : List ℕ) → NoneGiven (readerTable sheet) → (i j : ℕ) → i < entries sheet → j < entries sheet
       → CellSays (wordAt sheet i j) (carried (value sheet i j))
   pub read : {sheet : List ℕ} {lent after : List ℤ} {r : Answer} → ReaderCall sheet lent r after → numberOf r ≡ 0
       → (i j : ℕ) → i < countOf r → j ≤ i
@@ -439,16 +296,8 @@ pub record Request-2-6 : Type 0 where
   pub read-in-C : {sheet : List ℕ} {lent after : List ℤ} {r : ℤ} → InC (λ a. ReaderCall sheet lent a after) r
       → (count : ℕ) → r ≡ pos count → (i j : ℕ) → i < count → j ≤ i
       → CellSays (wordAt sheet i j) (carried (getD after (i * (i + 1) / 2 + j) (pos 0)))
-  -- "the range of 11 is the same in points", of a sheet and of a pair list
+  -- "the range of 11 is the same in points", for fillings and pools too
   pub range : scoreLimit ≡ 2 * 1000000
-  pub eleven : {kind r : ℤ} {sheet lent after : List ℕ} → CCall kind sheet lent r after
-      → (r ≡ negℤ (pos 11)) ↔ (T (none (check1 kind ∷ readerChecks sheet)) × PointsOut sheet)
-  pub eleven-numbers : {kind : ℤ} {n : ℕ} {l lentIndices indices : List ℤ} {lentSets sets : List ℕ} {r : Answer}
-      → NumbersCall kind n l lentSets lentIndices r sets indices
-      → (numberOf r ≡ 11) ↔ (T (none (check1 kind ∷ check6 n ∷ check10 n l ∷ [])) × OutOfRange l)
-  -- any half points in that range, and the mark anywhere, are taken as a sheet, and are read back
-  pub taken : {ns : List (List ℕ)} {s : Similarity} → FitsSheet ns s → T (none (sheetChecks (sheetText ns s)))
-      × ((i j : ℕ) → i < length ns → j < length ns → value (sheetText ns s) i j ≡ s i j)
   -- "Indices are written in points, with `.5` where needed": each index read back from a listing; and the pool's scores
   pub indices-in-points : (bytes : List ℕ) {ls : List Line} → listingRead bytes ≡ some ls → (i : ℕ) → i < length ls
       → InPoints (getD (getD (lineWords bytes) i []) 2 []) (getD (map (λ l. l .index) ls) i (pos 0))

@@ -27,7 +27,7 @@ use Rattle.interface.specs.Calls.{PoolCall}
 use Rattle.interface.proofs.Refusals.{gives, first-yes, first-no, first-none, first-front, first-back, right-count}
 use Rattle.interface.proofs.Places.{place-lt, same-names, by-count}
 use Rattle.interface.proofs.SheetTexts.{sheetText-cong}
-use Rattle.interface.proofs.Pool.{Sound, sound, pool-symmetric}
+use Rattle.interface.proofs.PoolScores.{Sound, sound, pool-symmetric}
 use Rattle.text.specs.Reading.{pieceAt}
 use Rattle.sheet.proofs.Lines.{first-line}
 use Rattle.reader.proofs.Answers.{pairs-length}

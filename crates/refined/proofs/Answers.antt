@@ -15,7 +15,7 @@ use Rattle.answers.specs.Weighed.{weighedAnswer}
 use Rattle.interface.specs.Refusals.{wrongSide, weightChecks, weightRefusal}
 use Rattle.interface.specs.Calls.{WeightCall}
 use Rattle.interface.proofs.Refusals.{no-first}
-use Rattle.interface.proofs.Weighed.{sides}
+use Rattle.interface.proofs.Sides.{sides}
 use Rattle.matrix.proofs.Checks.{distances-none}
 use Rattle.matrix.proofs.Scores.{range-bounded}
 

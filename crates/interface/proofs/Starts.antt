@@ -1,0 +1,94 @@
+-- Where a name starts: behind as many spaces as there are names before it, and before the first line feed.
+use mathlib.Core.Path.{_≡_, refl, sym, ap, ap₂, _∙_, subst}
+use mathlib.Core.Logic.{_⊎_, inl, inr}
+use mathlib.Core.List.{List, [], _∷_, _++_, append-nil, append-assoc, List·Memᴰ·head, List·Memᴰ·tail, List·Memᴰ·not-nil, List·Memᴰ·cases-cons, Memᴰ·append-left, Memᴰ·append-right}
+use Prim.Native.Nat.{ℕ, zero, suc, _+_, _*_, _<_}
+use native.Mathlib.Omega.{arith}
+use lib.Dec.{eqb}
+use lib.ListN.{length, length-append, getD, take}
+use lib.Seq.{take-append-add}
+use Rattle.lists.specs.Lists.{_∈_, keep}
+use Rattle.lists.proofs.Lists.{keep-append, getD-in}
+use Rattle.interface.specs.Sheet.{cut, lines, names, entries}
+use Rattle.interface.specs.SheetText.{joined}
+use Rattle.interface.specs.Calls.{startOf}
+use Rattle.interface.proofs.Pieces.{some-piece, joined-cut}
+use Rattle.interface.specs.Sentences.{count, Pieces, last-piece, first-piece}
+use Rattle.interface.proofs.AgreeText.{cut-pieces, none-counted}
+
+-- no piece has the byte between
+piece-free : {c : ℕ} {s : List ℕ} {ws : List (List ℕ)} → Pieces c s ws → {w : List ℕ} → w ∈ ws → c ∈ w → ⊥
+piece-free {c} (last-piece {w = v} f) {w} m k = go (List·Memᴰ·cases-cons m)
+  where
+    go : (w ≡ v) ⊎ (w ∈ []) → ⊥
+    go (inl e) = f (subst (λ (u : List ℕ). c ∈ u) e k)
+    go (inr n) = List·Memᴰ·not-nil n
+piece-free {c} (first-piece {w = v} {rest = rest} {ws = ws} f r) {w} m k = go (λ n. piece-free r n k) (List·Memᴰ·cases-cons m)
+  where
+    go : (w ∈ ws → ⊥) → (w ≡ v) ⊎ (w ∈ ws) → ⊥
+    go ih (inl e) = f (subst (λ (u : List ℕ). c ∈ u) e k)
+    go ih (inr n) = ih n
+
+in-joined : (c x : ℕ) (ws : List (List ℕ)) {w : List ℕ} → w ∈ ws → x ∈ w → x ∈ joined c ws
+unfolding joined
+in-joined c x (v ∷ []) {w} m k = go (List·Memᴰ·cases-cons m)
+  where
+    go : (w ≡ v) ⊎ (w ∈ []) → x ∈ v
+    go (inl e) = subst (λ (u : List ℕ). x ∈ u) e k
+    go (inr n) = absurd (List·Memᴰ·not-nil n)
+in-joined c x (v ∷ u ∷ ws) {w} m k = go (λ n. in-joined c x (u ∷ ws) n k) (List·Memᴰ·cases-cons m)
+  where
+    go : (w ∈ u ∷ ws → x ∈ joined c (u ∷ ws)) → (w ≡ v) ⊎ (w ∈ u ∷ ws) → x ∈ (v ++ (c ∷ joined c (u ∷ ws)))
+    go ih (inl e) = Memᴰ·append-left (c ∷ joined c (u ∷ ws)) (subst (λ (u : List ℕ). x ∈ u) e k)
+    go ih (inr n) = Memᴰ·append-right v (List·Memᴰ·tail (ih n))
+
+count-append : (d : ℕ) (v w : List ℕ) → count d (v ++ w) ≡ count d v + count d w
+count-append d v w = ap length (keep-append (λ b. eqb b d) v w) ∙ length-append (keep (λ b. eqb b d) v) (keep (λ b. eqb b d) w)
+
+-- how often d stands before piece i, if no piece has it and it stands e times between two
+before : (d c e : ℕ) → count d (c ∷ []) ≡ e → (ws : List (List ℕ)) (t : List ℕ) → ((w : List ℕ) → w ∈ ws → count d w ≡ 0) → (i : ℕ) → i < length ws
+    → count d (take (startOf ws i) (joined c ws ++ t)) ≡ i * e
+unfolding joined startOf keep
+before d c e one [] t f i h = absurd (omega arith)
+before d c e one (w ∷ ws) t f zero h = omega arith
+before d c e one (w ∷ []) t f (suc i) h = absurd (omega arith)
+before d c e one (w ∷ v ∷ ws) t f (suc i) h =
+    let rest = joined c (v ∷ ws) in
+    let k = startOf (v ∷ ws) i in
+    let q : length w + 1 + k ≡ length w + suc k = omega arith in
+    let taken : take (length w + 1 + k) ((w ++ (c ∷ rest)) ++ t) ≡ w ++ ((c ∷ []) ++ take k (rest ++ t)) =
+    ap₂ (λ (j : ℕ) (l : List ℕ). take j l) q (append-assoc w (c ∷ rest) t) ∙ take-append-add w (c ∷ (rest ++ t)) (suc k) in
+    ap (count d) taken ∙ count-append d w ((c ∷ []) ++ take k (rest ++ t))
+    ∙ omega (arith, f w (List·Memᴰ·head refl), count-append d (c ∷ []) (take k (rest ++ t)), one, before d c e one (v ∷ ws) t (λ u m. f u (List·Memᴰ·tail m)) i (omega arith))
+
+-- the first of some pieces stands at the front
+front : (c : ℕ) (ls : List (List ℕ)) → 0 < length ls → (t : List ℕ) × (joined c ls ≡ getD ls 0 [] ++ t)
+unfolding joined
+front c [] h = absurd (omega arith)
+front c (w ∷ []) h = ([], sym (append-nil w))
+front c (w ∷ v ∷ ls) h = (c ∷ joined c (v ∷ ls), refl)
+
+-- a sheet is its line 1, which is the names with spaces between, and what follows
+module _ (s : List ℕ) (i : ℕ) (h : i < entries s) where
+  parts : (t : List ℕ) × (s ≡ joined 32 (names s) ++ t)
+  unfolding names lines
+  parts =
+      let (t, e) = front 10 (cut 10 s) (some-piece 10 s) in
+      (t, sym (joined-cut 10 s) ∙ e ∙ ap (λ (w : List ℕ). w ++ t) (sym (joined-cut 32 (getD (cut 10 s) 0 []))))
+
+  free-of : (d e : ℕ) → count d (32 ∷ []) ≡ e → ((w : List ℕ) → w ∈ names s → d ∈ w → ⊥) → count d (take (startOf (names s) i) s) ≡ i * e
+  unfolding entries
+  free-of d e one f =
+      let (t, q) = parts in
+      ap (λ (l : List ℕ). count d (take (startOf (names s) i) l)) q
+      ∙ before d 32 e one (names s) t (λ w m. none-counted d w .1 (f w m)) i h
+
+  pub spaces-before : count 32 (take (startOf (names s) i) s) ≡ i
+  unfolding names keep
+  spaces-before = free-of 32 1 refl (λ w m. piece-free (cut-pieces 32 (getD (lines s) 0 [])) m) ∙ omega arith
+
+  pub no-feed-before : count 10 (take (startOf (names s) i) s) ≡ 0
+  unfolding names lines keep
+  no-feed-before = free-of 10 0 refl (λ w m k.
+      piece-free (cut-pieces 10 s) (getD-in (cut 10 s) 0 [] (some-piece 10 s))
+      (subst (λ (l : List ℕ). 10 ∈ l) (joined-cut 32 (getD (cut 10 s) 0 [])) (in-joined 32 10 (names s) m k))) ∙ omega arith

@@ -1,0 +1,86 @@
+-- What each call of document 01 answers, by its table in words; and the name of an entry.
+use mathlib.Core.Path.{_≡_, refl, sym, ap, _∙_}
+use mathlib.Core.List.{List}
+use Prim.Native.Nat.{ℕ, _<_}
+use native.Mathlib.Omega.{arith}
+use lib.ListN.{length, take}
+use Rattle.lists.proofs.Tests.{T-true, T-false}
+use Rattle.answers.specs.declared.Answer.{Answer}
+use Rattle.answers.specs.Answers.{numberOf, answer}
+use Rattle.answers.proofs.Answers.{number-answer}
+use Rattle.interface.specs.Sheet.{names, entries}
+use Rattle.interface.specs.Refusals.{
+  firstOf,
+  readerChecks,
+  scoreChecks,
+  sheetRefusal,
+  numbersRefusal,
+  linkageRefusal,
+  anchoredRefusal,
+  backRefusal,
+  readerRefusal,
+  scoreRefusal,
+}
+use Rattle.interface.specs.Calls.{hasName, nameOf, nameStart, startOf, behind}
+use Rattle.interface.specs.Sentences.{count}
+use Rattle.interface.specs.Tables.{NoneGiven, readerTable}
+use Rattle.interface.specs.TurnedAway.{NameHanded, TurnedAway}
+use Rattle.interface.proofs.Agree.{Says, and-says, not-says, like, eq-says, lt-says, agree-none, judged, judged-in-C}
+use Rattle.interface.proofs.AgreeText.{pieces-cut, parted}
+use Rattle.interface.proofs.AgreeTables.{
+  reader-agrees,
+  sheet-agrees,
+  numbers-agree,
+  linkage-agrees,
+  anchored-agrees,
+  back-agrees,
+  score-agrees,
+  reader-numbered,
+  sheet-numbered,
+  numbers-numbered,
+  linkage-numbered,
+  anchored-numbered,
+  back-numbered,
+  score-numbered,
+}
+use Rattle.interface.proofs.Starts.{spaces-before, no-feed-before}
+
+-- a name
+named : (sheet : List ℕ) (i : ℕ) → Says (hasName sheet i) (NoneGiven (readerTable sheet) × (i < entries sheet))
+unfolding hasName readerRefusal
+named sheet i =
+    let f = agree-none (reader-agrees sheet) (reader-numbered sheet) in
+    and-says (like (eq-says (firstOf (readerChecks sheet)) 0) (f .0) (f .1)) (lt-says i (entries sheet))
+
+handed : (sheet : List ℕ) (i : ℕ) {part : List ℕ} {start : ℕ} → part ≡ nameOf sheet i → start ≡ nameStart sheet i → NameHanded sheet i part start
+unfolding nameOf nameStart
+handed sheet i {part} {start} p q = record {
+  name = λ g h.
+      let e = T-true {b = hasName sheet i} (named sheet i .from (g, h)) in
+      let at : start ≡ startOf (names sheet) i = q ∙ rw e in
+      (p ∙ rw e, ap (λ (k : ℕ). count 32 (take k sheet)) at ∙ spaces-before sheet i h, ap (λ (k : ℕ). count 10 (take k sheet)) at ∙ no-feed-before sheet i h);
+  refused = λ f. let e = T-false {b = hasName sheet i} (not-says (named sheet i) .from (λ (g, _). f g)) in (p ∙ rw e, q ∙ rw e);
+  past = λ h. let e = T-false {b = hasName sheet i} (not-says (named sheet i) .from (λ (_, k). omega arith)) in (p ∙ rw e, q ∙ rw e);
+}
+
+pub turned-away : TurnedAway
+unfolding behind sheetRefusal readerRefusal numbersRefusal linkageRefusal anchoredRefusal backRefusal scoreRefusal
+turned-away = record {
+  parted = parted;
+  one-way = λ p q. sym (pieces-cut p) ∙ pieces-cut q;
+  sheet-call = λ {kind} {sheet} {lent} c.
+      judged (sheet-agrees kind sheet (length lent)) (sheet-numbered kind sheet (length lent)) (number _ _ (c .answered));
+  reader = λ {sheet} c. judged (reader-agrees sheet) (reader-numbered sheet) (number _ _ (c .answered));
+  numbers-call = λ {kind} {n} {l} {lentIndices} {indices} {lentSets} c.
+      judged (numbers-agree kind n l (length lentSets) (length lentIndices)) (numbers-numbered kind n l (length lentSets) (length lentIndices)) (number _ _ (c .answered));
+  linkage-call = λ {linkage} {n} {l} {lent} c. judged (linkage-agrees n l (length lent)) (linkage-numbered n l (length lent)) (number _ _ (c .answered));
+  anchored-call = λ {n} {x} {l} {lent} c. judged (anchored-agrees n x l (length lent)) (anchored-numbered n x l (length lent)) (number _ _ (c .answered));
+  back-call = λ {n} {x} {l} {lent} c. judged (back-agrees n x l (length lent)) (back-numbered n x l (length lent)) (number _ _ (c .answered));
+  in-C = λ c f. judged-in-C c f;
+  score-in-C = λ {n} {l} {i} {j} c. (firstOf (scoreChecks n l i j), c .answered, judged (score-agrees n l i j) (score-numbered n l i j) refl);
+  name-call = λ {sheet} {part} {at} {place} {i} c. (nameStart sheet i, handed sheet i (c .bytes) refl, c .lies);
+  name-in-C = λ {sheet} {i} c. (handed sheet i (c .bytes) (c .lies), ap length (c .bytes) ∙ sym (c .answered));
+}
+  where
+    number : {r : Answer} (k c : ℕ) → r ≡ answer k c → numberOf r ≡ k
+    number k c e = ap numberOf e ∙ number-answer k c

@@ -1,0 +1,65 @@
+-- Each call of document 01 answers the number that its table in words gives; the requests' calls are in
+-- interface/specs/Requests. And the name of an entry, which has no number.
+use mathlib.Core.Path.{_≡_}
+use mathlib.Core.List.{List, []}
+use Prim.Native.Nat.{ℕ, _+_, _<_, _≤_}
+use lib.IntN.{ℤ, pos}
+use lib.ListN.{length, getD, take, drop}
+use Rattle.clusters.specs.Linkage.{Linkage}
+use Rattle.answers.specs.declared.Answer.{Answer}
+use Rattle.answers.specs.Answers.{numberOf}
+use Rattle.interface.specs.Sheet.{names, entries}
+use Rattle.interface.specs.Calls.{SheetCall, InC, NumbersCall, LinkageCall, AnchoredCall, BackCall}
+use Rattle.interface.specs.Calls.{ReaderCall, NameCall, NameInC, ScoreInC}
+use Rattle.interface.specs.Sentences.{count, Pieces, Parted}
+use Rattle.interface.specs.Tables.{
+  Table,
+  NoneGiven,
+  Judged,
+  JudgedInC,
+  readerTable,
+  sheetTable,
+  numbersTable,
+  linkageTable,
+  anchoredTable,
+  backTable,
+  scoreTable,
+}
+
+-- "The name of an entry is handed back as its own part of the sheet; the answer is the empty part if checks 2 to 9
+-- refuse the sheet or the entry number, counted from 0, is n or more." Its own: before it are i spaces, and no line
+-- feed.
+pub record NameHanded (sheet : List ℕ) (i : ℕ) (part : List ℕ) (start : ℕ) : Type 0 where
+  pub name : NoneGiven (readerTable sheet) → i < entries sheet
+      → (part ≡ getD (names sheet) i []) × (count 32 (take start sheet) ≡ i) × (count 10 (take start sheet) ≡ 0)
+  pub refused : (NoneGiven (readerTable sheet) → ⊥) → (part ≡ []) × (start ≡ 0)
+  pub past : entries sheet ≤ i → (part ≡ []) × (start ≡ 0)
+
+pub record TurnedAway : Type 1 where
+  -- what the sentences speak of: the lines, names and values of a sheet by its bytes, in one way
+  pub parted : (sheet : List ℕ) → Parted sheet
+  pub one-way : {c : ℕ} {text : List ℕ} {v w : List (List ℕ)} → Pieces c text v → Pieces c text w → v ≡ w
+  -- each call; the C call is in `Demand1`
+  pub sheet-call : {kind : ℤ} {sheet lent after : List ℕ} {r : Answer} → SheetCall kind sheet lent r after
+      → Judged (sheetTable kind sheet (length lent)) (numberOf r)
+  pub reader : {sheet : List ℕ} {lent after : List ℤ} {r : Answer} → ReaderCall sheet lent r after
+      → Judged (readerTable sheet) (numberOf r)
+  pub numbers-call : {kind : ℤ} {n : ℕ} {l lentIndices indices : List ℤ} {lentSets sets : List ℕ} {r : Answer}
+      → NumbersCall kind n l lentSets lentIndices r sets indices
+      → Judged (numbersTable kind n l (length lentSets) (length lentIndices)) (numberOf r)
+  pub linkage-call : {linkage : Linkage} {n : ℕ} {l : List ℤ} {lent after : List ℕ} {r : Answer}
+      → LinkageCall linkage n l lent r after → Judged (linkageTable n l (length lent)) (numberOf r)
+  pub anchored-call : {n x : ℕ} {l lent after : List ℤ} {r : Answer} → AnchoredCall n x l lent r after
+      → Judged (anchoredTable n x l (length lent)) (numberOf r)
+  pub back-call : {n x : ℕ} {l lent after : List ℤ} {r : Answer} → BackCall n x l lent r after
+      → Judged (backTable n x l (length lent)) (numberOf r)
+  -- and each of these in C: what is said of every answer of a call is said of its number in C
+  pub in-C : {Outcome : Answer → Type 0} {r : ℤ} {table : Table} → InC Outcome r
+      → ((a : Answer) → Outcome a → Judged table (numberOf a)) → JudgedInC table r
+  -- those that answer otherwise: a score in C, and a name
+  pub score-in-C : {n : ℕ} {l : List ℤ} {i j : ℕ} {lent r after : ℤ} → ScoreInC n l i j lent r after
+      → (number : ℕ) × (r ≡ pos number) × Judged (scoreTable n l i j) number
+  pub name-call : {sheet part : List ℕ} {at place : ℕ × ℕ} {i : ℕ} → NameCall sheet at i part place
+      → (start : ℕ) × NameHanded sheet i part start × (place ≡ (at .0, start + at .1))
+  pub name-in-C : {sheet : List ℕ} {i r start : ℕ} → NameInC sheet i r start
+      → NameHanded sheet i (take r (drop start sheet)) start × (length (take r (drop start sheet)) ≡ r)
