@@ -13,9 +13,9 @@ use lib.Seq.{drop-cons, drop-drop, getD-drop}
 use Rattle.lists.specs.Lists.{all}
 use Rattle.lists.proofs.Lists.{drop-first, drop-others}
 use Rattle.interface.specs.Sheet.{longer, cut, lines, words}
+use Rattle.interface.specs.Calls.{pieceAt}
 use Rattle.interface.proofs.Pieces.{free, free-append, cut-last, cut-first, cut-front}
 use Rattle.interface.proofs.Values.{word-no-space, word-no-feed, cell-word}
-use Rattle.text.specs.Reading.{pieceAt}
 use Rattle.text.proofs.Pieces.{pieces-more}
 use Rattle.sheet.proofs.Lines.{pieces-from}
 use Rattle.accept.specs.Places.{part, cell, CellAt, At, After}

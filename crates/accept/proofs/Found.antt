@@ -11,11 +11,9 @@ use lib.ListN.{length, getD}
 use Rattle.lists.proofs.Tests.{true-T}
 use Rattle.pairs.specs.declared.Pair.{Pair}
 use Rattle.pairs.specs.Pairs.{listNumber}
+use Rattle.answers.specs.declared.Cursor.{Cursor}
 use Rattle.interface.specs.Sheet.{isCell, pairSaid}
-use Rattle.text.specs.Reading.{pieceAt, ValueCall}
-use Rattle.text.specs.declared.Cursor.{Cursor}
-use Rattle.text.specs.declared.ValueRead.{ValueRead}
-use Rattle.text.specs.declared.ValueRead.the-variants.{Value}
+use Rattle.interface.specs.Calls.{pieceAt}
 use Rattle.text.proofs.Pieces.{piece-step, piece-on, piece-part}
 use Rattle.text.proofs.Values.{Got}
 use lib.Seq.{take-all}

@@ -17,8 +17,8 @@ use Rattle.lists.proofs.Lists.{lt-below, all-in, all-places, below-more}
 use Rattle.lists.proofs.Tests.{T-true, true-T, T-false, and-T, T-and, or-T, eqb-yes}
 use Rattle.interface.specs.Sheet.{isUpper, isDigit, isName, cut, lines, names, entries, sameBytes, isAmong, hasEqual}
 use Rattle.interface.specs.Refusals.{wrongNames, equalNames}
+use Rattle.interface.specs.Calls.{pieceAt}
 use Rattle.interface.proofs.Pieces.{some-piece, all-append, all-free, same-bytes}
-use Rattle.text.specs.Reading.{pieceAt}
 use Rattle.sheet.proofs.Lines.{pieces-from}
 use Rattle.accept.specs.Places.{part}
 use Rattle.accept.specs.Names.{isNameByte, packed, NameRun, LineRead}

@@ -22,10 +22,10 @@ use Rattle.clusters.proofs.PairList.{rowStart-le, rowStart-suc, row-lt}
 use Rattle.clusters.proofs.Rows.{Rows, rows-row, rows-all}
 use Rattle.interface.specs.Sheet.{isName, isUpper, isDigit, isCell, pairSaid, cut, lines, names, words, entries, value, mirrored, pairs}
 use Rattle.interface.specs.Refusals.{mostEntries, isAllowed, isRow, wrongLength, wrongByte, wrongNames, wrongCount, wrongLines, wrongValues, readerChecks, readerRefusal}
+use Rattle.interface.specs.Calls.{pieceAt}
 use Rattle.interface.proofs.Refusals.{Gives, first-no, no-more}
 use Rattle.interface.proofs.Pieces.{joined-cut, all-joined}
 use Rattle.interface.proofs.Values.{name-word, cell-word, word-allowed}
-use Rattle.text.specs.Reading.{pieceAt}
 use Rattle.accept.specs.Places.{cell, At, Mirror, RowRead}
 use Rattle.accept.specs.Read.{PairsRead}
 use Rattle.accept.specs.Names.{NamesRead}

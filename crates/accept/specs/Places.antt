@@ -9,7 +9,7 @@ use lib.ListN.{length, getD, take, drop}
 use Rattle.lists.specs.Lists.{all}
 use Rattle.pairs.specs.Pairs.{listNumber}
 use Rattle.interface.specs.Sheet.{isDigit, isCell, numberFrom, pairSaid, cut, lines, words}
-use Rattle.text.specs.Reading.{pieceAt}
+use Rattle.interface.specs.Calls.{pieceAt}
 use Rattle.accept.specs.declared.CellRead.{CellRead}
 use Rattle.accept.specs.declared.CellRead.the-variants.{Cell, Unread}
 

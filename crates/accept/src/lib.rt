@@ -13,7 +13,7 @@ ghost use Rattle.interface.specs.Sheet.{value};
 ghost use Rattle.accept.specs.Places.{Run, Half, CellAt, BothAt, IfRead, At, RowRead};
 ghost use Rattle.accept.specs.Names.{NameRun, LineRead, NamesRead};
 ghost use Rattle.accept.specs.Read.{PairsRead};
-use text::ValueRead;
+use answers::ValueRead;
 
 // A value's number in the pair list and the length of its text; or no value is read.
 enum CellRead {

@@ -1,3 +1,4 @@
 pub mod Answers
 pub mod Shared
 pub mod Weighed
+pub mod Values

@@ -1,4 +1,5 @@
-// The answers of the calls on numbers, and what they say.
+// The answers of the calls, and what they say.
+use pairs::Pair;
 
 // How many slots were written, or the number of the refusal.
 pub enum Answer {
@@ -16,4 +17,15 @@ pub enum Shared {
 pub enum Weighed {
     Weight(i64),
     Refused(usize),
+}
+
+// A place in a line.
+pub struct Cursor {
+    pub at: usize,
+}
+
+// A pair and the place after it, or the line is refused.
+pub enum ValueRead {
+    Value(Pair, Cursor),
+    Refused,
 }

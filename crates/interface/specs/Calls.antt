@@ -7,6 +7,7 @@ use Prim.Native.Nat.{ℕ, zero, suc, _+_, _-_}
 use lib.IntN.{ℤ, pos, negℤ}
 use lib.Dec.{eqb, leb, ltb}
 use lib.ListN.{length, getD, take, drop}
+use Rattle.pairs.specs.declared.Carried.the-variants.{Scored}
 use Rattle.pairs.specs.declared.Pair.{Pair}
 use Rattle.pairs.specs.Pairs.{listNumber, pairOf}
 use Rattle.clusters.specs.PairList.{Similarity, rowStart, score, hasLength}
@@ -21,7 +22,9 @@ use Rattle.answers.specs.declared.Shared.{Shared}
 use Rattle.answers.specs.Shared.{sharedNumber, sharedSet, sharedLine, sharedAnswer}
 use Rattle.answers.specs.declared.Weighed.{Weighed}
 use Rattle.answers.specs.Weighed.{weighedNumber, weighedWeight, weighedAnswer}
-use Rattle.interface.specs.Sheet.{names, entries, pairs}
+use Rattle.answers.specs.declared.ValueRead.{ValueRead}
+use Rattle.answers.specs.Values.{readNumber, readPair, readPlace}
+use Rattle.interface.specs.Sheet.{space, cut, names, entries, isCell, pairSaid, pairs}
 use Rattle.interface.specs.Listing.{groupsFound, sheetListing}
 use Rattle.interface.specs.Pool.{poolText}
 use Rattle.interface.specs.Refusals.{
@@ -190,3 +193,14 @@ pub record WeightInC (n : ℕ) (l : List ℤ) (A : ℕ) (r weight : ℤ) : Type 
   pub outcome : WeightCall n l A given
   pub answered : r ≡ pos (weighedNumber given)
   pub written : weight ≡ weighedWeight given
+
+-- The value reader: "a value is read with the place after it, or the line is refused". What is read is the piece of the
+-- line that starts at a place, whatever the place: behind the line's end the piece is empty, and no cell.
+unfoldable pub pieceAt : ℕ → List ℕ → ℕ → List ℕ
+pieceAt c s at = getD (cut c (drop at s)) 0 []
+
+pub record ValueCall (line : List ℕ) (at : ℕ) (r : ValueRead) : Type 0 where
+  pub number : readNumber r ≡ cond (isCell (pieceAt space line at)) 0 8
+  pub pair : readPair r
+      ≡ cond (isCell (pieceAt space line at)) (pairSaid (pieceAt space line at)) (record { carries = Scored (pos 0) })
+  pub place : readPlace r ≡ cond (isCell (pieceAt space line at)) (at + length (pieceAt space line at)) 0

@@ -12,7 +12,7 @@ use lib.ListN.{length, getD, drop, length-drop}
 use lib.Seq.{drop-cons}
 use Rattle.interface.specs.Sheet.{cut, sameBytes, isAmong}
 use Rattle.interface.specs.Pool.{placeOf}
-use Rattle.text.specs.Reading.{pieceAt}
+use Rattle.interface.specs.Calls.{pieceAt}
 use Rattle.text.proofs.Pieces.{pieces-more, pieces-last}
 use Rattle.sheet.proofs.Lines.{pieces-from}
 

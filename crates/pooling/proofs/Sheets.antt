@@ -23,12 +23,11 @@ use Rattle.interface.specs.Sheet.{space, isName, cut, names, entries, pairs, is
 use Rattle.interface.specs.SheetText.{sheetText}
 use Rattle.interface.specs.Pool.{placeOn, poolScores, poolPairs, poolText}
 use Rattle.interface.specs.Refusals.{firstOf, wrongCount, namesDiffer, check14, check18, readerChecks, sheetChecks, poolChecks, poolRefusal}
-use Rattle.interface.specs.Calls.{PoolCall}
+use Rattle.interface.specs.Calls.{PoolCall, pieceAt}
 use Rattle.interface.proofs.Refusals.{gives, first-yes, first-no, first-none, first-front, first-back, right-count}
 use Rattle.interface.proofs.Places.{place-lt, same-names, by-count}
 use Rattle.interface.proofs.SheetTexts.{sheetText-cong}
 use Rattle.interface.proofs.PoolScores.{Sound, sound, pool-symmetric}
-use Rattle.text.specs.Reading.{pieceAt}
 use Rattle.sheet.proofs.Lines.{first-line}
 use Rattle.reader.proofs.Answers.{pairs-length}
 use Rattle.pooling.specs.Pools.{AcceptedSheet, PlacesOn, sheetOf, sumsRefusal, SumsWritten, bothRefusal, PairsPooled}

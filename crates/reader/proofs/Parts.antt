@@ -7,8 +7,7 @@ use native.Mathlib.Decide.{decLt}
 use lib.ListN.{length, getD, take, drop, length-drop}
 use lib.Seq.{take-take, drop-drop}
 use Rattle.interface.specs.Sheet.{cut, names, entries}
-use Rattle.interface.specs.Calls.{startOf}
-use Rattle.text.specs.Reading.{pieceAt}
+use Rattle.interface.specs.Calls.{startOf, pieceAt}
 use Rattle.text.proofs.Pieces.{piece-inside, piece-part, pieces-more, pieces-last}
 use Rattle.sheet.proofs.Lines.{line-inside, line-length, first-line}
 

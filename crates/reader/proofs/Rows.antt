@@ -14,8 +14,8 @@ use Rattle.lists.specs.Lists.{all}
 use Rattle.lists.proofs.Tests.{true-T, and-T}
 use Rattle.interface.specs.Sheet.{cut, isCell}
 use Rattle.interface.specs.Refusals.{isRow}
+use Rattle.interface.specs.Calls.{pieceAt}
 use Rattle.interface.proofs.Pieces.{some-piece}
-use Rattle.text.specs.Reading.{pieceAt}
 use Rattle.text.proofs.Pieces.{pieces-more, pieces-last}
 use Rattle.sheet.proofs.Lines.{pieces-from}
 use Rattle.reader.specs.Square.{numberSaid}

@@ -18,7 +18,7 @@ use Rattle.lists.proofs.Tests.{or-none}
 use Rattle.pairs.specs.Pairs.{numberFor, listNumber}
 use Rattle.clusters.specs.PairList.{Similarity}
 use Rattle.interface.specs.Sheet.{cut, isLoneMinus, valueOf, pairSaid, lines, entries, words, value}
-use Rattle.text.specs.Reading.{pieceAt}
+use Rattle.interface.specs.Calls.{pieceAt}
 use Rattle.text.proofs.Pieces.{piece-part, pieces-more, pieces-last}
 use Rattle.interface.specs.Refusals.{isRow, wrongLines, wrongValues}
 use Rattle.reader.specs.Square.{numberSaid, square}

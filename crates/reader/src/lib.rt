@@ -14,7 +14,7 @@ ghost use Rattle.reader.specs.Square.{numberSaid, square, Holds};
 ghost use Rattle.reader.specs.Names.{NamePart};
 ghost use Rattle.reader.specs.Own.{SheetRead};
 use answers::Answer;
-use text::ValueRead;
+use answers::ValueRead;
 
 // Reads a line of n values into the slots from base on; answers 8 if the line is refused, else 0.
 fn read_row(line: &[u8], n: usize, base: usize, values: &mut [i32]) -> usize

@@ -13,8 +13,8 @@ use Rattle.lists.specs.Lists.{all}
 use Rattle.lists.proofs.Tests.{cond-elim}
 use Rattle.interface.specs.Sheet.{longer, cut, isName, lines, names, entries}
 use Rattle.interface.specs.Refusals.{wrongNames, wrongLines}
+use Rattle.interface.specs.Calls.{pieceAt}
 use Rattle.interface.proofs.Pieces.{some-piece}
-use Rattle.text.specs.Reading.{pieceAt}
 use Rattle.text.proofs.Pieces.{piece-part, piece-inside, pieces-more, pieces-last}
 
 -- a list with an element is its first and the others

@@ -10,8 +10,8 @@ use lib.ListN.{length, getD, drop, drop-of-length-le, length-drop}
 use Rattle.lists.specs.Lists.{all}
 use Rattle.lists.proofs.Tests.{T-false}
 use Rattle.interface.specs.Sheet.{cut, isName, sameBytes, isAmong, hasEqual}
+use Rattle.interface.specs.Calls.{pieceAt}
 use Rattle.interface.proofs.Pieces.{same-bytes}
-use Rattle.text.specs.Reading.{pieceAt}
 use Rattle.text.proofs.Pieces.{here, pieces-more, pieces-last}
 use Rattle.sheet.proofs.Lines.{pieces-from}
 

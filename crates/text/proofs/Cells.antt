@@ -4,19 +4,20 @@ use mathlib.Core.Bool.{Bool, true, false, cond, true≢false}
 use mathlib.Core.List.{List, [], _∷_}
 use Prim.Native.Nat.{ℕ, suc, _+_, _≤_, _<_}
 use native.Mathlib.Omega.{arith}
-use borrow.Author.Tests.{eqb-true, ne-eqb}
-use lib.Dec.{eqb}
+use borrow.Author.Tests.{eqb-true, ne-eqb, ltb-true, ltb-false}
+use lib.Dec.{eqb, ltb}
 use lib.IntN.{ℤ}
 use lib.ListN.{length, getD, drop}
 use Rattle.pairs.specs.declared.Carried.the-variants.{Scored, Unscored}
+use Rattle.answers.specs.declared.Cursor.{Cursor}
+use Rattle.answers.specs.declared.ValueRead.{ValueRead}
+use Rattle.answers.specs.declared.ValueRead.the-variants.{Value, Refused}
 use Rattle.interface.specs.Sheet.{isNumeral, wholePart, isPoints, isValue, isLoneMinus, isCell, valueOf, pairSaid}
+use Rattle.interface.specs.Calls.{pieceAt}
 use Rattle.interface.proofs.Values.{plain-lone}
-use Rattle.text.specs.Reading.{pieceAt, isEnd, numberAt}
-use Rattle.text.specs.declared.Cursor.{Cursor}
+use Rattle.text.specs.Reading.{isEnd, numberAt}
 use Rattle.text.specs.declared.NumberRead.{NumberRead}
 use Rattle.text.specs.declared.NumberRead.the-variants.{Number, IllFormed}
-use Rattle.text.specs.declared.ValueRead.{ValueRead}
-use Rattle.text.specs.declared.ValueRead.the-variants.{Value, Refused}
 use Rattle.text.proofs.Pieces.{piece-none, piece-step}
 use Rattle.text.proofs.Words.{and-both}
 use Rattle.text.proofs.Numerals.{first-byte, ends-empty}
@@ -36,6 +37,14 @@ module _ (s : List ℕ) (at : ℕ) where
   lone-is h e =
       let q : pieceAt 32 s at ≡ 45 ∷ pieceAt 32 s (at + 1) = piece-step 32 s at h (λ z. absurd (omega (arith, e, z))) ∙ rw e in
       ends-empty (drop (at + 1) s) ∙ sym (ap isLoneMinus q)
+
+  -- it stands before the end
+  pub lone-inside : isLoneMinus (pieceAt 32 s at) ≡ true → at < length s
+  lone-inside e = go (ltb at (length s)) refl
+    where
+      go : (x : Bool) → ltb at (length s) ≡ x → at < length s
+      go true t = ltb-true at (length s) t
+      go false t = absurd (true≢false (sym e ∙ sym (lone-none (ltb-false at (length s) t))))
 
 lone-length : (w : List ℕ) → isLoneMinus w ≡ true → length w ≡ 1
 unfolding isLoneMinus

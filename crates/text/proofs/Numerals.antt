@@ -12,8 +12,9 @@ use lib.ListN.{length, getD, drop, drop-of-length-le, length-drop}
 use lib.Seq.{getD-drop}
 use Rattle.lists.specs.Lists.{all}
 use Rattle.interface.specs.Sheet.{point, isDigit, isNumeral, wholePart, digitValue, numberFrom}
+use Rattle.interface.specs.Calls.{pieceAt}
 use Rattle.interface.proofs.Digits.{ten-bound}
-use Rattle.text.specs.Reading.{pieceAt, digits, readOn, isEnd}
+use Rattle.text.specs.Reading.{digits, readOn, isEnd}
 use Rattle.text.specs.declared.Digits.{Digits}
 use Rattle.text.proofs.Pieces.{here, piece-none, piece-stop, piece-step}
 use Rattle.text.proofs.Words.{and-both, empty}

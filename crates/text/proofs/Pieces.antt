@@ -12,8 +12,8 @@ use lib.ListN.{length, getD, take, drop, length-drop, drop-of-length-le}
 use lib.Seq.{drop-cons, drop-drop, take-all}
 use Rattle.lists.proofs.Tests.{cond-elim}
 use Rattle.interface.specs.Sheet.{longer, cut}
+use Rattle.interface.specs.Calls.{pieceAt}
 use Rattle.interface.proofs.Pieces.{some-piece}
-use Rattle.text.specs.Reading.{pieceAt}
 
 -- the list from a place on is its first byte and the list from the next place on
 pub here : (s : List ℕ) (i : ℕ) → i < length s → drop i s ≡ getD s i 0 ∷ drop (i + 1) s

@@ -9,11 +9,12 @@ use lib.ListN.{length}
 use Rattle.pairs.specs.declared.Carried.the-variants.{Scored}
 use Rattle.pairs.specs.declared.Pair.{Pair}
 use Rattle.pairs.specs.Pairs.{listNumber}
+use Rattle.answers.specs.declared.Cursor.{Cursor}
+use Rattle.answers.specs.declared.ValueRead.{ValueRead}
+use Rattle.answers.specs.declared.ValueRead.the-variants.{Value, Refused}
+use Rattle.answers.specs.Values.{readNumber, readPair, readPlace}
 use Rattle.interface.specs.Sheet.{space, isCell, pairSaid}
-use Rattle.text.specs.Reading.{pieceAt, refusalOf, pairIn, placeIn, ValueCall}
-use Rattle.text.specs.declared.Cursor.{Cursor}
-use Rattle.text.specs.declared.ValueRead.{ValueRead}
-use Rattle.text.specs.declared.ValueRead.the-variants.{Value, Refused}
+use Rattle.interface.specs.Calls.{pieceAt, ValueCall}
 
 -- a pair if the test passes, else none
 abbrev pub valueIf : Bool → Pair → (place : ℕ) → ValueRead
@@ -25,15 +26,15 @@ valueAt line at = valueIf (isCell (pieceAt space line at)) (pairSaid (pieceAt sp
 -- the three definitions by cases tell such a value
 abbrev Tells : Bool → Pair → ℕ → ValueRead → Type 0
 Tells test p place r =
-    (refusalOf r ≡ cond test 0 8) × (pairIn r ≡ cond test p (record { carries = Scored (pos 0) })) × (placeIn r ≡ cond test place 0)
+    (readNumber r ≡ cond test 0 8) × (readPair r ≡ cond test p (record { carries = Scored (pos 0) })) × (readPlace r ≡ cond test place 0)
 
 tells : (test : Bool) (p : Pair) (place : ℕ) → Tells test p place (valueIf test p place)
-unfolding refusalOf pairIn placeIn
+unfolding readNumber readPair readPlace
 tells true p place = (refl, refl, refl)
 tells false p place = (refl, refl, refl)
 
 told : (test : Bool) (p : Pair) (place : ℕ) (r : ValueRead) → Tells test p place r → r ≡ valueIf test p place
-unfolding refusalOf pairIn placeIn
+unfolding readNumber readPair readPlace
 told true p place (Value q next) (n, e, a) = ap₂ (λ (x : Pair) (k : ℕ). Value x (record { at = k })) e a
 told true p place Refused (n, e, a) = absurd (omega arith)
 told false p place (Value q next) (n, e, a) = absurd (omega arith)

@@ -15,7 +15,10 @@ ghost use Rattle.interface.specs.Sheet.{
   isLoneMinus,
   sameBytes,
 };
-ghost use Rattle.text.specs.Reading.{inClass, pieceAt, digits, readOn, isEnd, signedRead, numberAt, ValueCall};
+ghost use Rattle.interface.specs.Calls.{pieceAt, ValueCall};
+ghost use Rattle.text.specs.Reading.{inClass, digits, readOn, isEnd, signedRead, numberAt};
+use answers::Cursor;
+use answers::ValueRead;
 use pairs::Carried;
 use pairs::Pair;
 
@@ -23,17 +26,6 @@ use pairs::Pair;
 pub enum Class {
     NameByte,
     Allowed,
-}
-
-// A place in a line.
-pub struct Cursor {
-    pub at: usize,
-}
-
-// A pair and the place after it, or the line is refused.
-pub enum ValueRead {
-    Value(Pair, Cursor),
-    Refused,
 }
 
 // A number and the place after it, or no number is well formed.
@@ -261,7 +253,6 @@ fn signed(negative: bool, halves: u32, end: usize) -> NumberRead
 // minus, behind it an optional `.5`, which is looked for last, since most values have none. That the line goes on
 // behind the minus is tested first: a value then takes 5 instructions less.
 fn read_number(line: &[u8], at: usize) -> NumberRead
-    requires { ⌜ at ≤ length (now line) ⌝ }
     ensures { λ r. ⌜ r ≡ numberAt (now (line .entry)) at ⌝ }
 {
     if at >= line.len() {
@@ -303,7 +294,6 @@ fn is_lone_minus(line: &[u8], at: usize) -> bool
 // The pair that stands at a place of a line, with the place after it: a number, or the mark, which is looked for last,
 // so that a number takes no more time.
 pub fn read_value(line: &[u8], at: usize) -> ValueRead
-    requires { ⌜ at ≤ length (now line) ⌝ }
     ensures { λ r. ⌜ ValueCall (now (line .entry)) at r ⌝ }
 {
     let NumberRead::Number(number, next) = read_number(line, at) else {

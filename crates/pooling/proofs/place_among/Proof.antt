@@ -5,7 +5,7 @@ use borrow.Author.Needs.{needs}
 use lib.ListN.{length, drop}
 use Rattle.interface.specs.Sheet.{cut, sameBytes}
 use Rattle.interface.specs.Pool.{placeOf}
-use Rattle.text.specs.Reading.{pieceAt}
+use Rattle.interface.specs.Calls.{pieceAt}
 use Rattle.text.proofs.Pieces.{piece-inside, piece-part}
 use Rattle.pooling.proofs.Pieces.{place-here, place-last, place-next}
 use Rattle.pooling.proofs.place_among.Statement.{statement}

@@ -12,8 +12,8 @@ use mir.Val.{ofZ, toZ}
 use mir.Syntax.{w32}
 use Rattle.interface.specs.Sheet.{cut}
 use Rattle.interface.specs.Refusals.{isRow}
+use Rattle.interface.specs.Calls.{pieceAt}
 use Rattle.integers.proofs.Held.{passed}
-use Rattle.text.specs.Reading.{pieceAt}
 use Rattle.reader.specs.Square.{numberSaid}
 use Rattle.text.proofs.Values.{Got, value-got, value-not}
 use Rattle.reader.proofs.Rows.{

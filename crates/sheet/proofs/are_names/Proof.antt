@@ -6,7 +6,7 @@ use borrow.Author.Needs.{needs}
 use lib.ListN.{length, drop}
 use Rattle.lists.specs.Lists.{all}
 use Rattle.interface.specs.Sheet.{cut, isName}
-use Rattle.text.specs.Reading.{pieceAt}
+use Rattle.interface.specs.Calls.{pieceAt}
 use Rattle.text.proofs.Pieces.{piece-inside, piece-part}
 use Rattle.sheet.proofs.Names.{not-name, last-name, more-names}
 use Rattle.sheet.proofs.are_names.Statement.{statement}

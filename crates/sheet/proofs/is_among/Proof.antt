@@ -4,7 +4,7 @@ use native.Mathlib.Omega.{arith}
 use borrow.Author.Needs.{needs}
 use lib.ListN.{length, drop}
 use Rattle.interface.specs.Sheet.{cut, sameBytes, isAmong}
-use Rattle.text.specs.Reading.{pieceAt}
+use Rattle.interface.specs.Calls.{pieceAt}
 use Rattle.text.proofs.Pieces.{piece-inside, piece-part}
 use Rattle.sheet.proofs.Names.{is-among, last-among, more-among}
 use Rattle.sheet.proofs.is_among.Statement.{statement}

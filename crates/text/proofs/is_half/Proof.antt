@@ -5,7 +5,8 @@ use native.Mathlib.Omega.{arith}
 use borrow.Author.Needs.{needs}
 use lib.ListN.{getD, drop}
 use Rattle.interface.specs.Sheet.{halfText, sameBytes}
-use Rattle.text.specs.Reading.{pieceAt, isEnd}
+use Rattle.interface.specs.Calls.{pieceAt}
+use Rattle.text.specs.Reading.{isEnd}
 use Rattle.text.proofs.Halves.{same-none, same-other, same-step, same-end}
 use Rattle.text.proofs.is_half.Statement.{statement}
 use Rattle.text.proofs.is_half.Tie as tie

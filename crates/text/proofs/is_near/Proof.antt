@@ -6,7 +6,7 @@ use borrow.Author.Tests.{le-ltb}
 use borrow.Author.Needs.{needs}
 use lib.Dec.{eqb, ltb}
 use lib.ListN.{length, getD}
-use Rattle.text.specs.Reading.{pieceAt}
+use Rattle.interface.specs.Calls.{pieceAt}
 use Rattle.text.proofs.Pieces.{piece-near}
 use Rattle.text.proofs.is_near.Statement.{statement}
 use Rattle.text.proofs.is_near.Tie as tie

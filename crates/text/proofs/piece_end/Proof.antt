@@ -3,7 +3,7 @@ use Prim.Native.Nat.{_+_, _-_, _≤_, _<_}
 use native.Mathlib.Omega.{arith}
 use borrow.Author.Needs.{needs}
 use lib.ListN.{length}
-use Rattle.text.specs.Reading.{pieceAt}
+use Rattle.interface.specs.Calls.{pieceAt}
 use Rattle.text.proofs.Pieces.{piece-stop, piece-step, piece-none}
 use Rattle.text.proofs.piece_end.Statement.{statement}
 use Rattle.text.proofs.piece_end.Tie as tie

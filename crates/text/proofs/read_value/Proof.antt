@@ -1,8 +1,9 @@
 use mathlib.Core.Path.{sym, _∙_}
+use native.Mathlib.Omega.{arith}
 use borrow.Author.Needs.{needs, sfits-of}
 use mir.Facts.{toZ-ofZ}
 use Rattle.text.proofs.Values.{value-call}
-use Rattle.text.proofs.Cells.{mark-at, number-at, none-at}
+use Rattle.text.proofs.Cells.{lone-inside, mark-at, number-at, none-at}
 use Rattle.text.proofs.read_value.Statement.{statement}
 use Rattle.text.proofs.read_value.Tie as tie
 
@@ -19,7 +20,7 @@ is-lone-minus-requires : tie.Need-is-lone-minus-requires
 is-lone-minus-requires c κs = search needs
 
 add-t9 : tie.Need-add-t9
-add-t9 c = search needs
+add-t9 c = omega (arith, lone-inside _ _ (sym (c .before .is-lone-minus .ensures) ∙ c .if1 .taken))
 
 returns : tie.Need-returns
 returns c = value-call (mark-at _ _ (sym (c .before .is-lone-minus .ensures) ∙ c .if1 .taken))
