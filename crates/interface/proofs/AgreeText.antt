@@ -302,7 +302,7 @@ seven-says s = record { to = λ t. fore (or-T (not (eqb (length (cut 10 s)) (n +
         let one : n + 1 ≡ suc n = omega arith in omega (arith, h, ap (λ (k : ℕ). length (getD (cut 10 s) k [])) one, q)))
 
 -- 8
-formed-says : (w : List ℕ) → Says (isCell w) (Cell w)
+pub formed-says : (w : List ℕ) → Says (isCell w) (Cell w)
 formed-says w = record { to = λ t. (carried (listNumber (pairSaid w)), cell-says w t); from = λ (_, says). says-cell says }
 
 row-says : (n : ℕ) (ws : List (List ℕ)) → Says (isRow n ws) ((length ws ≡ n) × ((w : List ℕ) → w ∈ ws → Cell w))

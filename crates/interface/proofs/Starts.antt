@@ -5,8 +5,8 @@ use mathlib.Core.List.{List, [], _∷_, _++_, append-nil, append-assoc, List·Me
 use Prim.Native.Nat.{ℕ, zero, suc, _+_, _*_, _<_}
 use native.Mathlib.Omega.{arith}
 use lib.Dec.{eqb}
-use lib.ListN.{length, length-append, getD, take}
-use lib.Seq.{take-append-add}
+use lib.ListN.{length, length-append, getD, take, drop}
+use lib.Seq.{take-append-add, take-append-seam, drop-append-add}
 use Rattle.lists.specs.Lists.{_∈_, keep}
 use Rattle.lists.proofs.Lists.{keep-append, getD-in}
 use Rattle.interface.specs.Sheet.{cut, lines, names, entries}
@@ -61,6 +61,22 @@ before d c e one (w ∷ v ∷ ws) t f (suc i) h =
     ap (count d) taken ∙ count-append d w ((c ∷ []) ++ take k (rest ++ t))
     ∙ omega (arith, f w (List·Memᴰ·head refl), count-append d (c ∷ []) (take k (rest ++ t)), one, before d c e one (v ∷ ws) t (λ u m. f u (List·Memᴰ·tail m)) i (omega arith))
 
+-- and there stands piece i
+piece-there : (c : ℕ) (ws : List (List ℕ)) (t : List ℕ) (i : ℕ) → i < length ws
+    → take (length (getD ws i [])) (drop (startOf ws i) (joined c ws ++ t)) ≡ getD ws i []
+unfolding joined startOf
+piece-there c [] t i h = absurd (omega arith)
+piece-there c (w ∷ []) t zero h = take-append-seam w t
+piece-there c (w ∷ []) t (suc i) h = absurd (omega arith)
+piece-there c (w ∷ v ∷ ws) t zero h =
+    ap (take (length w)) (append-assoc w (c ∷ joined c (v ∷ ws)) t) ∙ take-append-seam w (c ∷ (joined c (v ∷ ws) ++ t))
+piece-there c (w ∷ v ∷ ws) t (suc i) h =
+    let rest = joined c (v ∷ ws) in
+    let k = startOf (v ∷ ws) i in
+    let q : length w + 1 + k ≡ length w + suc k = omega arith in
+    ap (take (length (getD (v ∷ ws) i []))) (ap₂ (λ (j : ℕ) (l : List ℕ). drop j l) q (append-assoc w (c ∷ rest) t) ∙ drop-append-add w (c ∷ (rest ++ t)) (suc k))
+    ∙ piece-there c (v ∷ ws) t i (omega arith)
+
 -- the first of some pieces stands at the front
 front : (c : ℕ) (ls : List (List ℕ)) → 0 < length ls → (t : List ℕ) × (joined c ls ≡ getD ls 0 [] ++ t)
 unfolding joined
@@ -82,6 +98,12 @@ module _ (s : List ℕ) (i : ℕ) (h : i < entries s) where
       let (t, q) = parts in
       ap (λ (l : List ℕ). count d (take (startOf (names s) i) l)) q
       ∙ before d 32 e one (names s) t (λ w m. none-counted d w .1 (f w m)) i h
+
+  pub name-there : take (length (getD (names s) i [])) (drop (startOf (names s) i) s) ≡ getD (names s) i []
+  unfolding entries
+  name-there =
+      let (t, q) = parts in
+      ap (λ (l : List ℕ). take (length (getD (names s) i [])) (drop (startOf (names s) i) l)) q ∙ piece-there 32 (names s) t i h
 
   pub spaces-before : count 32 (take (startOf (names s) i) s) ≡ i
   unfolding names keep

@@ -1,14 +1,19 @@
 -- What each call of document 01 answers, by its table in words; and the name of an entry.
-use mathlib.Core.Path.{_≡_, refl, sym, ap, _∙_}
-use mathlib.Core.List.{List}
+use mathlib.Core.Path.{_≡_, refl, sym, ap, ap₂, _∙_, subst}
+use mathlib.Core.Bool.{cond}
+use mathlib.Core.List.{List, [], _∷_}
 use Prim.Native.Nat.{ℕ, _<_}
 use native.Mathlib.Omega.{arith}
-use lib.ListN.{length, take}
+use lib.ListN.{length, getD, take, drop}
 use Rattle.lists.proofs.Tests.{T-true, T-false}
+use Rattle.pairs.specs.declared.Carried.{Carried}
+use Rattle.pairs.specs.declared.Pair.{Pair}
+use Rattle.pairs.specs.declared.Carried.the-variants.{Scored, Unscored}
 use Rattle.answers.specs.declared.Answer.{Answer}
+use Rattle.answers.specs.declared.ValueRead.{ValueRead}
 use Rattle.answers.specs.Answers.{numberOf, answer}
 use Rattle.answers.proofs.Answers.{number-answer}
-use Rattle.interface.specs.Sheet.{names, entries}
+use Rattle.interface.specs.Sheet.{isLoneMinus, isCell, valueOf, pairSaid, cut, names, entries}
 use Rattle.interface.specs.Refusals.{
   firstOf,
   readerChecks,
@@ -21,12 +26,16 @@ use Rattle.interface.specs.Refusals.{
   readerRefusal,
   scoreRefusal,
 }
-use Rattle.interface.specs.Calls.{hasName, nameOf, nameStart, startOf, behind}
-use Rattle.interface.specs.Sentences.{count}
+use Rattle.interface.specs.Calls.{hasName, nameOf, nameStart, startOf, behind, pieceAt, ValueCall}
+use Rattle.interface.specs.Sentences.{CellSays, points, lone-minus, count, Pieces}
 use Rattle.interface.specs.Tables.{NoneGiven, readerTable}
-use Rattle.interface.specs.TurnedAway.{NameHanded, TurnedAway}
+use Rattle.interface.specs.TurnedAway.{NameHanded, ValueHanded, TurnedAway}
+use Rattle.interface.proofs.Pieces.{some-piece}
+use Rattle.interface.proofs.Values.{signed-lone}
+use Rattle.interface.proofs.InPoints.{says-written, says-value}
+use Rattle.interface.proofs.Cells.{says-cell}
 use Rattle.interface.proofs.Agree.{Says, and-says, not-says, like, eq-says, lt-says, agree-none, judged, judged-in-C}
-use Rattle.interface.proofs.AgreeText.{pieces-cut, parted}
+use Rattle.interface.proofs.AgreeText.{cut-pieces, pieces-cut, parted, formed-says}
 use Rattle.interface.proofs.AgreeTables.{
   reader-agrees,
   sheet-agrees,
@@ -43,7 +52,7 @@ use Rattle.interface.proofs.AgreeTables.{
   back-numbered,
   score-numbered,
 }
-use Rattle.interface.proofs.Starts.{spaces-before, no-feed-before}
+use Rattle.interface.proofs.Starts.{name-there, spaces-before, no-feed-before}
 
 -- a name
 named : (sheet : List ℕ) (i : ℕ) → Says (hasName sheet i) (NoneGiven (readerTable sheet) × (i < entries sheet))
@@ -58,10 +67,43 @@ handed sheet i {part} {start} p q = record {
   name = λ g h.
       let e = T-true {b = hasName sheet i} (named sheet i .from (g, h)) in
       let at : start ≡ startOf (names sheet) i = q ∙ rw e in
-      (p ∙ rw e, ap (λ (k : ℕ). count 32 (take k sheet)) at ∙ spaces-before sheet i h, ap (λ (k : ℕ). count 10 (take k sheet)) at ∙ no-feed-before sheet i h);
+      let is : part ≡ getD (names sheet) i [] = p ∙ rw e in
+      let there : take (length part) (drop start sheet) ≡ part =
+      ap₂ (λ (w : List ℕ) (k : ℕ). take (length w) (drop k sheet)) is at ∙ name-there sheet i h ∙ sym is in
+      (is, there, ap (λ (k : ℕ). count 32 (take k sheet)) at ∙ spaces-before sheet i h, ap (λ (k : ℕ). count 10 (take k sheet)) at ∙ no-feed-before sheet i h);
   refused = λ f. let e = T-false {b = hasName sheet i} (not-says (named sheet i) .from (λ (g, _). f g)) in (p ∙ rw e, q ∙ rw e);
   past = λ h. let e = T-false {b = hasName sheet i} (not-says (named sheet i) .from (λ (_, k). omega arith)) in (p ∙ rw e, q ∙ rw e);
 }
+
+-- a value
+pair-says : {w : List ℕ} {c : Carried} → CellSays w c → pairSaid w ≡ record { carries = c }
+unfolding pairSaid isLoneMinus
+pair-says (points {w} {z} p h) =
+    ap {B = Pair} (λ b. record { carries = cond b Unscored (Scored (valueOf w)) }) (ap isLoneMinus (says-written p) ∙ signed-lone z)
+    ∙ ap {B = Pair} (λ y. record { carries = Scored y }) (says-value p)
+pair-says lone-minus = refl
+
+handed-value : {line : List ℕ} {at : ℕ} {r : ValueRead} → ValueCall line at r → ValueHanded line at r
+unfolding pieceAt
+handed-value {line} {at} {r} c = record {
+  piece = pieceAt 32 line at;
+  others = tail (cut 32 (drop at line));
+  parted = subst (Pieces 32 (drop at line)) (whole (cut 32 (drop at line)) (some-piece 32 (drop at line))) (cut-pieces 32 (drop at line));
+  value = λ d says.
+      let e = T-true {b = isCell (pieceAt 32 line at)} (says-cell says) in
+      (c .number ∙ rw e, c .pair ∙ rw e (pair-says says), c .place ∙ rw e);
+  refused = λ f.
+      let e = T-false {b = isCell (pieceAt 32 line at)} (not-says (formed-says (pieceAt 32 line at)) .from f) in
+      (c .number ∙ rw e, c .pair ∙ rw e, c .place ∙ rw e);
+}
+  where
+    tail : List (List ℕ) → List (List ℕ)
+    tail [] = []
+    tail (w ∷ ws) = ws
+
+    whole : (ws : List (List ℕ)) → 0 < length ws → ws ≡ getD ws 0 [] ∷ tail ws
+    whole [] h = absurd (omega arith)
+    whole (w ∷ ws) h = refl
 
 pub turned-away : TurnedAway
 unfolding behind sheetRefusal readerRefusal numbersRefusal linkageRefusal anchoredRefusal backRefusal scoreRefusal
@@ -80,6 +122,7 @@ turned-away = record {
   score-in-C = λ {n} {l} {i} {j} c. (firstOf (scoreChecks n l i j), c .answered, judged (score-agrees n l i j) (score-numbered n l i j) refl);
   name-call = λ {sheet} {part} {at} {place} {i} c. (nameStart sheet i, handed sheet i (c .bytes) refl, c .lies);
   name-in-C = λ {sheet} {i} c. (handed sheet i (c .bytes) (c .lies), ap length (c .bytes) ∙ sym (c .answered));
+  value-call = handed-value;
 }
   where
     number : {r : Answer} (k c : ℕ) → r ≡ answer k c → numberOf r ≡ k

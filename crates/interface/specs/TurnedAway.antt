@@ -1,17 +1,21 @@
 -- Each call of document 01 answers the number that its table in words gives; the requests' calls are in
--- interface/specs/Requests. And the name of an entry, which has no number.
+-- interface/specs/Requests. And the name of an entry, which has no number, and a value that is read.
 use mathlib.Core.Path.{_≡_}
-use mathlib.Core.List.{List, []}
+use mathlib.Core.List.{List, [], _∷_}
 use Prim.Native.Nat.{ℕ, _+_, _<_, _≤_}
 use lib.IntN.{ℤ, pos}
 use lib.ListN.{length, getD, take, drop}
+use Rattle.pairs.specs.declared.Carried.{Carried}
+use Rattle.pairs.specs.declared.Carried.the-variants.{Scored}
 use Rattle.clusters.specs.Linkage.{Linkage}
 use Rattle.answers.specs.declared.Answer.{Answer}
 use Rattle.answers.specs.Answers.{numberOf}
+use Rattle.answers.specs.declared.ValueRead.{ValueRead}
+use Rattle.answers.specs.Values.{readNumber, readPair, readPlace}
 use Rattle.interface.specs.Sheet.{names, entries}
 use Rattle.interface.specs.Calls.{SheetCall, InC, NumbersCall, LinkageCall, AnchoredCall, BackCall}
-use Rattle.interface.specs.Calls.{ReaderCall, NameCall, NameInC, ScoreInC}
-use Rattle.interface.specs.Sentences.{count, Pieces, Parted}
+use Rattle.interface.specs.Calls.{ReaderCall, NameCall, NameInC, ScoreInC, ValueCall}
+use Rattle.interface.specs.Sentences.{CellSays, Cell, count, Pieces, Parted}
 use Rattle.interface.specs.Tables.{
   Table,
   NoneGiven,
@@ -27,13 +31,25 @@ use Rattle.interface.specs.Tables.{
 }
 
 -- "The name of an entry is handed back as its own part of the sheet; the answer is the empty part if checks 2 to 9
--- refuse the sheet or the entry number, counted from 0, is n or more." Its own: before it are i spaces, and no line
--- feed.
+-- refuse the sheet or the entry number, counted from 0, is n or more." Its own: there it stands, and before it are i
+-- spaces and no line feed.
 pub record NameHanded (sheet : List ℕ) (i : ℕ) (part : List ℕ) (start : ℕ) : Type 0 where
   pub name : NoneGiven (readerTable sheet) → i < entries sheet
-      → (part ≡ getD (names sheet) i []) × (count 32 (take start sheet) ≡ i) × (count 10 (take start sheet) ≡ 0)
+      → (part ≡ getD (names sheet) i []) × (take (length part) (drop start sheet) ≡ part)
+      × (count 32 (take start sheet) ≡ i) × (count 10 (take start sheet) ≡ 0)
   pub refused : (NoneGiven (readerTable sheet) → ⊥) → (part ≡ []) × (start ≡ 0)
   pub past : entries sheet ≤ i → (part ≡ []) × (start ≡ 0)
+
+-- "a value is read with the place after it, or the line is refused": the value is the piece from a place of the line to
+-- the next space or the line's end; a refusal is 8, and reads a score of 0
+pub record ValueHanded (line : List ℕ) (at : ℕ) (r : ValueRead) : Type 0 where
+  pub piece : List ℕ
+  pub others : List (List ℕ)
+  pub parted : Pieces 32 (drop at line) (piece ∷ others)
+  pub value : (c : Carried) → CellSays piece c
+      → (readNumber r ≡ 0) × (readPair r ≡ record { carries = c }) × (readPlace r ≡ at + length piece)
+  pub refused : (Cell piece → ⊥)
+      → (readNumber r ≡ 8) × (readPair r ≡ record { carries = Scored (pos 0) }) × (readPlace r ≡ 0)
 
 pub record TurnedAway : Type 1 where
   -- what the sentences speak of: the lines, names and values of a sheet by its bytes, in one way
@@ -56,10 +72,11 @@ pub record TurnedAway : Type 1 where
   -- and each of these in C: what is said of every answer of a call is said of its number in C
   pub in-C : {Outcome : Answer → Type 0} {r : ℤ} {table : Table} → InC Outcome r
       → ((a : Answer) → Outcome a → Judged table (numberOf a)) → JudgedInC table r
-  -- those that answer otherwise: a score in C, and a name
+  -- those that answer otherwise: a score in C, a name, and a value
   pub score-in-C : {n : ℕ} {l : List ℤ} {i j : ℕ} {lent r after : ℤ} → ScoreInC n l i j lent r after
       → (number : ℕ) × (r ≡ pos number) × Judged (scoreTable n l i j) number
   pub name-call : {sheet part : List ℕ} {at place : ℕ × ℕ} {i : ℕ} → NameCall sheet at i part place
       → (start : ℕ) × NameHanded sheet i part start × (place ≡ (at .0, start + at .1))
   pub name-in-C : {sheet : List ℕ} {i r start : ℕ} → NameInC sheet i r start
       → NameHanded sheet i (take r (drop start sheet)) start × (length (take r (drop start sheet)) ≡ r)
+  pub value-call : {line : List ℕ} {at : ℕ} {r : ValueRead} → ValueCall line at r → ValueHanded line at r
