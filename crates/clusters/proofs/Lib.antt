@@ -29,4 +29,5 @@ pub mod Pooled
 pub mod Quartets
 pub mod Crossing
 pub mod Refined
+pub mod Triples
 pub mod Doubled

@@ -1,5 +1,5 @@
 -- The unordered pairs of different members of a set: which they are, sums and folds over them, and how many they are.
-use mathlib.Core.Path.{_≡_, sym, ap, ap₂, _∙_, subst₂}
+use mathlib.Core.Path.{_≡_, refl, sym, ap, ap₂, _∙_, subst₂}
 use mathlib.Core.Logic.{_⊎_, inl, inr}
 use mathlib.Core.List.{List, [], _∷_, _++_, map, foldl, foldl-map}
 use Prim.Native.Nat.{ℕ, zero, suc, _+_, _≤_, _<_}
@@ -9,7 +9,7 @@ use lib.Signed.{_≤ℤ_, ≤ℤ-refl}
 use lib.ListN.{length, length-append, length-map}
 use Rattle.lists.specs.Lists.{_∈_, _lists_, below, each, keep, Distinct}
 use Rattle.lists.proofs.Lists.{below-lt, in-each, of-each, in-map, of-map, each-append, each-cong}
-use Rattle.lists.proofs.Distinct.{distinct-map, distinct-each}
+use Rattle.lists.proofs.Distinct.{distinct-pairs}
 use Rattle.integers.specs.Integers.{sumOf}
 use Rattle.integers.proofs.Linear.{zarith, +at}
 use Rattle.integers.proofs.Sums.{sum-cong, sum-add, sum-append, sum-each, sum-map, sum-nonneg, sum-keep-le}
@@ -50,13 +50,8 @@ module _ (n A : ℕ) where
 
   pub pairs-distinct : Distinct (pairsOf n A)
   unfolding pairsOf row
-  pairs-distinct = distinct-each (row A)
-      (λ a. distinct-map (λ b. (a, b)) (λ b c e. ap (λ (ab : ℕ × ℕ). ab .1) e) (members a A) (members-distinct a A))
-      (λ a b z h k. first a z h ∙ sym (first b z k))
-      (members n A) (members-distinct n A)
-    where
-      first : (a : ℕ) (z : ℕ × ℕ) → z ∈ row A a → a ≡ z .0
-      first a z h = sym (ap (λ (ab : ℕ × ℕ). ab .0) (of-map (λ b. (a, b)) (members a A) h .2))
+  pairs-distinct = distinct-pairs {C = ℕ × ℕ} (λ a b. (a, b)) (λ ab. ab .0) (λ ab. ab .1) (λ a b. refl) (λ a b. refl)
+      (members n A) (members-distinct n A) (λ a. members a A) (λ a. members-distinct a A)
 
   -- by another list of the members below each m up to n
   pairs-by : (f : ℕ → List ℕ) → ((m : ℕ) → m ≤ n → members m A ≡ f m) → pairsOf n A ≡ each (f n) λ a. map (λ b. (a, b)) (f a)

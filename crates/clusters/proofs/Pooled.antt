@@ -9,21 +9,19 @@ use lib.Dec.{T}
 use Rattle.integers.specs.Integers.{eqZ}
 use Rattle.integers.specs.Range.{Within}
 use Rattle.integers.proofs.Linear.{up, dn, zarith, +at, -at}
-use Rattle.integers.proofs.Least.{least-le, least-of}
 use Rattle.integers.proofs.Range.{within-sum, dn-le}
 use Rattle.sets.specs.Sets.{_∋_, size}
-use Rattle.sets.proofs.Sets.{size-member, size-less}
 use Rattle.pairs.specs.declared.Carried.{Carried}
 use Rattle.pairs.specs.declared.Carried.the-variants.{Scored, Unscored}
 use Rattle.pairs.specs.Pairs.{mark, numberFor, carried, isScored}
 use Rattle.pairs.proofs.Pairs.{Cases, carried-cases, scored-is, is-scored}
 use Rattle.clusters.specs.PairList.{Similarity, Symmetric, onePoint, pointLimit, scoreLimit, isAllowedPair}
-use Rattle.clusters.specs.Indices.{strongValues, strongIndex}
+use Rattle.clusters.specs.Indices.{strongIndex}
 use Rattle.clusters.specs.Touched.{untouched}
 use Rattle.clusters.specs.Groups.{strong, index, listed}
 use Rattle.clusters.specs.Reordering.{Permutation, Reordered, image}
 use Rattle.clusters.specs.Pooling.{added, pooled}
-use Rattle.clusters.proofs.Strong.{in-strongValues, of-strongValues}
+use Rattle.clusters.proofs.Strong.{strong-least, strong-attained}
 use Rattle.clusters.proofs.Groups.{leastSize, speaks-size, of-listed, is-listed, listed-index}
 use Rattle.clusters.proofs.Reordering.{strong-image}
 use Rattle.clusters.proofs.Images.{in-image}
@@ -82,13 +80,10 @@ pooled-turned n p s t = record {
 -- least
 pub strong-sum : (n : ℕ) (s t u : Similarity) (A : ℕ) → ((i j : ℕ) → i < n → j < n → A ∋ i → u i j ≡ s i j +ℤ t i j) → 1 ≤ size n A → size n A < n
     → (strongIndex n s A +ℤ strongIndex n t A) ≤ℤ strongIndex n u A
-unfolding strongIndex
 strong-sum n s t u A sum some proper =
-    let (c, hc, kc) = size-member n A some in
-    let (y, hy, ky) = size-less n A proper in
-    let (a, b, x, ha, hb, hx, ka, kb, kx, e) = of-strongValues n u A (least-of (strongValues n u A) (in-strongValues n u A hc hc hy kc kc ky)) in
-    add (s a b) (s a x) (t a b) (t a x) _ _ _ (least-le (strongValues n s A) (in-strongValues n s A ha hb hx ka kb kx))
-    (least-le (strongValues n t A) (in-strongValues n t A ha hb hx ka kb kx)) (e ∙ ap₂ _-ℤ_ (sum a b ha hb ka) (sum a x ha hx ka))
+    let (a, b, x, ha, hb, hx, ka, kb, kx, e) = strong-attained n u A some proper in
+    add (s a b) (s a x) (t a b) (t a x) _ _ _ (strong-least n s A ha hb hx ka kb kx) (strong-least n t A ha hb hx ka kb kx)
+    (e ∙ ap₂ _-ℤ_ (sum a b ha hb ka) (sum a x ha hx ka))
   where
     add : (p q u v l m z : ℤ) → l ≤ℤ (p -ℤ q) → m ≤ℤ (u -ℤ v) → z ≡ (p +ℤ u) -ℤ (q +ℤ v) → (l +ℤ m) ≤ℤ z
     add p q u v l m z h k e = omega (zarith, -at p q, -at u v, +at p u, +at q v, -at (p +ℤ u) (q +ℤ v), +at l m)

@@ -1,5 +1,5 @@
 -- The quartets of a split: which they are, how many, sums and loops over them; the symmetries of their scores.
-use mathlib.Core.Path.{_≡_, refl, sym, ap, ap₂, _∙_}
+use mathlib.Core.Path.{_≡_, refl, ap, ap₂, _∙_}
 use mathlib.Core.Logic.{_↔_}
 use mathlib.Core.List.{List, map, foldl, foldl-map}
 use Prim.Native.Nat.{ℕ, zero, suc, _+_, _-_, _*_, _≤_}
@@ -9,7 +9,7 @@ use lib.Signed.{_≤ℤ_}
 use lib.ListN.{length, length-map}
 use Rattle.lists.specs.Lists.{_∈_, each, Distinct}
 use Rattle.lists.proofs.Lists.{in-each, of-each, in-map, of-map, length-each}
-use Rattle.lists.proofs.Distinct.{distinct-map, distinct-each}
+use Rattle.lists.proofs.Distinct.{distinct-pairs}
 use Rattle.integers.specs.Integers.{minZ, sumOf}
 use Rattle.integers.proofs.Linear.{up, dn, zarith, +at, -at}
 use Rattle.integers.proofs.Least.{min-left, min-comm}
@@ -106,13 +106,8 @@ module _ (n A : ℕ) where
 
   pub quartets-distinct : Distinct (quartets n A)
   unfolding quartets row quartet
-  quartets-distinct = distinct-each row
-      (λ aa. distinct-map (quartet aa) (λ bb cc e. ap {B = ℕ × ℕ} (λ (q : Quartet). (q .b, q .b′)) e) (pairsOf n other) (pairs-distinct n other))
-      (λ aa cc q h k. first aa q h ∙ sym (first cc q k))
-      (pairsOf n A) (pairs-distinct n A)
-    where
-      first : (aa : ℕ × ℕ) (q : Quartet) → q ∈ row aa → aa ≡ (q .a, q .a′)
-      first aa q h = sym (ap {B = ℕ × ℕ} (λ (q : Quartet). (q .a, q .a′)) (of-map (quartet aa) (pairsOf n other) h .2))
+  quartets-distinct = distinct-pairs quartet (λ q. (q .a, q .a′)) (λ q. (q .b, q .b′)) (λ aa bb. refl) (λ aa bb. refl)
+      (pairsOf n A) (pairs-distinct n A) (λ aa. pairsOf n other) (λ aa. pairs-distinct n other)
 
   -- four loops take them in their order: a in A, a′ in A before a, b outside, b′ outside before b
   pub quartets-fold : {S : Type 0} (op : S → Quartet → S) (z : S) → foldl op z (quartets n A)

@@ -12,7 +12,6 @@ use Rattle.lists.proofs.Lists.{of-map}
 use Rattle.integers.specs.Integers.{minZ, sumOf}
 use Rattle.integers.specs.Range.{Within, Bounded}
 use Rattle.integers.proofs.Linear.{up, dn, zarith, +at, -at, *at, mul-mono}
-use Rattle.integers.proofs.Least.{least-le}
 use Rattle.integers.proofs.Range.{within-grow, within-equal, within-sum, within-difference, within-min}
 use Rattle.integers.proofs.Running.{min-above}
 use Rattle.integers.proofs.Sums.{sum-cong, sum-swap}
@@ -20,7 +19,7 @@ use Rattle.integers.proofs.Smallest.{smallest-same, smallest-ge}
 use Rattle.integers.proofs.Choices.{Choice, choice-least, choice-attained}
 use Rattle.sets.specs.Sets.{size, complement}
 use Rattle.clusters.specs.PairList.{Similarity, Symmetric}
-use Rattle.clusters.specs.Indices.{pairsOf, separationValues, separationIndex}
+use Rattle.clusters.specs.Indices.{pairsOf, separationIndex}
 use Rattle.clusters.specs.Groups.{splits, index, listed}
 use Rattle.clusters.specs.Reordering.{Permutation, Reordered, image}
 use Rattle.clusters.specs.Refined.{Quartet, quartet, quartets, doubledScore, refinedWeight, Across, Chosen}
@@ -28,7 +27,7 @@ use Rattle.clusters.proofs.Groups.{listed-index}
 use Rattle.clusters.proofs.Pairs.{pairs-sum, pairs-back}
 use Rattle.clusters.proofs.Reindex.{Image, complement-image, reindex-pairs}
 use Rattle.clusters.proofs.Reordering.{image-has}
-use Rattle.clusters.proofs.Strong.{in-separationValues}
+use Rattle.clusters.proofs.Strong.{separation-least}
 use Rattle.clusters.proofs.Quartets.{
   score-left,
   score-right,
@@ -125,7 +124,7 @@ module _ (n : ℕ) (p : Permutation n) (old new : Similarity) (r : Reordered n p
 
 -- both sums of a quartet's score are those of values of the separation index
 score-ge : (n : ℕ) (d : Similarity) → Symmetric d → (A : ℕ) {q : Quartet} → Across n A q → separationIndex n d A ≤ℤ doubledScore d q
-unfolding separationIndex doubledScore
+unfolding doubledScore
 score-ge n d symm A {q} c =
     let (ha, la, ka, ka′) = c .one-side in
     let (hb, lb, kb, kb′) = c .other-side in
@@ -133,8 +132,8 @@ score-ge n d symm A {q} c =
     let hb′ : q .b′ < n = omega arith in
     end (d (q .a) (q .b) +ℤ d (q .a′) (q .b′)) (d (q .a) (q .b′) +ℤ d (q .a′) (q .b)) (d (q .a) (q .a′)) (d (q .b) (q .b′)) (d (q .b′) (q .b))
     (separationIndex n d A) (symm (q .b) (q .b′))
-    (least-le (separationValues n d A) (in-separationValues n d A ha ha′ hb hb′ ka ka′ kb kb′))
-    (least-le (separationValues n d A) (in-separationValues n d A ha ha′ hb′ hb ka ka′ kb′ kb))
+    (separation-least n d A ha ha′ hb hb′ ka ka′ kb kb′)
+    (separation-least n d A ha ha′ hb′ hb ka ka′ kb′ kb)
   where
     end : (u v x y y′ i : ℤ) → y ≡ y′ → i ≤ℤ (u -ℤ x -ℤ y) → i ≤ℤ (v -ℤ x -ℤ y′) → i ≤ℤ (minZ u v -ℤ (x +ℤ y))
     end u v x y y′ i f h k =

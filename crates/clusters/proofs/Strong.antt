@@ -1,7 +1,7 @@
--- The values of the strong and of the separation index, and what an index of 1 or more says.
+-- The values of the strong and of the separation index, of which the index is the least; what an index of 1 or more says.
 use mathlib.Core.Path.{_≡_, refl, sym, subst, subst₂}
 use mathlib.Core.List.{List, [], _∷_, map, List·Memᴰ·head, List·Memᴰ·not-nil}
-use Prim.Native.Nat.{ℕ, _<_}
+use Prim.Native.Nat.{ℕ, _≤_, _<_}
 use lib.IntN.{ℤ, pos, _+ℤ_, _-ℤ_}
 use lib.Signed.{_≤ℤ_, _<ℤ_, ≤ℤ-refl}
 use Rattle.lists.specs.Lists.{_∈_, each}
@@ -9,10 +9,10 @@ use Rattle.lists.proofs.Lists.{in-each, of-each, in-map, of-map, no-element}
 use Rattle.integers.specs.Integers.{least}
 use Rattle.integers.proofs.Linear.{up, dn, zarith, -at}
 use Rattle.integers.proofs.Least.{least-le, least-of}
-use Rattle.sets.specs.Sets.{_∋_, _∌_, members, others}
-use Rattle.sets.proofs.Sets.{in-members, of-members, in-others, of-others}
+use Rattle.sets.specs.Sets.{_∋_, _∌_, members, others, size}
+use Rattle.sets.proofs.Sets.{in-members, of-members, in-others, of-others, size-member, size-less}
 use Rattle.clusters.specs.PairList.{Similarity}
-use Rattle.clusters.specs.Indices.{strongValues, strongIndex, separationValues}
+use Rattle.clusters.specs.Indices.{strongValues, strongIndex, separationValues, separationIndex}
 
 module _ (n : ℕ) (s : Similarity) (A : ℕ) where
   pub in-strongValues : {a b x : ℕ} → a < n → b < n → x < n → A ∋ a → A ∋ b → A ∌ x → (s a b -ℤ s a x) ∈ strongValues n s A
@@ -33,9 +33,22 @@ module _ (n : ℕ) (s : Similarity) (A : ℕ) where
       let (hx, kx) = of-others n A mx in
       (a, b, x, ha, hb, hx, ka, kb, kx, e)
 
+  -- the index is the least of them, and one of them if A is not empty and not all entries
+  pub strong-least : {a b x : ℕ} → a < n → b < n → x < n → A ∋ a → A ∋ b → A ∌ x → strongIndex n s A ≤ℤ (s a b -ℤ s a x)
+  unfolding strongIndex
+  strong-least ha hb hx ka kb kx = least-le (strongValues n s A) (in-strongValues ha hb hx ka kb kx)
+
+  pub strong-attained : 1 ≤ size n A → size n A < n
+      → (a b x : ℕ) × (a < n) × (b < n) × (x < n) × (A ∋ a) × (A ∋ b) × (A ∌ x) × (strongIndex n s A ≡ s a b -ℤ s a x)
+  unfolding strongIndex
+  strong-attained some proper =
+      let (a, ha, ka) = size-member n A some in
+      let (x, hx, kx) = size-less n A proper in
+      of-strongValues (least-of (strongValues n s A) (in-strongValues ha ha hx ka ka kx))
+
   pub strong-lt : pos 1 ≤ℤ strongIndex n s A → (a b x : ℕ) → a < n → b < n → x < n → A ∋ a → A ∋ b → A ∌ x → s a x <ℤ s a b
-  unfolding strongIndex up dn
-  strong-lt h a b x ha hb hx ka kb kx = omega (zarith, least-le (strongValues n s A) (in-strongValues ha hb hx ka kb kx), -at (s a b) (s a x))
+  unfolding up dn
+  strong-lt h a b x ha hb hx ka kb kx = omega (zarith, strong-least ha hb hx ka kb kx, -at (s a b) (s a x))
 
 -- an index is at most another if its values are: those of the same a, a′ in A and x outside
 module _ (n : ℕ) (s t : Similarity) (A : ℕ) where
@@ -55,7 +68,7 @@ module _ (n : ℕ) (s t : Similarity) (A : ℕ) where
               List·Memᴰ·not-nil (subst (λ l. (t a b -ℤ t a x) ∈ l) e (in-strongValues n t A ha hb hx ka kb kx)))
       go (z ∷ l) e =
           let (a, b, x, ha, hb, hx, ka, kb, kx, q) = of-strongValues n t A (least-of (strongValues n t A) {z = z} (subst (λ k. z ∈ k) (sym e) (List·Memᴰ·head refl))) in
-          let k₁ = least-le (strongValues n s A) (in-strongValues n s A ha hb hx ka kb kx) in
+          let k₁ = strong-least n s A ha hb hx ka kb kx in
           let k₂ = h a b x ha hb hx ka kb kx in
           omega zarith
 
@@ -92,3 +105,18 @@ module _ (n : ℕ) (d : Similarity) (A : ℕ) where
       let (hb, kb) = of-others n A {i = b} mb in
       let (hb′, kb′) = of-others n A {i = b′} mb′ in
       (a, a′, b, b′, ha, ha′, hb, hb′, ka, ka′, kb, kb′, e)
+
+  -- the index is the least of them, and one of them if neither side is empty
+  pub separation-least : {a a′ b b′ : ℕ} → a < n → a′ < n → b < n → b′ < n → A ∋ a → A ∋ a′ → A ∌ b → A ∌ b′
+      → separationIndex n d A ≤ℤ (d a b +ℤ d a′ b′ -ℤ d a a′ -ℤ d b b′)
+  unfolding separationIndex
+  separation-least ha ha′ hb hb′ ka ka′ kb kb′ = least-le (separationValues n d A) (in-separationValues ha ha′ hb hb′ ka ka′ kb kb′)
+
+  pub separation-attained : 1 ≤ size n A → size n A < n
+      → (a a′ b b′ : ℕ) × (a < n) × (a′ < n) × (b < n) × (b′ < n) × (A ∋ a) × (A ∋ a′) × (A ∌ b) × (A ∌ b′)
+      × (separationIndex n d A ≡ d a b +ℤ d a′ b′ -ℤ d a a′ -ℤ d b b′)
+  unfolding separationIndex
+  separation-attained some proper =
+      let (a, ha, ka) = size-member n A some in
+      let (b, hb, kb) = size-less n A proper in
+      of-separationValues (least-of (separationValues n d A) (in-separationValues ha ha hb hb ka ka kb kb))

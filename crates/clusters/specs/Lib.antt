@@ -11,4 +11,5 @@ pub mod Bench
 pub mod Nesting
 pub mod Pooling
 pub mod Refined
+pub mod Triples
 pub mod Doubled

@@ -144,3 +144,14 @@ module _ {ℓ κ} {A : Type ℓ} {B : Type κ} where
   distinct-each f each-one apart (x ∷ l) d =
       distinct-append (f x) (each l f) (each-one x) (distinct-each f each-one apart l (d .1)) (λ z h k.
       let (y, m, n) = of-each l f k in d .0 (Memᴰ·cast (apart x y z h n) m))
+
+-- what a function makes of x and y, x in a list and y in one for each x, if both can be told from it
+pub distinct-pairs {ℓ κ ι} : {A : Type ℓ} {B : Type κ} {C : Type ι} (f : A → B → C) (left : C → A) (right : C → B)
+    → ((x : A) (y : B) → left (f x y) ≡ x) → ((x : A) (y : B) → right (f x y) ≡ y)
+    → (l : List A) → Distinct l → (m : A → List B) → ((x : A) → Distinct (m x)) → Distinct (each l λ x. map (f x) (m x))
+distinct-pairs {A = A} {C = C} f left right is-left is-right l d m e = distinct-each (λ x. map (f x) (m x))
+    (λ x. distinct-map (f x) (λ y z q. sym (is-right x y) ∙ ap right q ∙ is-right x z) (m x) (e x))
+    (λ x y z h k. sym (told x z h) ∙ told y z k) l d
+  where
+    told : (x : A) (z : C) → z ∈ map (f x) (m x) → left z ≡ x
+    told x z h = let (y, _, q) = of-map (f x) (m x) h in ap left q ∙ is-left x y

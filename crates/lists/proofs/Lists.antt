@@ -215,6 +215,11 @@ unfolding each
 each-map [] f g = refl
 each-map (x ∷ l) f g = ap (λ (t : List _). g (f x) ++ t) (each-map l f g)
 
+pub map-each {ℓ κ ι} : {A : Type ℓ} {B : Type κ} {C : Type ι} (g : B → C) (l : List A) (f : A → List B) → map g (each l f) ≡ each l (λ x. map g (f x))
+unfolding each
+map-each g [] f = refl
+map-each g (x ∷ l) f = map-append g (f x) (each l f) ∙ ap (λ (t : List _). map g (f x) ++ t) (map-each g l f)
+
 pub each-below {ℓ} : {B : Type ℓ} (n : ℕ) (f : ℕ → List B) → each (below (suc n)) f ≡ each (below n) f ++ f n
 unfolding below each
 each-below n f = each-append (below n) (n ∷ []) f ∙ ap (λ r. each (below n) f ++ r) (append-nil (f n))

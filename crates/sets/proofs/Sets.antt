@@ -99,6 +99,10 @@ pub members-distinct : (n A : ℕ) → Distinct (members n A)
 unfolding members
 members-distinct n A = distinct-keep (has A) (below n) (distinct-below n)
 
+pub others-distinct : (n A : ℕ) → Distinct (others n A)
+unfolding others
+others-distinct n A = distinct-keep (λ i. not (has A i)) (below n) (distinct-below n)
+
 -- {i} has the one member i
 pub one-in : (i : ℕ) → (2 ^ i) ∋ i
 one-in i = record { bit = ap (λ (x : ℕ). x % 2) (div-self (pow-pos i)) }
