@@ -40,3 +40,4 @@ pub mod Room
 pub mod Taken
 pub mod Merging
 pub mod Written
+pub mod Least

@@ -87,14 +87,14 @@ answered {n} {l} {A} (by-weight-in-C c number e) =
     }
 
 -- two different numbers in falling order: there is one such order
-record Falling (i j : ℕ) : Type 0 where
-  high : ℕ
-  low : ℕ
-  falls : low < high
-  same : SamePair high low i j
-  only : (x y : ℕ) → y < x → SamePair x y i j → (x ≡ high) × (y ≡ low)
+pub record Falling (i j : ℕ) : Type 0 where
+  pub high : ℕ
+  pub low : ℕ
+  pub falls : low < high
+  pub same : SamePair high low i j
+  pub only : (x y : ℕ) → y < x → SamePair x y i j → (x ≡ high) × (y ≡ low)
 
-falling : (i j : ℕ) → i ≢ j → Falling i j
+pub falling : (i j : ℕ) → i ≢ j → Falling i j
 falling i j d = go (decLt j i)
   where
     go : Dec (j < i) → Falling i j
@@ -110,7 +110,7 @@ falling i j d = go (decLt j i)
         other x y h (inr e) = e
 
 -- what holds of two entries holds of them in either order
-either-order : (P : ℕ → Type 0) (x y i j : ℕ) → SamePair x y i j → P i → P j → P x × P y
+pub either-order : (P : ℕ → Type 0) (x y i j : ℕ) → SamePair x y i j → P i → P j → P x × P y
 either-order P x y i j (inl (e, f)) p q = (subst P (sym e) p, subst P (sym f) q)
 either-order P x y i j (inr (e, f)) p q = (subst P (sym e) q, subst P (sym f) p)
 

@@ -13,3 +13,4 @@ pub mod TurnedAway
 pub mod Taken
 pub mod Merging
 pub mod Written
+pub mod Least

@@ -1,0 +1,128 @@
+-- The indices that a call wrote are the least of all values, and attained.
+use mathlib.Core.Path.{_≡_, refl, sym, ap, _∙_, subst}
+use mathlib.Core.Logic.{_⊎_, inl, inr, _≢_}
+use mathlib.Core.List.{List}
+use Prim.Native.Nat.{ℕ, _≤_, _<_}
+use native.Mathlib.Omega.{arith}
+use lib.IntN.{ℤ, pos, _+ℤ_, _-ℤ_}
+use lib.Signed.{_≤ℤ_}
+use Rattle.lists.specs.Lists.{_lists_}
+use Rattle.integers.specs.Integers.{eqZ, maxZ}
+use Rattle.integers.proofs.Linear.{zarith, +at, -at}
+use Rattle.integers.proofs.Least.{max-left, max-right, max-is}
+use Rattle.sets.specs.Sets.{_∋_, size}
+use Rattle.clusters.specs.PairList.{Similarity, scoreLimit}
+use Rattle.clusters.specs.Indices.{strongIndex, weight, cleanIndex, separationIndex}
+use Rattle.clusters.specs.Groups.{strong, clean, splits, kindOf, index}
+use Rattle.clusters.specs.Triples.{Triple, tripleWeight, TripleOf}
+use Rattle.clusters.proofs.Groups.{leastSize, speaks-size, of-listed, in-groups}
+use Rattle.clusters.proofs.Strong.{strong-least, strong-attained, separation-least, separation-attained}
+use Rattle.clusters.proofs.Triples.{clean-least, clean-attained}
+use Rattle.clusters.proofs.Untouched.{untouched-index}
+use Rattle.clusters.proofs.Unscored.{listed-untouched}
+use Rattle.interface.specs.Demands.{Wrote}
+use Rattle.interface.specs.Least.{Inside, StrongLeast, UnorderedTriple, CleanLeast, SeparationLeast, LeastWritten}
+use Rattle.interface.proofs.Demands.{wrote-allowed, demand-3}
+use Rattle.interface.proofs.Unscored.{strong-wrote}
+use Rattle.interface.proofs.Weighed.{falling, either-order}
+
+-- each index, of a set that its kind speaks of
+strong-is : (n : ℕ) (s : Similarity) (A : ℕ) → 1 ≤ size n A → size n A < n → StrongLeast n s A (strongIndex n s A)
+strong-is n s A some proper =
+    let (a, a′, x, ha, ha′, hx, ka, ka′, kx, e) = strong-attained n s A some proper in
+    record {
+      least = λ b b′ y i. let (hb, hb′, hy) = i .there in strong-least n s A hb hb′ hy (i .in-A .0) (i .in-A .1) (i .outside);
+      a = a;
+      a′ = a′;
+      x = x;
+      these = record { there = (ha, ha′, hx); in-A = (ka, ka′); outside = kx };
+      attained = e;
+    }
+
+clean-is : (n : ℕ) (s : Similarity) (A : ℕ) → size n A < n → CleanLeast n s A (cleanIndex n s A)
+clean-is n s A proper =
+    let (ts, chosen, e) = clean-attained n s A proper in
+    record { least = clean-least n s A; triples = ts; these = chosen; attained = e }
+
+separation-is : (n : ℕ) (d : Similarity) (A : ℕ) → 1 ≤ size n A → size n A < n → SeparationLeast n d A (separationIndex n d A)
+separation-is n d A some proper =
+    let (a, a′, b, b′, ha, ha′, hb, hb′, ka, ka′, kb, kb′, e) = separation-attained n d A some proper in
+    record {
+      least = λ v v′ w w′ i.
+          let (hv, hv′, hw, hw′) = i .there in
+          separation-least n d A hv hv′ hw hw′ (i .in-A .0) (i .in-A .1) (i .outside .0) (i .outside .1);
+      a = a;
+      a′ = a′;
+      b = b;
+      b′ = b′;
+      these = record { there = (ha, ha′, hb, hb′); in-A = (ka, ka′); outside = (kb, kb′) };
+      attained = e;
+    }
+
+-- a line of each kind
+strong-line : {n : ℕ} {s : Similarity} {found : List (ℕ × ℤ)} → Wrote (pos 1) n s found → (A : ℕ) (z : ℤ) → found lists (A, z) → StrongLeast n s A z
+unfolding index leastSize
+strong-line {n} {s} w A z m =
+    let (_, t, e) = in-groups strong n s A z .0 (subst (λ (g : List (ℕ × ℤ)). g lists (A, z)) (strong-wrote w) m) in
+    let (some, proper) = speaks-size strong n A (of-listed strong n s A t .0) in
+    let as-lent = untouched-index scoreLimit n s A (listed-untouched n s (wrote-allowed w) A t) in
+    subst (StrongLeast n s A) (sym (e ∙ as-lent)) (strong-is n s A some proper)
+
+clean-line : {n : ℕ} {s : Similarity} {found : List (ℕ × ℤ)} → Wrote (pos 2) n s found → (A : ℕ) (z : ℤ) → found lists (A, z) → CleanLeast n s A z
+unfolding kindOf eqZ
+clean-line {n} {s} w A z m =
+    let p = demand-3 (pos 2) .complete w .exactly A z .0 m in
+    subst (CleanLeast n s A) (sym (p .index-is)) (clean-is n s A (speaks-size clean n A (p .spoken) .1))
+
+split-line : {n : ℕ} {s : Similarity} {found : List (ℕ × ℤ)} → Wrote (pos 3) n s found → (A : ℕ) (z : ℤ) → found lists (A, z) → SeparationLeast n s A z
+unfolding kindOf eqZ leastSize
+split-line {n} {s} w A z m =
+    let p = demand-3 (pos 3) .complete w .exactly A z .0 m in
+    let (some, proper) = speaks-size splits n A (p .spoken) in
+    subst (SeparationLeast n s A) (sym (p .index-is)) (separation-is n s A some proper)
+
+-- what is less by the larger of two
+less-larger : (u v w : ℤ) → let z = u -ℤ maxZ v w in ((z +ℤ v) ≤ℤ u) × ((z +ℤ w) ≤ℤ u) × ((z ≡ u -ℤ v) ⊎ (z ≡ u -ℤ w))
+less-larger u v w = (
+  omega (zarith, max-left v w, -at u (maxZ v w), +at (u -ℤ maxZ v w) v),
+  omega (zarith, max-right v w, -at u (maxZ v w), +at (u -ℤ maxZ v w) w),
+  go (max-is v w),
+)
+  where
+    go : (maxZ v w ≡ v) ⊎ (maxZ v w ≡ w) → (u -ℤ maxZ v w ≡ u -ℤ v) ⊎ (u -ℤ maxZ v w ≡ u -ℤ w)
+    go (inl e) = inl (ap (λ y. u -ℤ y) e)
+    go (inr e) = inr (ap (λ y. u -ℤ y) e)
+
+unordered : (n A a b c : ℕ) → Inside n A a b c → a ≢ b
+    → (t : Triple) × UnorderedTriple n A t a b c × ((u : Triple) → UnorderedTriple n A u a b c → u ≡ t)
+unordered n A a b c i d =
+    let (ha, hb, hc) = i .there in
+    let (ka, kb) = i .in-A in
+    let f = falling a b d in
+    let t : Triple = record { a = f .high; b = f .low; c = c } in
+    let (hf, _) = either-order (λ i. i < n) (f .high) (f .low) a b (f .same) ha hb in
+    let (kf, kf′) = either-order (λ i. A ∋ i) (f .high) (f .low) a b (f .same) ka kb in (
+      t,
+      record { of-A = record { pair = (hf, f .falls, kf, kf′); outside = (hc, i .outside) }; pair = f .same; outside = refl },
+      λ u o. equal u t (f .only (u .a) (u .b) (o .of-A .pair .1) (o .pair)) (o .outside),
+    )
+  where
+    equal : (u t : Triple) → (u .a ≡ t .a) × (u .b ≡ t .b) → u .c ≡ t .c → u ≡ t
+    equal u t (e, f) g = λ i. record { a = e i; b = f i; c = g i }
+
+of-entries : (n A : ℕ) (t : Triple) → TripleOf n A t → Inside n A (t .a) (t .b) (t .c) × (t .a ≢ t .b)
+of-entries n A t o =
+    let (ha, l, ka, kb) = o .pair in
+    let (hc, kc) = o .outside in
+    (record { there = (ha, omega arith, hc); in-A = (ka, kb); outside = kc }, λ e. omega arith)
+
+pub least-written : LeastWritten
+unfolding tripleWeight weight
+least-written = record {
+  strong = strong-line;
+  weight = λ s t. less-larger (s (t .a) (t .b)) (s (t .a) (t .c)) (s (t .b) (t .c));
+  unordered = unordered;
+  of-entries = of-entries;
+  clean = clean-line;
+  separation = split-line;
+}
