@@ -1,6 +1,5 @@
 -- The demands, from the outcomes of the calls and the theorems about groups.
 use mathlib.Core.Path.{_≡_, refl, sym, ap, ap₂, _∙_, subst, subst₂}
-use mathlib.Core.Bool.{not, _&&_}
 use mathlib.Core.Logic.{_⊎_, inl, inr, _≢_, _↔_, Iff·trans}
 use mathlib.Core.List.{List, _++_, map, map-map, map-id}
 use mathlib.Core.Option.{some, Option·some-injective}
@@ -9,23 +8,23 @@ use native.Mathlib.Nat.{pow-le-pow-right}
 use native.Mathlib.Omega.{arith}
 use lib.IntN.{ℤ, pos, negℤ}
 use lib.Signed.{_≤ℤ_}
-use lib.Dec.{T, leb, ltb, lit<}
+use lib.Dec.{T, lit<}
 use lib.ListN.{length, take, drop, replicate, length-map}
 use lib.Seq.{take-append-seam, drop-append-seam}
 use Rattle.lists.specs.Lists.{_∈_, _lists_, all}
 use Rattle.lists.proofs.Lists.{of-map}
-use Rattle.lists.proofs.Tests.{and-T, T-and, T-false}
+use Rattle.lists.proofs.Tests.{T-false}
 use Rattle.integers.specs.Integers.{eqZ}
 use Rattle.integers.proofs.Linear.{zarith, up, dn}
-use Rattle.sets.specs.Sets.{has, _∋_, _∌_, size, complement}
-use Rattle.sets.proofs.Sets.{has-no, no-has, member-size, less-size, complement-lt, in-complement, not-complement}
+use Rattle.sets.specs.Sets.{size, complement}
+use Rattle.sets.proofs.Sets.{complement-lt, in-complement, not-complement}
 use Rattle.clusters.specs.PairList.{Similarity, Symmetric, rowStart, score, scoreLimit}
 use Rattle.clusters.specs.Fillings.{Fills, AllScored}
 use Rattle.clusters.specs.Farris.{farris, unfarris, anchoredScores, distancesBack}
 use Rattle.sets.specs.Sets.{_∪_}
 use Rattle.clusters.specs.Linkage.{Linkage, singles, Tree, mergedBlocks, blocks}
 use Rattle.clusters.proofs.Exists.{tree-length}
-use Rattle.clusters.specs.Groups.{Kind, strong, clean, splits, kindOf, proper, speaksOf, index, groupSets, groups, treeLinkage, TreeScores}
+use Rattle.clusters.specs.Groups.{Kind, strong, clean, splits, kindOf, index, groupSets, groups, treeLinkage, TreeScores}
 use Rattle.clusters.proofs.Farris.{separation-either-side}
 use Rattle.clusters.proofs.PairList.{score-symm, length-pairList}
 use Rattle.clusters.proofs.Groups.{in-groups, in-groupSets, groups-rise, rising-distinct, of-listed, listed-index, is-listed, groups-sets}
@@ -55,6 +54,7 @@ use Rattle.interface.specs.Demands.{
   IndexIs,
   Indices,
   Demand2,
+  Proper,
   Positive,
   SameGroups,
   Complete,
@@ -66,8 +66,9 @@ use Rattle.interface.proofs.Lines.{Readable, listing-read}
 use Rattle.interface.proofs.Slots.{groups-slots}
 use Rattle.interface.proofs.Accepted.{Passed, passed-allowed, passed-scored, sheet-passed, numbers-passed, linkage-scored}
 use Rattle.interface.proofs.Anchored.{length-anchored, way-back}
-use Rattle.interface.proofs.Agree.{le-says, lt-says, Agree, agree-first, agree-none, refused-number}
+use Rattle.interface.proofs.Agree.{Agree, agree-first, agree-none, refused-number}
 use Rattle.interface.proofs.AgreeTables.{sheet-agrees, sheet-numbered}
+use Rattle.interface.proofs.Spoken.{spoken-says}
 
 -- what a number in C says of the answer: a length, if nothing is refused; minus the number of the refusal
 pub c-count : (k c count : ℕ) → cNumber (answer k c) ≡ pos count → (k ≡ 0) × (c ≡ count)
@@ -324,17 +325,6 @@ index-is strong n s symm A z = least-is scoreLimit n s symm A z
 index-is clean n s symm A z = (λ e. e, λ e. e)
 index-is splits n s symm A z = (λ e. e, λ e. e)
 
--- a split by the side without the first entry
-split-spoken : (n A : ℕ) {a b : ℕ} → a < n → b < n → A ∋ a → A ∌ b → A ∌ 0 → T (speaksOf splits n A)
-unfolding speaksOf proper
-split-spoken n A ha hb ka kb z =
-    T-and (leb 1 (size n A) && ltb (size n A) n) (not (has A 0))
-    (T-and (leb 1 (size n A)) (ltb (size n A) n) (le-says 1 (size n A) .from (member-size n A ha ka)) (lt-says (size n A) n .from (less-size n A hb kb))) (no-has A 0 z)
-
-without-first : (n A : ℕ) → T (speaksOf splits n A) → A ∌ 0
-unfolding speaksOf
-without-first n A t = has-no A 0 (and-T (leb 1 (size n A) && proper n A) (not (has A 0)) t .1)
-
 -- demands 2 and 3 of the groups
 module _ (kind : ℤ) (n : ℕ) (s : Similarity) (symm : Symmetric s) where
   abbrev these : List (ℕ × ℤ)
@@ -363,13 +353,13 @@ module _ (kind : ℤ) (n : ℕ) (s : Similarity) (symm : Symmetric s) where
             let (h, t, e) = in-groups (kindOf kind) n s A z .0 m in
             record {
               fits = h;
-              spoken = of-listed (kindOf kind) n s A t .0;
+              spoken = spoken-says (kindOf kind) n A .to (of-listed (kindOf kind) n s A t .0);
               index-is = is .1 e;
               positive = subst (λ y. pos 1 ≤ℤ y) (sym e) (listed-index (kindOf kind) n s A t);
             },
         λ p.
             let e = is .0 (p .index-is) in
-            in-groups (kindOf kind) n s A z .1 (p .fits, is-listed (kindOf kind) n s A (p .spoken) (subst (λ y. pos 1 ≤ℤ y) e (p .positive)), e),
+            in-groups (kindOf kind) n s A z .1 (p .fits, is-listed (kindOf kind) n s A (spoken-says (kindOf kind) n A .from (p .spoken)) (subst (λ y. pos 1 ≤ℤ y) e (p .positive)), e),
       )
 
   -- of kind 3
@@ -390,14 +380,16 @@ module _ (kind : ℤ) (n : ℕ) (s : Similarity) (symm : Symmetric s) where
     nested = λ A B y z a b. groups-nested (kindOf kind) n s symm A B (member A y a) (member B z b);
     one-split = λ e A z m.
         let p = split-exact e A z .0 m in
-        (without-first n A (p .spoken), p .index-is, p .index-is ∙ sym (separation-either-side n s symm A));
-    either-side = λ e A low a b ha hb ka kb z is h. (
-      λ f. split-exact e A z .1 (record { fits = low; spoken = split-spoken n A ha hb ka kb f; index-is = is; positive = h }),
+        (p .spoken .1, p .index-is, p .index-is ∙ sym (separation-either-side n s symm A));
+    either-side = λ e A low p z is h. (
+      λ f. split-exact e A z .1 (record { fits = low; spoken = (p, f); index-is = is; positive = h }),
       λ f.
           let C = complement n A in
+          let (ha, hx) = p .there in
+          let turned : Proper n C = record { a = p .x; x = p .a; there = (hx, ha); inside = in-complement n A hx (p .outside); outside = not-complement n A ha (p .inside) } in
           split-exact e C z .1 (record {
             fits = complement-lt n A;
-            spoken = split-spoken n C hb ha (in-complement n A hb kb) (not-complement n A ha ka) (not-complement n A (omega arith) f);
+            spoken = (turned, not-complement n A (omega arith) f);
             index-is = is ∙ sym (separation-either-side n s symm A);
             positive = h;
           }),

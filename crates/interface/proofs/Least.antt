@@ -1,4 +1,4 @@
--- The indices that a call wrote are the least of all values, and attained.
+-- The indices are the least of all values, and attained.
 use mathlib.Core.Path.{_≡_, refl, sym, ap, _∙_, subst}
 use mathlib.Core.Logic.{_⊎_, inl, inr, _≢_}
 use mathlib.Core.List.{List}
@@ -21,9 +21,10 @@ use Rattle.clusters.proofs.Triples.{clean-least, clean-attained}
 use Rattle.clusters.proofs.Untouched.{untouched-index}
 use Rattle.clusters.proofs.Unscored.{listed-untouched}
 use Rattle.interface.specs.Demands.{Wrote}
-use Rattle.interface.specs.Least.{Inside, StrongLeast, UnorderedTriple, CleanLeast, SeparationLeast, LeastWritten}
+use Rattle.interface.specs.Least.{Inside, StrongLeast, UnorderedTriple, CleanLeast, SeparationLeast, LeastIndices}
 use Rattle.interface.proofs.Demands.{wrote-allowed, demand-3}
 use Rattle.interface.proofs.Unscored.{strong-wrote}
+use Rattle.interface.proofs.Spoken.{sizes}
 use Rattle.interface.proofs.Weighed.{falling, either-order}
 
 -- each index, of a set that its kind speaks of
@@ -59,6 +60,25 @@ separation-is n d A some proper =
       attained = e;
     }
 
+-- there is one least
+equal : (y z : ℤ) → y ≤ℤ z → z ≤ℤ y → y ≡ z
+equal y z a b = omega (zarith, a, b)
+
+one-strong : {n : ℕ} {s : Similarity} {A : ℕ} {y z : ℤ} → StrongLeast n s A y → StrongLeast n s A z → y ≡ z
+one-strong {y = y} {z} l m = equal y z
+    (subst (λ x. y ≤ℤ x) (sym (m .attained)) (l .least (m .a) (m .a′) (m .x) (m .these)))
+    (subst (λ x. z ≤ℤ x) (sym (l .attained)) (m .least (l .a) (l .a′) (l .x) (l .these)))
+
+one-clean : {n : ℕ} {s : Similarity} {A : ℕ} {y z : ℤ} → CleanLeast n s A y → CleanLeast n s A z → y ≡ z
+one-clean {y = y} {z} l m = equal y z
+    (subst (λ x. y ≤ℤ x) (sym (m .attained)) (l .least (m .triples) (m .these)))
+    (subst (λ x. z ≤ℤ x) (sym (l .attained)) (m .least (l .triples) (l .these)))
+
+one-separation : {n : ℕ} {d : Similarity} {A : ℕ} {y z : ℤ} → SeparationLeast n d A y → SeparationLeast n d A z → y ≡ z
+one-separation {y = y} {z} l m = equal y z
+    (subst (λ x. y ≤ℤ x) (sym (m .attained)) (l .least (m .a) (m .a′) (m .b) (m .b′) (m .these)))
+    (subst (λ x. z ≤ℤ x) (sym (l .attained)) (m .least (l .a) (l .a′) (l .b) (l .b′) (l .these)))
+
 -- a line of each kind
 strong-line : {n : ℕ} {s : Similarity} {found : List (ℕ × ℤ)} → Wrote (pos 1) n s found → (A : ℕ) (z : ℤ) → found lists (A, z) → StrongLeast n s A z
 unfolding index leastSize
@@ -72,13 +92,13 @@ clean-line : {n : ℕ} {s : Similarity} {found : List (ℕ × ℤ)} → Wrote (p
 unfolding kindOf eqZ
 clean-line {n} {s} w A z m =
     let p = demand-3 (pos 2) .complete w .exactly A z .0 m in
-    subst (CleanLeast n s A) (sym (p .index-is)) (clean-is n s A (speaks-size clean n A (p .spoken) .1))
+    subst (CleanLeast n s A) (sym (p .index-is)) (clean-is n s A (sizes (p .spoken .0) .1))
 
 split-line : {n : ℕ} {s : Similarity} {found : List (ℕ × ℤ)} → Wrote (pos 3) n s found → (A : ℕ) (z : ℤ) → found lists (A, z) → SeparationLeast n s A z
 unfolding kindOf eqZ leastSize
 split-line {n} {s} w A z m =
     let p = demand-3 (pos 3) .complete w .exactly A z .0 m in
-    let (some, proper) = speaks-size splits n A (p .spoken) in
+    let (some, proper) = sizes (p .spoken .0) in
     subst (SeparationLeast n s A) (sym (p .index-is)) (separation-is n s A some proper)
 
 -- what is less by the larger of two
@@ -116,9 +136,18 @@ of-entries n A t o =
     let (hc, kc) = o .outside in
     (record { there = (ha, omega arith, hc); in-A = (ka, kb); outside = kc }, λ e. omega arith)
 
-pub least-written : LeastWritten
+pub least-indices : LeastIndices
 unfolding tripleWeight weight
-least-written = record {
+least-indices = record {
+  strong-index = λ n s A p z.
+      let (some, proper) = sizes p in
+      (λ e. subst (StrongLeast n s A) (sym e) (strong-is n s A some proper), λ l. one-strong l (strong-is n s A some proper));
+  clean-index = λ n s A p z.
+      let (_, proper) = sizes p in
+      (λ e. subst (CleanLeast n s A) (sym e) (clean-is n s A proper), λ l. one-clean l (clean-is n s A proper));
+  separation-index = λ n d A p z.
+      let (some, proper) = sizes p in
+      (λ e. subst (SeparationLeast n d A) (sym e) (separation-is n d A some proper), λ l. one-separation l (separation-is n d A some proper));
   strong = strong-line;
   weight = λ s t. less-larger (s (t .a) (t .b)) (s (t .a) (t .c)) (s (t .b) (t .c));
   unordered = unordered;

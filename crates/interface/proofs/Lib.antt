@@ -20,6 +20,7 @@ pub mod AgreeText
 pub mod AgreeNumbers
 pub mod AgreeValues
 pub mod AgreeTables
+pub mod Spoken
 pub mod Demands
 pub mod TurnedAway
 pub mod Example

@@ -60,7 +60,7 @@ two-sides {n} {A} s =
       entries = of-sides n A q (in-quartets n A q .0 m);
     }
 
-two-members : (n A : ℕ) {i j : ℕ} → i < n → j < n → A ∋ i → A ∋ j → i ≢ j → 2 ≤ size n A
+pub two-members : (n A : ℕ) {i j : ℕ} → i < n → j < n → A ∋ i → A ∋ j → i ≢ j → 2 ≤ size n A
 two-members n A {i} {j} hi hj ki kj d = go (decLt i j)
   where
     go : Dec (i < j) → 2 ≤ size n A

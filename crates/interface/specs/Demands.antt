@@ -1,12 +1,11 @@
 -- The demands, said of what the calls answer and write.
 use mathlib.Core.Path.{_≡_}
-use mathlib.Core.Logic.{_⊎_, _↔_}
+use mathlib.Core.Logic.{_⊎_, _≢_, _↔_}
 use mathlib.Core.List.{List, [], _∷_, _++_, map}
 use mathlib.Core.Option.{some}
 use Prim.Native.Nat.{ℕ, _^_, _<_, _≤_}
 use lib.IntN.{ℤ, pos, negℤ}
 use lib.Signed.{_≤ℤ_}
-use lib.Dec.{T}
 use lib.ListN.{length, take, drop}
 use Rattle.lists.specs.Lists.{_∈_, _lists_, Distinct}
 use Rattle.sets.specs.Sets.{_∋_, _∌_, size, complement, Nested, Disjoint}
@@ -15,7 +14,7 @@ use Rattle.clusters.specs.Indices.{cleanIndex, separationIndex}
 use Rattle.clusters.specs.Fillings.{Fills, LeastFilling}
 use Rattle.clusters.specs.Farris.{farris}
 use Rattle.clusters.specs.Linkage.{single, average, singles, Tree, blocks}
-use Rattle.clusters.specs.Groups.{Kind, strong, clean, splits, kindOf, speaksOf, writtenSet, Rising, mostGroups}
+use Rattle.clusters.specs.Groups.{Kind, strong, clean, splits, kindOf, writtenSet, Rising, mostGroups}
 use Rattle.clusters.specs.Reordering.{Permutation, Reordered, image}
 use Rattle.answers.specs.declared.Answer.{Answer}
 use Rattle.answers.specs.Answers.{numberOf, countOf}
@@ -88,10 +87,24 @@ pub record Demand2 : Type 0 where
       → {lent′ after′ : List ℤ} {r′ : ℤ} → InC (λ a. BackCall n x (take count after) lent′ a after′) r′
       → count ≤ length lent′ → (r′ ≡ pos count) × (take count after′ ≡ distances)
 
+-- Which sets a kind speaks of: "A is non-empty and not X"
+pub record Proper (n A : ℕ) : Type 0 where
+  pub a : ℕ
+  pub x : ℕ
+  pub there : (a < n) × (x < n)
+  pub inside : A ∋ a
+  pub outside : A ∌ x
+
+-- for clean groups "A has at least 2 members"; of a split "the side without the first entry"
+abbrev pub Spoken : Kind → (n A : ℕ) → Type 0
+Spoken strong n A = Proper n A
+Spoken clean n A = Proper n A × ((a b : ℕ) × (a < n) × (b < n) × (A ∋ a) × (A ∋ b) × (a ≢ b))
+Spoken splits n A = Proper n A × (A ∌ 0)
+
 -- A set of positive index, or a split of positive index by the side that is written, with its index.
 pub record Positive (k : Kind) (n : ℕ) (s : Similarity) (A : ℕ) (z : ℤ) : Type 0 where
   pub fits : A < 2 ^ n
-  pub spoken : T (speaksOf k n A)
+  pub spoken : Spoken k n A
   pub index-is : IndexIs k n s A z
   pub positive : pos 1 ≤ℤ z
 
@@ -122,8 +135,7 @@ pub record Complete (kind : ℤ) (n : ℕ) (s : Similarity) (found : List (ℕ �
   -- "A|B and B|A are one split", with one index, "written as the side without the first entry", and found by either
   pub one-split : kind ≡ pos 3 → (A : ℕ) (z : ℤ) → found lists (A, z)
       → (A ∌ 0) × IndexIs splits n s A z × IndexIs splits n s (complement n A) z
-  pub either-side : kind ≡ pos 3 → (A : ℕ) → A < 2 ^ n → (a b : ℕ) → a < n → b < n → A ∋ a → A ∌ b
-      → (z : ℤ) → IndexIs splits n s A z → pos 1 ≤ℤ z
+  pub either-side : kind ≡ pos 3 → (A : ℕ) → A < 2 ^ n → Proper n A → (z : ℤ) → IndexIs splits n s A z → pos 1 ≤ℤ z
       → (A ∌ 0 → found lists (A, z)) × (A ∋ 0 → found lists (complement n A, z))
 
 -- and of every call: "neither the order of the entries nor any choice among equal scores changes what is found"

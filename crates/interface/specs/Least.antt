@@ -1,7 +1,7 @@
--- The indices that a call wrote (document 01, Definitions), by the entries that they speak of: the least of all values,
--- and one that has it. No list of all values is named, and nothing is sorted.
+-- The indices (document 01, Definitions), by the entries that they speak of: the least of all values, and one that has
+-- it. No list of all values is named, and nothing is sorted.
 use mathlib.Core.Path.{_≡_}
-use mathlib.Core.Logic.{_⊎_, _≢_}
+use mathlib.Core.Logic.{_⊎_, _≢_, _↔_}
 use mathlib.Core.List.{List}
 use Prim.Native.Nat.{ℕ, _<_}
 use lib.IntN.{ℤ, pos, _+ℤ_, _-ℤ_}
@@ -10,8 +10,9 @@ use Rattle.lists.specs.Lists.{_lists_}
 use Rattle.integers.specs.Integers.{sumOf}
 use Rattle.sets.specs.Sets.{_∋_, _∌_}
 use Rattle.clusters.specs.PairList.{Similarity}
+use Rattle.clusters.specs.Indices.{strongIndex, cleanIndex, separationIndex}
 use Rattle.clusters.specs.Triples.{Triple, tripleWeight, TripleOf, ChosenTriples}
-use Rattle.interface.specs.Demands.{Wrote}
+use Rattle.interface.specs.Demands.{Wrote, Proper}
 use Rattle.interface.specs.Requests.{SamePair}
 
 -- two entries of A and one outside
@@ -59,10 +60,14 @@ pub record SeparationLeast (n : ℕ) (d : Similarity) (A : ℕ) (z : ℤ) : Type
   pub these : OnBoth n A a a′ b b′
   pub attained : z ≡ d a b +ℤ d a′ b′ -ℤ d a a′ -ℤ d b b′
 
-pub record LeastWritten : Type 0 where
-  -- "Strong index"; with unscored pairs too: no pair of an entry of a listed set is one (2.2, `touched`)
-  pub strong : {n : ℕ} {s : Similarity} {found : List (ℕ × ℤ)} → Wrote (pos 1) n s found
-      → (A : ℕ) (z : ℤ) → found lists (A, z) → StrongLeast n s A z
+pub record LeastIndices : Type 0 where
+  -- each index is the least, and the least is the index: of every such set, for any n and any scores
+  pub strong-index : (n : ℕ) (s : Similarity) (A : ℕ) → Proper n A
+      → (z : ℤ) → (z ≡ strongIndex n s A) ↔ StrongLeast n s A z
+  pub clean-index : (n : ℕ) (s : Similarity) (A : ℕ) → Proper n A
+      → (z : ℤ) → (z ≡ cleanIndex n s A) ↔ CleanLeast n s A z
+  pub separation-index : (n : ℕ) (d : Similarity) (A : ℕ) → Proper n A
+      → (z : ℤ) → (z ≡ separationIndex n d A) ↔ SeparationLeast n d A z
   -- "Triple weight: s(a,b) − the larger of s(a,c) and s(b,c)": together with either of the two it is not above s(a,b),
   -- and it is one of the two differences
   pub weight : (s : Similarity) (t : Triple) → let w = tripleWeight s t in
@@ -73,9 +78,11 @@ pub record LeastWritten : Type 0 where
   pub unordered : (n A a b c : ℕ) → Inside n A a b c → a ≢ b
       → (t : Triple) × UnorderedTriple n A t a b c × ((u : Triple) → UnorderedTriple n A u a b c → u ≡ t)
   pub of-entries : (n A : ℕ) (t : Triple) → TripleOf n A t → Inside n A (t .a) (t .b) (t .c) × (t .a ≢ t .b)
-  -- "Clean index"
+  -- and of what a call wrote: kind 1, with unscored pairs too: no pair of an entry of a listed set is one (2.2,
+  -- `touched`)
+  pub strong : {n : ℕ} {s : Similarity} {found : List (ℕ × ℤ)} → Wrote (pos 1) n s found
+      → (A : ℕ) (z : ℤ) → found lists (A, z) → StrongLeast n s A z
   pub clean : {n : ℕ} {s : Similarity} {found : List (ℕ × ℤ)} → Wrote (pos 2) n s found
       → (A : ℕ) (z : ℤ) → found lists (A, z) → CleanLeast n s A z
-  -- "Separation index of a split A|B", A the side that is written
   pub separation : {n : ℕ} {s : Similarity} {found : List (ℕ × ℤ)} → Wrote (pos 3) n s found
       → (A : ℕ) (z : ℤ) → found lists (A, z) → SeparationLeast n s A z
