@@ -63,7 +63,7 @@ use Rattle.interface.specs.Demands.{
 use Rattle.interface.specs.Tables.{Table, GivenFirst, NoneGiven, sheetTable}
 use Rattle.interface.proofs.Refusals.{numbered, passes, few-count}
 use Rattle.interface.proofs.Lines.{Readable, listing-read}
-use Rattle.interface.proofs.Slots.{groups-slots}
+use Rattle.interface.proofs.Slots.{groups-slots, group-at}
 use Rattle.interface.proofs.Accepted.{Passed, passed-allowed, passed-scored, sheet-passed, numbers-passed, linkage-scored}
 use Rattle.interface.proofs.Anchored.{length-anchored, way-back}
 use Rattle.interface.proofs.Agree.{Agree, agree-first, agree-none, refused-number}
@@ -416,7 +416,7 @@ module _ {n x : ℕ} {distances lent after : List ℤ} {r : Answer} (a : Anchore
       (z′, count′ ∙ sym count, taken first′ (distancesBack n S) lent′ (b .written) long ∙ ap (distancesBack n) scores ∙ same)
 
 -- an answer that is no refusal is its count in C
-answer-in-C : (a : Answer) → numberOf a ≡ 0 → cNumber a ≡ pos (countOf a)
+pub answer-in-C : (a : Answer) → numberOf a ≡ 0 → cNumber a ≡ pos (countOf a)
 unfolding numberOf countOf cNumber
 answer-in-C (Count c) z = refl
 answer-in-C (Refused k) z = ap (λ (j : ℕ). negℤ (pos j)) z
@@ -478,7 +478,10 @@ linked-fills {n = n} {l} {lent} c none =
 pub demand-3 : (kind : ℤ) → Demand3 kind
 demand-3 kind = record {
   lines = λ l. (lines l, lines-read l, line-size l);
-  slots = λ c. let (e, is) = slots-counted c in ap length e ∙ sym is;
+  slots = λ {n} {count} {l} {indices} {sets} c.
+      let (e, is) = slots-counted c in
+      let long = ap length e ∙ sym is in
+      (long, λ k h. group-at count sets indices k (omega (arith, long)));
   complete = wrote-all;
   strong-linked = λ e {n} {l} c none w A z m. let (b, t) = linked c none in
       subst (λ (bs : List ℕ). A ∈ bs) (sym b) (wrote-all w .strong-in-trees e A z m (score l) (linked-fills c none) (c .merges) t);

@@ -1,9 +1,11 @@
 -- What each call of document 01 answers, by its table in words; and the name of an entry.
 use mathlib.Core.Path.{_≡_, refl, sym, ap, ap₂, _∙_, subst}
 use mathlib.Core.Bool.{cond}
+use mathlib.Core.Logic.{_≢_}
 use mathlib.Core.List.{List, [], _∷_}
 use Prim.Native.Nat.{ℕ, _<_}
 use native.Mathlib.Omega.{arith}
+use lib.IntN.{pos, negℤ}
 use lib.ListN.{length, getD, take, drop}
 use Rattle.lists.proofs.Tests.{T-true, T-false}
 use Rattle.pairs.specs.declared.Carried.{Carried}
@@ -11,7 +13,7 @@ use Rattle.pairs.specs.declared.Pair.{Pair}
 use Rattle.pairs.specs.declared.Carried.the-variants.{Scored, Unscored}
 use Rattle.answers.specs.declared.Answer.{Answer}
 use Rattle.answers.specs.declared.ValueRead.{ValueRead}
-use Rattle.answers.specs.Answers.{numberOf, answer}
+use Rattle.answers.specs.Answers.{numberOf, countOf, answer}
 use Rattle.answers.proofs.Answers.{number-answer}
 use Rattle.interface.specs.Sheet.{isLoneMinus, isCell, valueOf, pairSaid, cut, names, entries}
 use Rattle.interface.specs.Refusals.{
@@ -26,7 +28,7 @@ use Rattle.interface.specs.Refusals.{
   readerRefusal,
   scoreRefusal,
 }
-use Rattle.interface.specs.Calls.{hasName, nameOf, nameStart, startOf, behind, pieceAt, ValueCall}
+use Rattle.interface.specs.Calls.{cNumber, hasName, nameOf, nameStart, startOf, behind, pieceAt, ValueCall}
 use Rattle.interface.specs.Sentences.{CellSays, points, lone-minus, count, Pieces}
 use Rattle.interface.specs.Tables.{NoneGiven, readerTable}
 use Rattle.interface.specs.TurnedAway.{NameHanded, ValueHanded, TurnedAway}
@@ -34,7 +36,7 @@ use Rattle.interface.proofs.Pieces.{some-piece}
 use Rattle.interface.proofs.Values.{signed-lone}
 use Rattle.interface.proofs.InPoints.{says-written, says-value}
 use Rattle.interface.proofs.Cells.{says-cell}
-use Rattle.interface.proofs.Agree.{Says, and-says, not-says, like, eq-says, lt-says, agree-none, judged, judged-in-C}
+use Rattle.interface.proofs.Agree.{Says, and-says, not-says, like, eq-says, lt-says, agree-none, judged, judged-in-C, refused-number}
 use Rattle.interface.proofs.AgreeText.{cut-pieces, pieces-cut, parted, formed-says}
 use Rattle.interface.proofs.AgreeTables.{
   reader-agrees,
@@ -52,6 +54,7 @@ use Rattle.interface.proofs.AgreeTables.{
   back-numbered,
   score-numbered,
 }
+use Rattle.interface.proofs.Demands.{answer-in-C}
 use Rattle.interface.proofs.Starts.{name-there, spaces-before, no-feed-before}
 
 -- a name
@@ -105,6 +108,10 @@ handed-value {line} {at} {r} c = record {
     whole [] h = absurd (omega arith)
     whole (w ∷ ws) h = refl
 
+-- an answer's number in C
+number-in-C : (a : Answer) → (numberOf a ≡ 0 → cNumber a ≡ pos (countOf a)) × (numberOf a ≢ 0 → cNumber a ≡ negℤ (pos (numberOf a)))
+number-in-C a = (answer-in-C a, λ f. refused-number a (numberOf a) (omega arith) .1 refl)
+
 pub turned-away : TurnedAway
 unfolding behind sheetRefusal readerRefusal numbersRefusal linkageRefusal anchoredRefusal backRefusal scoreRefusal
 turned-away = record {
@@ -118,7 +125,8 @@ turned-away = record {
   linkage-call = λ {linkage} {n} {l} {lent} c. judged (linkage-agrees n l (length lent)) (linkage-numbered n l (length lent)) (number _ _ (c .answered));
   anchored-call = λ {n} {x} {l} {lent} c. judged (anchored-agrees n x l (length lent)) (anchored-numbered n x l (length lent)) (number _ _ (c .answered));
   back-call = λ {n} {x} {l} {lent} c. judged (back-agrees n x l (length lent)) (back-numbered n x l (length lent)) (number _ _ (c .answered));
-  in-C = λ c f. judged-in-C c f;
+  in-C = λ c. let (none, some) = number-in-C (c .given) in (c .given, c .outcome, λ z. c .number ∙ none z, λ f. c .number ∙ some f);
+  judged-in-C = λ c f. judged-in-C c f;
   score-in-C = λ {n} {l} {i} {j} c. (firstOf (scoreChecks n l i j), c .answered, judged (score-agrees n l i j) (score-numbered n l i j) refl);
   name-call = λ {sheet} {part} {at} {place} {i} c. (nameStart sheet i, handed sheet i (c .bytes) refl, c .lies);
   name-in-C = λ {sheet} {i} c. (handed sheet i (c .bytes) (c .lies), ap length (c .bytes) ∙ sym (c .answered));

@@ -210,8 +210,10 @@ written = record {
   linkage = λ c. kept _ _ _ _ (c .answered) (c .written) (λ z. merged-slots c z .long);
   anchored = λ {n} {x} {l} c. kept _ _ _ _ (c .answered) (c .written) (λ z. length-anchored n x l ∙ sym (counted _ _ (c .answered) z));
   back = λ {n} {x} {l} c. kept _ _ _ _ (c .answered) (c .written) (λ z. length-pairList n (unfarris (score l)) ∙ sym (counted _ _ (c .answered) z));
-  reader = λ {sheet} c. kept _ _ _ _ (c .answered) (c .written) (λ z.
-      length-pairList (entries sheet) (value sheet) ∙ ap rowStart (sym (counted _ _ (c .answered) z)));
+  reader = λ {sheet} c. (
+    kept _ _ _ _ (c .answered) (c .written) (λ z. length-pairList (entries sheet) (value sheet) ∙ ap rowStart (sym (counted _ _ (c .answered) z))),
+    counted _ _ (c .answered),
+  );
   numbers-refused = λ {kind} {n} {l} {lentIndices} {indices} {lentSets} {sets} {r} c f.
       let k = numbersRefusal kind n l (length lentSets) (length lentIndices) in
       let many = length (groupsFound kind n l) in

@@ -6,7 +6,7 @@ use mathlib.Core.Option.{some}
 use Prim.Native.Nat.{ℕ, _^_, _<_, _≤_}
 use lib.IntN.{ℤ, pos, negℤ}
 use lib.Signed.{_≤ℤ_}
-use lib.ListN.{length, take, drop}
+use lib.ListN.{length, getD, take, drop}
 use Rattle.lists.specs.Lists.{_∈_, _lists_, Distinct}
 use Rattle.sets.specs.Sets.{_∋_, _∌_, size, complement, Nested, Disjoint}
 use Rattle.clusters.specs.PairList.{Similarity, score, scoreLimit}
@@ -144,9 +144,10 @@ pub record Demand3 (kind : ℤ) : Type 0 where
   pub lines : {sheet bytes : List ℕ} → Listed kind sheet bytes
       → (ls : List Line) × (listingRead bytes ≡ some ls)
       × ((l : Line) → l ∈ ls → l .size ≡ size (entries sheet) (l .set))
-  -- the numbers call's slots hold as many groups as it counts
+  -- the numbers call's slots hold as many groups as it counts, each with its index in the slot of the same number
   pub slots : {n count : ℕ} {l indices : List ℤ} {sets : List ℕ} → Counted kind n l count sets indices
-      → length (groupsOf count sets indices) ≡ count
+      → (length (groupsOf count sets indices) ≡ count)
+      × ((k : ℕ) → k < count → getD (groupsOf count sets indices) k (0, pos 0) ≡ (getD sets k 0, getD indices k (pos 0)))
   pub complete : {n : ℕ} {s : Similarity} {found : List (ℕ × ℤ)} → Wrote kind n s found → Complete kind n s found
   -- every strong group is a single entry or a block that the single linkage call writes, of the same list or of one
   -- that fills it; clean ones likewise, average

@@ -1,15 +1,16 @@
 -- Each call of document 01 answers the number that its table in words gives; the requests' calls are in
 -- interface/specs/Requests. And the name of an entry, which has no number, and a value that is read.
 use mathlib.Core.Path.{_≡_}
+use mathlib.Core.Logic.{_≢_}
 use mathlib.Core.List.{List, [], _∷_}
 use Prim.Native.Nat.{ℕ, _+_, _<_, _≤_}
-use lib.IntN.{ℤ, pos}
+use lib.IntN.{ℤ, pos, negℤ}
 use lib.ListN.{length, getD, take, drop}
 use Rattle.pairs.specs.declared.Carried.{Carried}
 use Rattle.pairs.specs.declared.Carried.the-variants.{Scored}
 use Rattle.clusters.specs.Linkage.{Linkage}
 use Rattle.answers.specs.declared.Answer.{Answer}
-use Rattle.answers.specs.Answers.{numberOf}
+use Rattle.answers.specs.Answers.{numberOf, countOf}
 use Rattle.answers.specs.declared.ValueRead.{ValueRead}
 use Rattle.answers.specs.Values.{readNumber, readPair, readPlace}
 use Rattle.interface.specs.Sheet.{names, entries}
@@ -69,8 +70,11 @@ pub record TurnedAway : Type 1 where
       → Judged (anchoredTable n x l (length lent)) (numberOf r)
   pub back-call : {n x : ℕ} {l lent after : List ℤ} {r : Answer} → BackCall n x l lent r after
       → Judged (backTable n x l (length lent)) (numberOf r)
-  -- and each of these in C: what is said of every answer of a call is said of its number in C
-  pub in-C : {Outcome : Answer → Type 0} {r : ℤ} {table : Table} → InC Outcome r
+  -- and each of these in C: "answers the listing's length in bytes, or minus the refusal number", of an answer that the
+  -- call gives; so what is said of every answer of a call is said of its number in C
+  pub in-C : {Outcome : Answer → Type 0} {r : ℤ} → InC Outcome r
+      → (a : Answer) × Outcome a × (numberOf a ≡ 0 → r ≡ pos (countOf a)) × (numberOf a ≢ 0 → r ≡ negℤ (pos (numberOf a)))
+  pub judged-in-C : {Outcome : Answer → Type 0} {r : ℤ} {table : Table} → InC Outcome r
       → ((a : Answer) → Outcome a → Judged table (numberOf a)) → JudgedInC table r
   -- those that answer otherwise: a score in C, a name, and a value
   pub score-in-C : {n : ℕ} {l : List ℤ} {i j : ℕ} {lent r after : ℤ} → ScoreInC n l i j lent r after

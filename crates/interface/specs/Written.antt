@@ -11,6 +11,7 @@ use Rattle.pairs.specs.declared.Pair.{Pair}
 use Rattle.clusters.specs.Linkage.{Linkage}
 use Rattle.answers.specs.declared.Answer.{Answer}
 use Rattle.answers.specs.Answers.{numberOf, countOf}
+use Rattle.interface.specs.Sheet.{entries}
 use Rattle.interface.specs.Listing.{Line, listingRead}
 use Rattle.interface.specs.Calls.{SheetCall, NumbersCall, LinkageCall, AnchoredCall, BackCall, ReaderCall}
 use Rattle.interface.specs.Calls.{pairAmong, ScoreInC, PoolCall}
@@ -75,7 +76,7 @@ pub record Written : Type 0 where
       → Kept (numberOf r) (countOf r) (countOf r) lent after
   -- the reader counts the entries and writes a pair list of them
   pub reader : {sheet : List ℕ} {lent after : List ℤ} {r : Answer} → ReaderCall sheet lent r after
-      → let n = countOf r in Kept (numberOf r) n (n * (n + 1) / 2) lent after
+      → let n = countOf r in Kept (numberOf r) n (n * (n + 1) / 2) lent after × (numberOf r ≡ 0 → n ≡ entries sheet)
   -- the numbers call "fills all further slots with 0"
   pub numbers-refused : {kind : ℤ} {n : ℕ} {l lentIndices indices : List ℤ} {lentSets sets : List ℕ} {r : Answer}
       → NumbersCall kind n l lentSets lentIndices r sets indices → numberOf r ≢ 0
