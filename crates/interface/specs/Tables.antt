@@ -72,16 +72,16 @@ readerTable sheet =
     ∷ []
 
 -- "The sheet and C calls make checks 1 to 9, 11, 12, 14"; 16 is "placed right after 11" (document 02, 2.2)
-abbrev pub sheetTable : (kind : ℤ) → List ℕ → (buffer : ℕ) → Table
-sheetTable kind sheet buffer =
-    ((1, NoKind kind) ∷ readerTable sheet)
-    ++ (
+abbrev pub listingTable : (kind : ℤ) → List ℕ → (buffer : ℕ) → Table
+listingTable kind sheet buffer =
     (11, PointsOut sheet)
     ∷ (16, (kind ≢ pos 1) × Unmeasured sheet)
     ∷ (12, (kind ≡ pos 3) × NoDistance sheet)
     ∷ (14, ShortFor (sheetListing kind sheet) buffer)
     ∷ []
-    )
+
+abbrev pub sheetTable : (kind : ℤ) → List ℕ → (buffer : ℕ) → Table
+sheetTable kind sheet buffer = ((1, NoKind kind) ∷ readerTable sheet) ++ listingTable kind sheet buffer
 
 -- "the numbers call 1, 6, 10 to 13"
 abbrev pub numbersTable : (kind : ℤ) (n : ℕ) → List ℤ → (sets indices : ℕ) → Table
@@ -146,18 +146,15 @@ sharedTable kind n l i j =
 abbrev pub scoresTable : List ℕ → Table
 scoresTable sheet = readerTable sheet ++ ((11, PointsOut sheet) ∷ [])
 
-abbrev pub poolTable : (first second : List ℕ) → (buffer : ℕ) → Table
-poolTable first second buffer =
-    scoresTable first
-    ++ (
-    scoresTable second
-    ++ (
+abbrev pub bothTable : (first second : List ℕ) → (buffer : ℕ) → Table
+bothTable first second buffer =
     (17, SameNames first second → ⊥)
     ∷ (18, SumBeyond first second)
     ∷ (14, ShortFor (poolText first second) buffer)
     ∷ []
-    )
-    )
+
+abbrev pub poolTable : (first second : List ℕ) → (buffer : ℕ) → Table
+poolTable first second buffer = scoresTable first ++ (scoresTable second ++ bothTable first second buffer)
 
 -- of the refined weight: "after 6, 10, 11, 16 and 12, judged as kind 3, a side with fewer than two, or a member numbered
 -- n or more, gives 19" (document 02, 2.5)
