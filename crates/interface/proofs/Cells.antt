@@ -20,8 +20,8 @@ use Rattle.pairs.specs.declared.Carried.{Carried}
 use Rattle.pairs.specs.declared.Carried.the-variants.{Scored}
 use Rattle.pairs.specs.Pairs.{mark, numberFor, listNumber, carried}
 use Rattle.pairs.proofs.Pairs.{Cases, carried-cases}
-use Rattle.clusters.specs.PairList.{scoreLimit, onePoint, pointLimit, isAllowedPair, scoresInRange}
-use Rattle.clusters.proofs.PairList.{in-pairList, of-pairList}
+use Rattle.clusters.specs.PairList.{score, scoreLimit, onePoint, pointLimit, isAllowedPair, scoresInRange}
+use Rattle.clusters.proofs.PairList.{in-pairList, of-pairList, score-mirrored}
 use Rattle.clusters.proofs.Scored.{allowed-within, within-range}
 use Rattle.interface.specs.Sheet.{isLoneMinus, isValue, isCell, valueOf, pairSaid, entries, words, value, mirrored, pairs}
 use Rattle.interface.specs.Refusals.{none, wrongValues, isRow, readerChecks}
@@ -131,6 +131,11 @@ module _ (s : List ℕ) where
 
     pub cells : (i j : ℕ) → i < entries s → j < entries s → CellSays (wordAt s i j) (carried (value s i j))
     cells = cell formed
+
+    -- and has this score in it
+    pub listed-score : (i j : ℕ) → i < entries s → j < entries s → score (pairs s) i j ≡ value s i j
+    unfolding pairs
+    listed-score = score-mirrored (entries s) (value s) (mirrored-same (entries s) (value s) same)
 
     -- a value is out of the range exactly if it is so in points
     fore : T (not (scoresInRange (pairs s))) → PointsOut s

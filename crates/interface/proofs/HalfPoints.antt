@@ -1,7 +1,7 @@
 -- Request 2.6, from the outcomes of the calls, what bytes say in points, and the theorems about doubled scores.
 use mathlib.Core.Path.{_≡_, refl, sym, ap, _∙_, subst}
 use mathlib.Core.Bool.{Bool, true, false, not, cond, _&&_}
-use mathlib.Core.List.{List, [], _∷_, map, map-map}
+use mathlib.Core.List.{List, [], _∷_, _++_, map, map-map}
 use mathlib.Core.Option.{some}
 use Prim.Native.Nat.{ℕ, zero, suc, _<_}
 use native.Mathlib.Omega.{arith}
@@ -34,12 +34,13 @@ use Rattle.interface.proofs.RowStarts.{request-2-3}
 use Rattle.interface.proofs.Pool.{request-2-4}
 use Rattle.interface.proofs.Weighed.{found}
 use Rattle.interface.proofs.InPoints.{says-value, written-says, one-text}
-use Rattle.interface.proofs.Cells.{cell-at, cells}
+use Rattle.interface.proofs.Cells.{cell-at, cells, listed-score}
 use Rattle.interface.proofs.Agree.{agree-none}
 use Rattle.interface.proofs.AgreeTables.{reader-agrees, reader-numbered, scores-agree, scores-numbered}
 use Rattle.interface.proofs.WholePoints.{
   Halveless,
   no-half-whole,
+  half-end,
   strong-kind,
   word-whole,
   same-three,
@@ -154,12 +155,12 @@ whole-call {kind} {r} {sheet} {lent} c f =
     }
 
 whole-listed : {kind : ℤ} {sheet bytes : List ℕ} → Listed kind sheet bytes
-    → ((i j : ℕ) → i < entries sheet → j < entries sheet → T (hasHalf (wordAt sheet i j)) → ⊥) → bytes ≡ wholeListing kind sheet
+    → ((i j : ℕ) → i < entries sheet → j < entries sheet → (w : List ℕ) → wordAt sheet i j ≡ w ++ (46 ∷ 53 ∷ []) → ⊥) → bytes ≡ wholeListing kind sheet
 unfolding sheetRefusal sheetCallChecks all
 whole-listed {kind} {sheet} l f =
     let a = accepted l in
     let formed = passes (sheetCallChecks kind sheet (a .buffer)) tt (a .passed) 7 (lit< tt) in
-    a .are ∙ listed-same kind sheet (a .buffer) (a .passed) (λ i j h k. no-half-whole (wordAt sheet i j) (cell-at sheet formed i j h k) (f i j h k))
+    a .are ∙ listed-same kind sheet (a .buffer) (a .passed) (λ i j h k. no-half-whole (wordAt sheet i j) (cell-at sheet formed i j h k) (λ t. f i j h k (wholePart (wordAt sheet i j)) (half-end (wordAt sheet i j) t)))
 
 pub request-2-6 : Request-2-6
 unfolding scoreLimit onePoint pointLimit twice
@@ -167,7 +168,9 @@ request-2-6 = record {
   every-number = λ z. (signedPoints z, written-says z);
   one-text = one-text;
   one-number = λ a b. sym (says-value a) ∙ says-value b;
-  cells = λ sheet g. cells sheet (first-none (readerChecks sheet) (reader-numbered sheet) .0 (agree-none (reader-agrees sheet) (reader-numbered sheet) .1 g));
+  cells = λ sheet g i j h k.
+      let none = first-none (readerChecks sheet) (reader-numbered sheet) .0 (agree-none (reader-agrees sheet) (reader-numbered sheet) .1 g) in
+      (cells sheet none i j h k, listed-score sheet none i j h k);
   read = λ {sheet} c none i j h below.
       let e = c .answered in
       let n = counted _ _ e none in

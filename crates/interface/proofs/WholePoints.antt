@@ -82,7 +82,7 @@ use Rattle.interface.specs.WholePoints.{
   signedDecimal,
 }
 use Rattle.interface.specs.Sentences.{wordAt}
-use Rattle.interface.proofs.Pieces.{free}
+use Rattle.interface.proofs.Pieces.{free, same-bytes}
 use Rattle.interface.proofs.Points.{parts, fraction-front}
 use Rattle.interface.proofs.Accepted.{unscored-left}
 use Rattle.interface.proofs.InPoints.{even-text, value-back}
@@ -218,6 +218,11 @@ cell-ends w t = go (or-T (isLoneMinus w) (isValue w) t)
     go : T (isLoneMinus w) ⊎ T (isValue w) → T (isWholeOrHalf w)
     go (inl l) = subst (λ (v : List ℕ). T (isWholeOrHalf v)) (sym (lone-word w l)) tt
     go (inr v) = value-ends w v
+
+-- a word that ends in `.5`
+pub half-end : (w : List ℕ) → T (hasHalf w) → w ≡ wholePart w ++ (46 ∷ 53 ∷ [])
+unfolding hasHalf halfText
+half-end w t = sym (parts w) ∙ ap (λ (v : List ℕ). wholePart w ++ v) (same-bytes (fraction w) (46 ∷ 53 ∷ []) t)
 
 pub no-half-whole : (w : List ℕ) → T (isCell w) → (T (hasHalf w) → ⊥) → fraction w ≡ []
 unfolding isWholeOrHalf

@@ -147,7 +147,8 @@ pub record Demand3 (kind : ℤ) : Type 0 where
   -- the numbers call's slots hold as many groups as it counts, each with its index in the slot of the same number
   pub slots : {n count : ℕ} {l indices : List ℤ} {sets : List ℕ} → Counted kind n l count sets indices
       → (length (groupsOf count sets indices) ≡ count)
-      × ((k : ℕ) → k < count → getD (groupsOf count sets indices) k (0, pos 0) ≡ (getD sets k 0, getD indices k (pos 0)))
+      × ((k : ℕ) → k < count
+      → getD (groupsOf count sets indices) k (0, pos 0) ≡ (getD sets k 0, getD indices k (pos 0)))
   pub complete : {n : ℕ} {s : Similarity} {found : List (ℕ × ℤ)} → Wrote kind n s found → Complete kind n s found
   -- every strong group is a single entry or a block that the single linkage call writes, of the same list or of one
   -- that fills it; clean ones likewise, average

@@ -1,6 +1,6 @@
--- Where a call is turned away (document 01), as tests, which the contracts of the code cite: the table, one check for each
--- line, in its order; and which call makes which checks. What a reader must believe is interface/specs/Sentences and
--- Tables, where the same is said in words; that both agree is proved (interface/proofs/AgreeTables).
+-- Where a call is turned away (document 01), as tests, which the contracts of the code cite: the table, one check for
+-- each line, in its order; and which call makes which checks. Nobody need believe it: interface/specs/Sentences and
+-- Tables say the same in words, and that both agree is proved (interface/proofs/AgreeTables).
 use mathlib.Core.Bool.{Bool, not, cond, _&&_, _||_}
 use mathlib.Core.List.{List, [], _∷_, _++_}
 use Prim.Native.Nat.{ℕ, _+_, _-_, _*_, _^_}

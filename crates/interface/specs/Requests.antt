@@ -28,7 +28,7 @@ use Rattle.answers.specs.declared.Shared.{Shared}
 use Rattle.answers.specs.Shared.{sharedNumber, sharedSet, sharedLine}
 use Rattle.answers.specs.declared.Weighed.{Weighed}
 use Rattle.answers.specs.Weighed.{weighedNumber, weighedWeight}
-use Rattle.interface.specs.Sheet.{point, hasHalf, names, entries, value, pairs}
+use Rattle.interface.specs.Sheet.{point, names, entries, value, pairs}
 use Rattle.interface.specs.Listing.{Line, lineWords, listingRead}
 use Rattle.interface.specs.Calls.{InC, CCall, AnchoredCall}
 use Rattle.interface.specs.Calls.{BackCall, ReaderCall, ScoreInC, SharedCall, SharedInC, PoolCall}
@@ -68,8 +68,8 @@ pub record SmallestFound (n i j : ℕ) (found : List (ℕ × ℤ)) (set line : �
   pub all-entries : (line ≡ 0) ↔ (set ≡ allEntries n)
 
 pub record Request-2-1 (kind : ℤ) : Type 0 where
-  -- "Kind 3 gets 1 here; after the numbers call's checks, 13 left out, an entry number of n or more gets 15": each number
-  -- is given if and only if its line holds and none before it does; "A refusal answers set 0, line 0."
+  -- "Kind 3 gets 1 here; after the numbers call's checks, 13 left out, an entry number of n or more gets 15": each
+  -- number is given if and only if its line holds and none before it does; "A refusal answers set 0, line 0."
   pub judged : {n : ℕ} {l : List ℤ} {i j number set line : ℕ} → SharedAnswered kind n l i j number set line
       → Judged (sharedTable kind n l i j) number
   pub refused : {n : ℕ} {l : List ℤ} {i j number set line : ℕ} → SharedAnswered kind n l i j number set line
@@ -88,8 +88,8 @@ pub record Request-2-1 (kind : ℤ) : Type 0 where
       → SharedAnswered kind n l i j 0 set line → SharedAnswered kind n l′ (p .to i) (p .to j) 0 set′ line′
       → Reordered n p (score l) (score l′) → (set′ ≡ image n p set) × ((line ≡ 0) ↔ (line′ ≡ 0))
 
--- 2.2, pairs that were never compared: that the mark is "exempt from 11", and that "Kinds 2 and 3, the linkage calls and
--- the anchored scores get 16 .., placed right after 11", is in the tables of these calls (interface/specs/Tables)
+-- 2.2, pairs that were never compared. That the mark is "exempt from 11", and that "Kinds 2 and 3, the linkage calls
+-- and the anchored scores get 16 .., placed right after 11", is in the tables of these calls (interface/specs/Tables).
 pub record Request-2-2 : Type 0 where
   -- "a set is listed exactly if every filling would list it"
   pub every-filling : {n : ℕ} {s : Similarity} {found : List (ℕ × ℤ)} → Wrote (pos 1) n s found
@@ -152,9 +152,9 @@ pub record SameSet (first second : List ℕ) (A B : ℕ) : Type 0 where
   pub same : (i j : ℕ) → SameName first second i j → (A ∋ i) ↔ (B ∋ j)
 
 pub record Request-2-4 : Type 0 where
-  -- "The first sheet passes 2 to 9 and 11, then the second; after them 17 means the two name sets differ, 18 a sum out of
-  -- range, and 14 a short buffer": each number is given if and only if its line holds and none before it does; nothing is
-  -- then written
+  -- "The first sheet passes 2 to 9 and 11, then the second; after them 17 means the two name sets differ, 18 a sum out
+  -- of range, and 14 a short buffer": each number is given if and only if its line holds and none before it does;
+  -- nothing is then written
   pub judged : {first second lent after : List ℕ} {r : ℤ} → InC (λ a. PoolCall first second lent a after) r
       → JudgedInC (poolTable first second (length lent)) r
   pub refused : {first second lent after : List ℕ} {r : ℤ} → InC (λ a. PoolCall first second lent a after) r
@@ -233,8 +233,8 @@ pub data WroteOf (kind : ℤ) : ℕ → List ℤ → List (ℕ × ℤ) → Type 
       → WroteOf kind (entries sheet) (pairs sheet) (map (λ l. (l .set, l .index)) ls)
 
 pub record Request-2-5 : Type 0 where
-  -- "after 6, 10, 11, 16 and 12, judged as kind 3, a side with fewer than two, or a member numbered n or more, gives 19":
-  -- each number is given if and only if its line holds and none before it does; "Refused, the weight is 0."
+  -- "after 6, 10, 11, 16 and 12, judged as kind 3, a side with fewer than two, or a member numbered n or more, gives
+  -- 19": each number is given if and only if its line holds and none before it does; "Refused, the weight is 0."
   pub judged : {n : ℕ} {l : List ℤ} {A number : ℕ} {w : ℤ} → SideWeighed n l A number w
       → Judged (weightTable n l A) number
   pub refused : {n : ℕ} {l : List ℤ} {A number : ℕ} {w : ℤ} → SideWeighed n l A number w
@@ -278,8 +278,8 @@ pub record Request-2-5 : Type 0 where
       → {found : List (ℕ × ℤ)} → WroteOf (pos 3) n l found → A < 2 ^ n → 2 ≤ size n A → size n A + 2 ≤ n
       → (z : ℤ) → found lists (writtenSet splits n A, z) → ((pos (n - 3) *ℤ z) ≤ℤ w) × (pos 1 ≤ℤ w)
 
--- 2.6, half points: `InPoints` and `CellSays` in interface/specs/Sentences are what the bytes of a value say, by which 8,
--- 9, 11 and 12 of a sheet are said
+-- 2.6, half points: `InPoints` and `CellSays` in interface/specs/Sentences are what the bytes of a value say; by them
+-- 8, 9, 11 and 12 of a sheet are said.
 pub record Request-2-6 : Type 0 where
   -- every number of half points is said by some bytes
   pub every-number : (z : ℤ) → (w : List ℕ) × InPoints w z
@@ -289,7 +289,7 @@ pub record Request-2-6 : Type 0 where
   -- "The value reader now answers in half points, and all that use it follow: the pair list": of every sheet that
   -- passes 2 to 9, and of what the reader writes, here and in C
   pub cells : (sheet : List ℕ) → NoneGiven (readerTable sheet) → (i j : ℕ) → i < entries sheet → j < entries sheet
-      → CellSays (wordAt sheet i j) (carried (value sheet i j))
+      → CellSays (wordAt sheet i j) (carried (value sheet i j)) × (score (pairs sheet) i j ≡ value sheet i j)
   pub read : {sheet : List ℕ} {lent after : List ℤ} {r : Answer} → ReaderCall sheet lent r after → numberOf r ≡ 0
       → (i j : ℕ) → i < countOf r → j ≤ i
       → CellSays (wordAt sheet i j) (carried (getD after (i * (i + 1) / 2 + j) (pos 0)))
@@ -308,7 +308,7 @@ pub record Request-2-6 : Type 0 where
   pub whole-points : {kind r : ℤ} {sheet lent after : List ℕ} → CCall kind sheet lent r after → (point ∈ sheet → ⊥)
       → WholeCall kind sheet lent r after
   pub whole-values : {kind : ℤ} {sheet bytes : List ℕ} → Listed kind sheet bytes
-      → ((i j : ℕ) → i < entries sheet → j < entries sheet → T (hasHalf (wordAt sheet i j)) → ⊥)
+      → ((i j : ℕ) → i < entries sheet → j < entries sheet → (w : List ℕ) → wordAt sheet i j ≡ w ++ (46 ∷ 53 ∷ []) → ⊥)
       → bytes ≡ wholeListing kind sheet
   -- every index of doubled scores is twice the index, and so is every weight
   pub doubled : {kind : ℤ} {n : ℕ} {s t : Similarity} {found found′ : List (ℕ × ℤ)}

@@ -156,8 +156,8 @@ bothTable first second buffer =
 abbrev pub poolTable : (first second : List ℕ) → (buffer : ℕ) → Table
 poolTable first second buffer = scoresTable first ++ (scoresTable second ++ bothTable first second buffer)
 
--- of the refined weight: "after 6, 10, 11, 16 and 12, judged as kind 3, a side with fewer than two, or a member numbered
--- n or more, gives 19" (document 02, 2.5)
+-- of the refined weight: "after 6, 10, 11, 16 and 12, judged as kind 3, a side with fewer than two, or a member
+-- numbered n or more, gives 19" (document 02, 2.5)
 abbrev pub weightTable : (n : ℕ) → List ℤ → (side : ℕ) → Table
 weightTable n l A =
     (6, NoneOrOver32 n)

@@ -69,8 +69,9 @@ pub record Taken : Type 0 where
       → {lent after : List ℤ} {r : Answer} → ReaderCall (sheetText ns s) lent r after
       → let n = length ns in let l = take (n * (n + 1) / 2) after in
       (numberOf r ≡ 0) × (countOf r ≡ n) × FitsList n l × ((i j : ℕ) → i < n → j ≤ i → lower l i j ≡ s i j)
-  pub name : {ns : List (List ℕ)} {s : Similarity} → FitsSheet ns s → {i r start : ℕ} → NameInC (sheetText ns s) i r start
-      → i < length ns → take r (drop start (sheetText ns s)) ≡ getD ns i []
+  pub name : {ns : List (List ℕ)} {s : Similarity} → FitsSheet ns s
+      → {i r start : ℕ} → NameInC (sheetText ns s) i r start → i < length ns
+      → take r (drop start (sheetText ns s)) ≡ getD ns i []
   -- of a pair list that fits: the numbers call counts "with 2n slots" each and gives 13 with fewer in either
   pub numbers : {n : ℕ} {l : List ℤ} → FitsList n l → {kind : ℤ} → ListKind n l kind
       → {lentSets sets : List ℕ} {lentIndices indices : List ℤ} {r : Answer}

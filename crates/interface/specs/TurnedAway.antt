@@ -73,7 +73,8 @@ pub record TurnedAway : Type 1 where
   -- and each of these in C: "answers the listing's length in bytes, or minus the refusal number", of an answer that the
   -- call gives; so what is said of every answer of a call is said of its number in C
   pub in-C : {Outcome : Answer → Type 0} {r : ℤ} → InC Outcome r
-      → (a : Answer) × Outcome a × (numberOf a ≡ 0 → r ≡ pos (countOf a)) × (numberOf a ≢ 0 → r ≡ negℤ (pos (numberOf a)))
+      → (a : Answer) × Outcome a
+      × (numberOf a ≡ 0 → r ≡ pos (countOf a)) × (numberOf a ≢ 0 → r ≡ negℤ (pos (numberOf a)))
   pub judged-in-C : {Outcome : Answer → Type 0} {r : ℤ} {table : Table} → InC Outcome r
       → ((a : Answer) → Outcome a → Judged table (numberOf a)) → JudgedInC table r
   -- those that answer otherwise: a score in C, a name, and a value

@@ -18,8 +18,8 @@ use Rattle.interface.specs.Calls.{pairAmong, ScoreInC, PoolCall}
 use Rattle.interface.specs.Sentences.{DecimalSays, InPoints, markNumber, lower, OtherLength, NoEntries}
 use Rattle.interface.specs.Demands.{Listed}
 
--- a call that answers a refusal's number, 0 for none, and a count, and writes so many slots of those lent: "Nothing lent
--- is then written; the count and length are 0"; "slots beyond are not touched"
+-- a call that answers a refusal's number, 0 for none, and a count, and writes so many slots of those lent: "Nothing
+-- lent is then written; the count and length are 0"; "slots beyond are not touched"
 pub record Kept {A : Type 0} (number count written : ℕ) (lent after : List A) : Type 0 where
   pub refused : number ≢ 0 → (after ≡ lent) × (count ≡ 0)
   pub beyond : number ≡ 0 → drop written after ≡ drop written lent
