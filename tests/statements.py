@@ -1,7 +1,7 @@
 #!/usr/bin/env python3
 """What a reader is told of the statements is so: no line of a definition or of a contract is wider than 120 columns; the files that
 docs/PROMISES.md says to read have the lines that it says; every must-fail edit that it names is there; definitions that nobody need
-believe say so, and those that must be believed cite no others; each call has the contract that is named there; the man page has the header's calls and numbers, and the refusals in its
+believe say so, and those that must be believed cite no others, nor the tests of the refusal table; each call has the contract that is named there; the man page has the header's calls and numbers, and the refusals in its
 words. The last line is `N passed, M failed`."""
 import glob
 import os
@@ -44,6 +44,12 @@ head = {p: text(p).split("\nuse ")[0].replace("\n-- ", " ") for p in specs}
 hold("what is the code's own vocabulary says so", [p for p in specs if p.split("/")[1] not in believed and "believe" not in head[p]])
 cited = [f"{p}: {c}" for p, _ in rows for c in re.findall(r"^use Rattle·([a-z]+)", text(p), re.M) if c not in believed]
 hold("what must be believed cites nothing else", cited)
+
+worded = [p for p, _ in rows if "/interface/" in p and not re.search(r"/(Calls|WholePoints)\.antt$", p)]
+hold(
+    "what is said in words cites no test of the refusal table",
+    [p for p in worded if "specs.Refusals." in text(p)] or ([] if len(worded) > 10 else [f"only {len(worded)} files were found"]),
+)
 
 named = []
 tables = promises[promises.index("| in C |") : promises.index("## The sheet")] + promises[promises.index("## Wrong versions") :]
