@@ -34,13 +34,14 @@ use Rattle.integers.specs.Integers.{maxZ, greatest, sumOf, sum}
 use Rattle.integers.proofs.Linear.{zarith, *at, up, dn}
 use Rattle.integers.proofs.Least.{greatest-ge, greatest-of}
 use Rattle.sets.specs.Sets.{has, _∋_, _∪_, members, size, Subset}
-use Rattle.sets.proofs.Sets.{clash, ∪-left, ∪-right, ∪-cases, subset-antisymm}
+use Rattle.sets.proofs.Sets.{clash, ∪-left, ∪-right, ∪-cases, ∪-lt, subset-antisymm}
 use Rattle.pairs.specs.Pairs.{mark, carried, isScored}
 use Rattle.integers.specs.Integers.{eqZ}
 use Rattle.clusters.specs.PairList.{Similarity, rowStart, place, score, onePoint, pointLimit, scoreLimit, isInRange, inRange, hasUnscored}
 use Rattle.clusters.specs.Linkage.{Quotient, _≼_, between, Linkage, single, average, link, Greatest, merged, Merges, singles, Tree, mergedBlocks}
 use Rattle.clusters.proofs.Blocks.{Partition, disjoint, of-merged, partition-merged, partition-singles}
 use Rattle.clusters.proofs.Links.{in-between, of-between, sum-between}
+use Rattle.clusters.proofs.Exists.{length-merged, count-singles}
 use Rattle.answers.specs.declared.Answer.{Answer}
 use Rattle.answers.specs.Answers.{numberOf, countOf}
 use Rattle.interface.specs.Sheet.{sameBytes}
@@ -196,6 +197,94 @@ walk linkage n s done bs (m ∷ ms) l t (suc k) h =
     subst₂ (λ (slots : List ℕ) (k : ℕ). SlotMerges linkage n s slots k) (append-assoc done (X ∷ []) (mergedBlocks ms)) e
     (walk linkage n s (done ++ (X ∷ [])) (merged U W bs) ms (one-more l U W (g .left) (g .right) (g .apart)) (t .1) k (omega arith))
 
+-- a link that is no smaller, the other way
+no-greater : (g h x y : ℤ) → g ≡ x → x ≤ℤ y → y ≤ℤ h → (pos 1 *ℤ g) ≤ℤ (pos 1 *ℤ h)
+unfolding up dn
+no-greater g h x y e a b = omega (zarith, *at (pos 1) g, *at (pos 1) h)
+
+link-below : (linkage : Linkage) (n : ℕ) (s : Similarity) (U W P Q : ℕ) → ((i : ℕ) × (i < n) × (P ∋ i)) → ((i : ℕ) × (i < n) × (Q ∋ i))
+    → NoSmaller linkage n s U W P Q → link linkage n s P Q ≼ link linkage n s U W
+unfolding link _≼_
+link-below single n s U W P Q (a, ha, ka) (b, hb, kb) f =
+    let (p, q, hp, hq, kp, kq, e) = of-between n s P Q (greatest-of (between n s P Q) (in-between n s P Q ha hb ka kb)) in
+    let (u, w, hu, hw, ku, kw, le) = f p q hp hq kp kq in
+    no-greater (greatest (between n s P Q)) (greatest (between n s U W)) (s p q) (s u w) e le (greatest-ge (between n s U W) (in-between n s U W hu hw ku kw))
+link-below average n s U W P Q a b le =
+    subst₂ (λ x y. (pos (size n U * size n W) *ℤ x) ≤ℤ (pos (size n P * size n Q) *ℤ y)) (sym (sum-between n s P Q)) (sym (sum-between n s U W)) le
+
+-- a list of which each slot merges so, from the blocks left on
+module _ (linkage : Linkage) (n : ℕ) (s : Similarity) where
+  -- the slot behind those done merges two of the blocks left
+  record Next (done bs : List ℕ) (X : ℕ) : Type 0 where
+    U : ℕ
+    W : ℕ
+    merges : Greatest (link linkage n s) bs U W
+    is : X ≡ U ∪ W
+
+  next-slot : (done bs : List ℕ) (X : ℕ) (rest : List ℕ) → Left n done bs → X < 2 ^ n → SlotMerges linkage n s (done ++ (X ∷ rest)) (length done) → Next done bs X
+  next-slot done bs X rest l low m =
+      let U = m .U in
+      let W = m .W in
+      let mu = is-left l U (stands U (m .one .stands)) (λ Y y sub. m .one .largest Y (back Y y) sub) in
+      let mw = is-left l W (stands W (m .other .stands)) (λ Y y sub. m .other .largest Y (back Y y) sub) in
+      record {
+        U = U;
+        W = W;
+        merges = record {
+          left = mu;
+          right = mw;
+          apart = m .apart;
+          most = λ P Q p q d. link-below linkage n s U W P Q (l .part .some P p) (l .part .some Q q) (m .greatest P Q (left-at P p) (left-at Q q) d);
+        };
+        is = subset-antisymm n X (U ∪ W) low (∪-lt n (l .part .small U mu) (l .part .small W mw))
+            (record { all = λ i h k. either i (m .union i h .0 (here i k)) })
+            (record { all = λ i h k. there i (m .union i h .1 (∪-cases U W k)) });
+      }
+    where
+      front : take (length done) (done ++ (X ∷ rest)) ≡ done
+      front = take-append-seam done (X ∷ rest)
+
+      slot : getD (done ++ (X ∷ rest)) (length done) 0 ≡ X
+      slot = getD-at done X rest 0 (length done) refl
+
+      stands : (Y : ℕ) → Standing n (take (length done) (done ++ (X ∷ rest))) Y → Standing n done Y
+      stands Y y = subst (λ (d : List ℕ). Standing n d Y) front y
+
+      back : (Y : ℕ) → Standing n done Y → Standing n (take (length done) (done ++ (X ∷ rest))) Y
+      back Y y = subst (λ (d : List ℕ). Standing n d Y) (sym front) y
+
+      left-at : (P : ℕ) → P ∈ bs → LeftBefore n (done ++ (X ∷ rest)) (length done) P
+      left-at P p = record { stands = back P (l .stand P p); largest = λ Y y sub. largest l P p Y (stands Y y) sub }
+
+      here : (i : ℕ) → X ∋ i → getD (done ++ (X ∷ rest)) (length done) 0 ∋ i
+      here i k = subst (λ (Y : ℕ). Y ∋ i) (sym slot) k
+
+      there : (i : ℕ) → getD (done ++ (X ∷ rest)) (length done) 0 ∋ i → X ∋ i
+      there i k = subst (λ (Y : ℕ). Y ∋ i) slot k
+
+      either : (i : ℕ) → (m .U ∋ i) ⊎ (m .W ∋ i) → (m .U ∪ m .W) ∋ i
+      either i (inl k) = ∪-left (m .U) (m .W) k
+      either i (inr k) = ∪-right (m .U) (m .W) k
+
+  down : (done bs rest : List ℕ) → Left n done bs → length rest + 1 ≡ length bs → ((X : ℕ) → X ∈ rest → X < 2 ^ n)
+      → ((k : ℕ) → k < length rest → SlotMerges linkage n s (done ++ rest) (length done + k))
+      → (ms : List (ℕ × ℕ)) × Merges (link linkage n s) bs ms × (mergedBlocks ms ≡ rest)
+  unfolding mergedBlocks
+  down done bs [] l e low f = ([], sym e, refl)
+  down done bs (X ∷ rest) l e low f =
+      let z : length done + 0 ≡ length done = omega arith in
+      let x = next-slot done bs X rest l (low X (List·Memᴰ·head refl)) (subst (SlotMerges linkage n s (done ++ (X ∷ rest))) z (f 0 (omega arith))) in
+      let U = x .U in
+      let W = x .W in
+      let g = x .merges in
+      let done′ = done ++ (X ∷ []) in
+      let l′ : Left n done′ (merged U W bs) = subst (λ (Y : ℕ). Left n (done ++ (Y ∷ [])) (merged U W bs)) (sym (x .is)) (one-more l U W (g .left) (g .right) (g .apart)) in
+      let fewer = length-merged U W bs (g .left) (g .right) (g .apart) in
+      let (ms, t, is) = down done′ (merged U W bs) rest l′ (omega (arith, fewer)) (λ Y m. low Y (List·Memᴰ·tail m)) (λ k h.
+      let q : length done + suc k ≡ length done′ + k = omega (arith, length-append done (X ∷ [])) in
+      subst₂ (λ (slots : List ℕ) (k : ℕ). SlotMerges linkage n s slots k) (sym (append-assoc done (X ∷ []) rest)) q (f (suc k) (omega arith))) in
+      ((U, W) ∷ ms, (g, t), ap₂ (λ (y : ℕ) (r : List ℕ). y ∷ r) (sym (x .is)) is)
+
 -- of a call
 ordered : {linkage : Linkage} {n : ℕ} {l : List ℤ} {lent after : List ℕ} {r : Answer} (c : LinkageCall linkage n l lent r after) → numberOf r ≡ 0
     → (k : ℕ) → k < countOf r → SlotMerges linkage n (score l) (take (countOf r) after) k
@@ -279,6 +368,9 @@ four-scored m = T-not (hasUnscored fourScores) tt (marked-says fourScores .from 
 pub in-order : InOrder
 in-order = record {
   slots = λ c none. let e = merged-slots c none .count in (omega arith, ordered c none);
+  every-tree = λ linkage n s slots e low f.
+      down linkage n s [] (singles n) slots (single-entries n) (omega (arith, count-singles n)) low (λ k h.
+      let z : k ≡ 0 + k = omega arith in subst (SlotMerges linkage n s slots) z (f k h));
   four = λ {linkage} {lent} {after} {r} c h.
       let none = whatever-fits .linked four-fit four-scored c .0 h in
       let m = merged-slots c none in

@@ -10,7 +10,7 @@ use Rattle.lists.specs.Lists.{_∈_}
 use Rattle.integers.specs.Integers.{sumOf}
 use Rattle.sets.specs.Sets.{_∋_, members, size, Subset}
 use Rattle.clusters.specs.PairList.{Similarity, score}
-use Rattle.clusters.specs.Linkage.{Linkage, single, average}
+use Rattle.clusters.specs.Linkage.{Linkage, single, average, Tree, mergedBlocks}
 use Rattle.answers.specs.declared.Answer.{Answer}
 use Rattle.answers.specs.Answers.{numberOf, countOf}
 use Rattle.interface.specs.Calls.{LinkageCall}
@@ -54,6 +54,12 @@ pub record InOrder : Type 0 where
   pub slots : {linkage : Linkage} {n : ℕ} {l : List ℤ} {lent after : List ℕ} {r : Answer}
       → LinkageCall linkage n l lent r after → numberOf r ≡ 0
       → (countOf r + 1 ≡ n) × ((k : ℕ) → k < countOf r → SlotMerges linkage n (score l) (take (countOf r) after) k)
+  -- "every list of this kind, down to one block, is a tree that the sheet allows": n − 1 sets of entries of which each
+  -- merges so are the merged blocks of a tree, whatever the choice at ties
+  pub every-tree : (linkage : Linkage) (n : ℕ) (s : Similarity) (slots : List ℕ)
+      → length slots + 1 ≡ n → ((X : ℕ) → X ∈ slots → X < 2 ^ n)
+      → ((k : ℕ) → k < length slots → SlotMerges linkage n s slots k)
+      → (ms : List (ℕ × ℕ)) × Tree linkage n s ms × (mergedBlocks ms ≡ slots)
   -- one call computed, of which every tree has the same blocks in the same order
   pub four : {linkage : Linkage} {lent after : List ℕ} {r : Answer} → LinkageCall linkage 4 fourScores lent r after
       → 3 ≤ length lent → (numberOf r ≡ 0) × (take 3 after ≡ 12 ∷ 3 ∷ 15 ∷ [])
