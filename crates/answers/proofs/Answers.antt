@@ -1,5 +1,5 @@
 -- What an answer says, read back.
-use mathlib.Core.Path.{_≡_, refl}
+use mathlib.Core.Path.{_≡_, refl, ap, _∙_}
 use mathlib.Core.Logic.{_≢_}
 use mathlib.Core.List.{List, _++_}
 use Prim.Native.Nat.{ℕ, zero, suc, _-_, _<_}
@@ -8,6 +8,7 @@ use lib.Dec.{eqb·suc-zero}
 use lib.IntN.{ℤ, pos}
 use lib.ListN.{length, take, drop, replicate}
 use lib.Seq.{take-append-seam}
+use Rattle.answers.specs.declared.Answer.{Answer}
 use Rattle.answers.specs.declared.Answer.the-variants.{Count, Refused}
 use Rattle.answers.specs.Answers.{numberOf, countOf, answer, slots, filled}
 use Rattle.answers.specs.Shared.{sharedNumber, sharedSet, sharedLine, sharedAnswer}
@@ -17,6 +18,9 @@ pub number-answer : (k c : ℕ) → numberOf (answer k c) ≡ k
 unfolding numberOf answer
 number-answer zero c = refl
 number-answer (suc k) c = refl
+
+pub its-number : {r : Answer} (k c : ℕ) → r ≡ answer k c → numberOf r ≡ k
+its-number k c e = ap numberOf e ∙ number-answer k c
 
 pub count-answer : (c : ℕ) → countOf (answer 0 c) ≡ c
 unfolding countOf answer

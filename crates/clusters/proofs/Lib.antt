@@ -31,3 +31,4 @@ pub mod Crossing
 pub mod Refined
 pub mod Triples
 pub mod Doubled
+pub mod Bounds

@@ -12,7 +12,7 @@ use Rattle.lists.specs.Lists.{_∈_, all}
 use Rattle.lists.proofs.Tests.{and-T, T-and}
 use Rattle.lists.proofs.Lists.{all-in, in-all, some-fails}
 use Rattle.integers.specs.Integers.{eqZ}
-use Rattle.integers.specs.Range.{Within}
+use Rattle.integers.specs.Range.{Within, Bounded}
 use Rattle.pairs.specs.declared.Carried.the-variants.{Scored, Unscored}
 use Rattle.pairs.specs.Pairs.{mark, carried, isScored}
 use Rattle.pairs.proofs.Pairs.{Cases, carried-cases, scored-is, is-scored}
@@ -92,6 +92,10 @@ all-scored l t z m = at (carried-cases z)
 
 pub list-scored : (n : ℕ) (l : List ℤ) → length l ≡ rowStart n → T (not (hasUnscored l)) → AllScored n (score l)
 list-scored n l long t a b ha hb = all-scored l t (score l a b) (score-element n l long ha hb)
+
+pub range-limit : (l : List ℤ) → T (inRange l) → Bounded scoreLimit l
+unfolding inRange
+range-limit l t z m = range-within (all-in (isInRange scoreLimit) l t m)
 
 -- with no unscored pair every number is in range
 pub scored-in-range : (l : List ℤ) → T (scoresInRange l) → T (not (hasUnscored l)) → T (inRange l)

@@ -13,7 +13,7 @@ use mathlib.Core.List.{
   Memᴰ·append-right,
   Memᴰ·cast,
 }
-use Prim.Native.Nat.{ℕ, suc, _+_, _^_, _≤_, _<_}
+use Prim.Native.Nat.{ℕ, suc, _+_, _-_, _*_, _^_, _≤_, _<_}
 use native.Mathlib.Omega.{arith}
 use native.Mathlib.Decide.{decLt}
 use lib.IntN.{ℤ, pos}
@@ -222,3 +222,10 @@ module _ (n : ℕ) (s : Similarity) (symm : Symmetric s) where
 pub groups-bound : (k : Kind) (n : ℕ) (s : Similarity) → Symmetric s → length (groups k n s) ≤ mostGroups k n
 unfolding groups
 groups-bound k n s symm = omega (arith, length-map {B = ℕ × ℤ} (groupSets k n s) (λ A. (A, index k n s A)), bound n s symm k (decLt n 2))
+
+-- of any kind at most 2n − 2
+pub groups-most : (k : Kind) (n : ℕ) (s : Similarity) → Symmetric s → length (groups k n s) ≤ 2 * n - 2
+unfolding mostGroups
+groups-most strong n s symm = groups-bound strong n s symm
+groups-most clean n s symm = omega (arith, groups-bound clean n s symm)
+groups-most splits n s symm = omega (arith, groups-bound splits n s symm)

@@ -15,7 +15,8 @@ use Rattle.clusters.specs.PairList.{score, onePoint, pointLimit, scoreLimit, in
 use Rattle.clusters.specs.Farris.{farris, anchoredScores, distancesBack}
 use Rattle.clusters.proofs.PairList.{of-pairList}
 use Rattle.clusters.proofs.Farris.{score-back}
-use Rattle.matrix.proofs.Scores.{range-limit, score-within}
+use Rattle.clusters.proofs.Scored.{range-limit}
+use Rattle.clusters.proofs.Bounds.{score-within}
 use Rattle.farris.specs.declared.Way.{Way}
 use Rattle.farris.specs.declared.Way.the-variants.{Anchored, Back}
 use Rattle.farris.specs.Ways.{converted, Convertible}

@@ -19,11 +19,11 @@ use Rattle.answers.specs.Shared.{sharedNumber, sharedSet, sharedLine, sharedAns
 use Rattle.interface.specs.Listing.{groupsFound}
 use Rattle.interface.specs.Refusals.{scoreChecks, scoreRefusal, sharedChecks, sharedRefusal}
 use Rattle.interface.specs.Calls.{cNumber, setsFound, NameInC, pairAmong, ScoreInC, sharedFound, SharedCall, SharedInC}
+use Rattle.interface.proofs.Room.{groups-few}
 use Rattle.interface.proofs.Refusals.{first-le}
 use Rattle.reader.specs.Names.{NamePart}
 use Rattle.triangle.proofs.Among.{scored}
 use Rattle.shared.proofs.Answers.{shared-pass}
-use Rattle.farzhudyl.proofs.Room.{groups-few}
 
 pub name-told : (s : List ℕ) (i from to : ℕ) → NamePart s i from to → NameInC s i (to - from) from
 name-told s i from to p = record {

@@ -1,4 +1,3 @@
-pub mod Room
 pub mod Numbers
 pub mod Found
 pub mod Sheets

@@ -1,6 +1,5 @@
--- What the sheet call can answer: a refusal's number is at most 16, a listing's length at most 1,379.
+-- What the sheet call can answer: a refusal's number is at most 16, a listing's length at most 1,503.
 use mathlib.Core.Path.{_≡_, refl}
-use mathlib.Core.Bool.{false}
 use mathlib.Core.List.{List}
 use Prim.Native.Nat.{ℕ, zero, suc, _≤_}
 use native.Mathlib.Omega.{arith}
@@ -9,16 +8,14 @@ use lib.Dec.{lit<}
 use lib.ListN.{length}
 use Rattle.lists.specs.Lists.{all}
 use Rattle.lists.proofs.Tests.{T-false}
-use Rattle.interface.specs.Refusals.{wrongCount, wrongUnscored, sheetCallChecks, sheetRefusal}
-use Rattle.interface.proofs.Refusals.{first-le, passes, some-count, right-count}
+use Rattle.interface.specs.Refusals.{wrongCount, sheetCallChecks, sheetRefusal}
+use Rattle.interface.proofs.Refusals.{first-le, passes, right-count}
 use Rattle.interface.proofs.Accepted.{sheet-passed}
-use Rattle.matrix.specs.Checks.{Checked}
-use Rattle.kinds.proofs.Listed.{accepted}
+use Rattle.interface.proofs.Room.{listing-room}
 use Rattle.answers.specs.Answers.{numberOf, countOf, answer}
 use Rattle.answers.proofs.Answers.{number-answer}
-use Rattle.interface.specs.Sheet.{entries, pairs}
+use Rattle.interface.specs.Sheet.{entries}
 use Rattle.interface.specs.Listing.{sheetListing}
-use Rattle.farzhudyl.proofs.Room.{listing-room}
 
 -- the count is 0 on refusal
 pub count-most : (k : ℕ) {c most : ℕ} → (k ≡ 0 → c ≤ most) → countOf (answer k c) ≤ most
@@ -36,10 +33,8 @@ module _ (kind : ℤ) (s : List ℕ) (room : ℕ) where
   unfolding sheetRefusal sheetCallChecks sheetListing all
   length-le e =
       let checks = sheetCallChecks kind s room in
-      let six : wrongCount (entries s) ≡ false = T-false {b = wrongCount (entries s)} (passes checks tt e 5 (lit< tt)) in
-      let p = sheet-passed kind s room e in
-      let checked : Checked (entries s) (pairs s) = record { some = some-count (entries s) six; few = right-count (entries s) six; long = p .long; range = p .range } in
-      listing-room kind (entries s) (pairs s) (accepted kind checked (T-false {b = wrongUnscored kind (pairs s)} (p .sixteen)))
+      let six = T-false {b = wrongCount (entries s)} (passes checks tt e 5 (lit< tt)) in
+      listing-room (right-count (entries s) six) (sheet-passed kind s room e)
 
   pub count-le : countOf (answer (sheetRefusal kind s room) (length (sheetListing kind s))) ≤ 1503
   count-le = count-most (sheetRefusal kind s room) length-le

@@ -31,6 +31,7 @@ use Rattle.interface.specs.Pool.{poolText}
 use Rattle.interface.proofs.Pool.{pool-room}
 use Rattle.clusters.specs.Groups.{kindOf}
 use Rattle.clusters.proofs.PairList.{rowStart-le}
+use Rattle.interface.proofs.Room.{groups-few}
 use Rattle.interface.proofs.Refusals.{no-first, first-le, right-count}
 use Rattle.answers.specs.declared.Answer.{Answer}
 use Rattle.answers.specs.Answers.{numberOf, countOf, answer}
@@ -39,7 +40,6 @@ use Rattle.interface.specs.Listing.{groupsFound}
 use Rattle.interface.specs.Sheet.{entries}
 use Rattle.reader.proofs.Answers.{passes-few}
 use Rattle.farzhudyl.proofs.Numbers.{count-most}
-use Rattle.farzhudyl.proofs.Room.{groups-few}
 
 -- what `as_number` asks
 abbrev pub Small : Answer → Type 0

@@ -1,5 +1,4 @@
 pub mod Triples
-pub mod Bounds
 pub mod Margins
 pub mod Seen
 pub mod Values

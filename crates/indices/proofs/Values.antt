@@ -19,8 +19,8 @@ use Rattle.sets.specs.Sets.{has, _∋_, members, others}
 use Rattle.sets.proofs.Sets.{has-yes, of-members, of-others}
 use Rattle.smallest.proofs.Tops.{top}
 use Rattle.clusters.specs.PairList.{score}
+use Rattle.clusters.proofs.Bounds.{score-within}
 use Rattle.matrix.specs.Rows.{number}
-use Rattle.matrix.proofs.Scores.{score-within}
 use Rattle.indices.specs.Asked.{SmallRow, Proper}
 use Rattle.indices.specs.Margins.{margin, nearness, separationFrom, Numbers}
 use Rattle.indices.proofs.Margins.{a-member, an-other}

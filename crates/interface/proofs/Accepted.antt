@@ -1,5 +1,5 @@
 -- What checks 9, 11 and 16 leave of the pairs, for each call that makes them.
-use mathlib.Core.Path.{_≡_, sym, ap, subst}
+use mathlib.Core.Path.{_≡_, sym, subst}
 use mathlib.Core.Bool.{Bool, true, false, not, _&&_}
 use mathlib.Core.Logic.{_≢_}
 use mathlib.Core.List.{List}
@@ -14,6 +14,7 @@ use Rattle.integers.specs.Integers.{eqZ}
 use Rattle.integers.proofs.Linear.{eqZ-yes}
 use Rattle.pairs.specs.declared.Carried.the-variants.{Unscored}
 use Rattle.pairs.specs.Pairs.{mark, carried}
+use Rattle.pairs.proofs.Pairs.{marked}
 use Rattle.clusters.specs.PairList.{Similarity, rowStart, score, scoreLimit, hasLength, isAllowedPair, scoresInRange, hasUnscored}
 use Rattle.clusters.specs.Fillings.{AllScored}
 use Rattle.clusters.proofs.PairList.{length-pairList}
@@ -41,10 +42,6 @@ mirrored-same n v t i j h k = eqZ-yes (v i j) (v j i) (all-in (λ j. eqZ (v i j)
     (all-in (λ i. all (λ j. eqZ (v i j) (v j i)) (below n)) (below n) t (lt-below n i h)) (lt-below n j k))
 
 -- 11, with the mark exempt
-pub marked : {z : ℤ} → z ≡ mark → carried z ≡ Unscored
-unfolding carried eqZ mark
-marked e = ap carried e
-
 exempt : T (isAllowedPair scoreLimit Unscored)
 unfolding isAllowedPair
 exempt = tt

@@ -8,6 +8,7 @@ use Prim.Native.Nat.{ℕ, zero, suc, _<_, _≤_}
 use native.Mathlib.Omega.{arith}
 use lib.Dec.{T, T-not, not-T, eqb, eqb→eq, leb, ltb, leb→le, le→leb}
 use lib.IntN.{ℤ, pos, negℤ}
+use lib.Signed.{_≤ℤ_, leZ, leZ-yes}
 use borrow.Author.Tests.{lt-ltb, ltb-true}
 use Rattle.lists.specs.Lists.{_∈_, all}
 use Rattle.lists.proofs.Tests.{and-T, T-and, or-T, T-or-left, T-or-right, T-true, true-T, eqb-yes, T-or-not}
@@ -80,6 +81,9 @@ lt-says i j = record { to = λ t. ltb-true i j (T-true t); from = λ h. true-T (
 
 pub eqZ-says : (a b : ℤ) → Says (eqZ a b) (a ≡ b)
 eqZ-says a b = record { to = eqZ-yes a b; from = yes-eqZ a b }
+
+pub leZ-says : (a b : ℤ) → Says (leZ a b) (a ≤ℤ b)
+leZ-says a b = record { to = λ t. leZ-yes t; from = λ h. h .le }
 
 -- of a list: every element, and one that fails
 module _ {A : Type 0} {p : A → Bool} {P : A → Type 0} (f : (x : A) → Says (p x) (P x)) (l : List A) where

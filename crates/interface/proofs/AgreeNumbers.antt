@@ -1,35 +1,27 @@
 -- Of kinds, pair lists, slices, anchors, names and sides: 1, 10 to 13, 15, 16, 17 and 19 beside their sentences.
 use mathlib.Core.Path.{_≡_, sym, _∙_, subst}
-use mathlib.Core.Bool.{Bool, false, not, _||_}
-use mathlib.Core.Logic.{_⊎_, inl, inr, _≢_, _↔_}
-use mathlib.Core.List.{List, [], _∷_}
-use Prim.Native.Nat.{ℕ, _-_, _*_, _<_, _≤_}
+use mathlib.Core.Bool.{Bool, not, _||_}
+use mathlib.Core.Logic.{_⊎_, inl, inr, ⊎-elim, _≢_, _↔_}
+use mathlib.Core.List.{List}
+use Prim.Native.Nat.{ℕ, _*_, _<_, _≤_}
 use native.Mathlib.Omega.{arith}
-use native.Mathlib.Decide.{decLt}
-use borrow.Author.Tests.{lt-leb, le-ltb}
 use lib.Dec.{T, T-not, not-T}
 use lib.IntN.{ℤ, pos}
-use lib.Signed.{_≤ℤ_, leZ, leZ-yes}
+use lib.Signed.{_≤ℤ_, leZ}
 use lib.ListN.{length}
 use Rattle.lists.specs.Lists.{_∈_, below, all}
-use Rattle.lists.proofs.Lists.{below-lt, lt-below, length-some}
-use Rattle.lists.proofs.Tests.{or-T, T-or-left, T-or-right, T-false, false-T, T-or-not}
+use Rattle.lists.proofs.Lists.{below-lt, lt-below}
+use Rattle.lists.proofs.Tests.{or-T, T-or-left, T-or-right, T-false, false-T}
 use Rattle.integers.specs.Integers.{eqZ}
 use Rattle.integers.specs.Range.{Within}
-use Rattle.sets.specs.Sets.{_∋_, size, complement}
-use Rattle.sets.proofs.Sets.{in-complement, size-complement}
-use Rattle.sets.proofs.Subsets.{fits-members, members-fit, two-size}
 use Rattle.pairs.specs.Pairs.{mark, carried}
 use Rattle.clusters.specs.PairList.{rowStart, score, onePoint, pointLimit, scoreLimit, hasLength, inRange, isAllowedPair, scoresInRange, hasUnscored, areDistances}
 use Rattle.clusters.specs.Farris.{isAnchored}
 use Rattle.clusters.proofs.Farris.{anchored-iff}
 use Rattle.clusters.proofs.PairList.{score-row}
 use Rattle.clusters.proofs.Scored.{range-within, within-range, allowed-cases, within-allowed, unscored-there}
-use Rattle.clusters.proofs.Quartets.{in-quartets, quartets-many}
-use Rattle.clusters.specs.Refined.{Quartet, quartets, Across}
 use Rattle.interface.specs.Sheet.{names}
 use Rattle.interface.specs.Refusals.{
-  none,
   wrongKind,
   wrongGroupKind,
   wrongUnscored,
@@ -41,14 +33,10 @@ use Rattle.interface.specs.Refusals.{
   wrongEntries,
   namesDiffer,
   wrongSide,
-  check6,
-  check10,
-  backChecks,
-  backRefusal,
 }
 use Rattle.interface.proofs.Accepted.{mark-allowed}
 use Rattle.interface.proofs.Anchored.{judged}
-use Rattle.interface.proofs.Sides.{Sides, sides, right-side, two-sides, of-two-sides}
+use Rattle.interface.proofs.Sides.{sides, right-side, two-sides, of-two-sides}
 use Rattle.interface.proofs.Places.{same-names, names-same}
 use Rattle.interface.specs.Sentences.{
   NoKind,
@@ -66,21 +54,16 @@ use Rattle.interface.specs.Sentences.{
   SameNames,
   TwoSides,
 }
-use Rattle.interface.proofs.Agree.{Says, says, or-says, and-says, not-says, denied, decided, like, eq-says, le-says, lt-says, eqZ-says, all-says, some-says}
+use Rattle.interface.proofs.Agree.{Says, says, or-says, and-says, not-says, denied, decided, like, eq-says, le-says, lt-says, eqZ-says, leZ-says, all-says, some-says}
 
 -- 1
 pub one-says : (kind : ℤ) → Says (wrongKind kind) (NoKind kind)
 unfolding wrongKind
 one-says kind = like (not-says (or-says (or-says (eqZ-says kind (pos 1)) (eqZ-says kind (pos 2))) (eqZ-says kind (pos 3))))
     (λ f. (λ e. f (inl (inl e)), λ e. f (inl (inr e)), λ e. f (inr e)))
-    (λ (a, b, c) x. go a b c x)
-  where
-    go : kind ≢ pos 1 → kind ≢ pos 2 → kind ≢ pos 3 → ((kind ≡ pos 1) ⊎ (kind ≡ pos 2)) ⊎ (kind ≡ pos 3) → ⊥
-    go a b c (inl (inl e)) = a e
-    go a b c (inl (inr e)) = b e
-    go a b c (inr e) = c e
+    (λ (a, b, c). ⊎-elim (⊎-elim a b) c)
 
-third-kind : {kind : ℤ} → kind ≡ pos 3 → (kind ≢ pos 1) × (kind ≢ pos 2)
+pub third-kind : {kind : ℤ} → kind ≡ pos 3 → (kind ≢ pos 1) × (kind ≢ pos 2)
 third-kind e = (
   λ f. let z : _≡_ {A = ℕ} 3 1 = cc in absurd (omega arith),
   λ f. let z : _≡_ {A = ℕ} 3 2 = cc in absurd (omega arith),
@@ -108,18 +91,10 @@ pub eleven-says : (l : List ℤ) → Says (not (scoresInRange l)) (BeyondMillion
 unfolding scoresInRange scoreLimit onePoint pointLimit mark
 eleven-says l = like (some-says at l)
     (λ (z, m, f). record { number = z; there = m; no-mark = λ e. f (inl e); out = λ h. f (inr h) })
-    (λ b. (b .number, b .there, neither b))
+    (λ b. (b .number, b .there, ⊎-elim (b .no-mark) (b .out)))
   where
     at : (z : ℤ) → Says (isAllowedPair scoreLimit (carried z)) ((z ≡ mark) ⊎ Within scoreLimit z)
-    at z = record { to = allowed-cases; from = back }
-      where
-        back : (z ≡ mark) ⊎ Within scoreLimit z → T (isAllowedPair scoreLimit (carried z))
-        back (inl e) = mark-allowed e
-        back (inr h) = within-allowed h
-
-    neither : (b : BeyondMillion l) → (b .number ≡ mark) ⊎ Within scoreLimit (b .number) → ⊥
-    neither b (inl e) = b .no-mark e
-    neither b (inr h) = b .out h
+    at z = record { to = allowed-cases; from = ⊎-elim mark-allowed within-allowed }
 
 -- 16
 pub marked-says : (l : List ℤ) → Says (hasUnscored l) (HasMark l)
@@ -132,7 +107,7 @@ sixteen-list-says kind l = and-says (not-says (eqZ-says kind (pos 1))) (marked-s
 
 -- 12
 natural-says : (l : List ℤ) → Says (all (leZ (pos 0)) l) ((z : ℤ) → z ∈ l → pos 0 ≤ℤ z)
-natural-says l = all-says (λ z. record { to = λ t. leZ-yes t; from = λ h. h .le }) l
+natural-says l = all-says (leZ-says (pos 0)) l
 
 own-at : (l : List ℤ) (i : ℕ) → Says (eqZ (score l i i) (pos 0)) (lower l i i ≡ pos 0)
 unfolding rowStart
@@ -152,7 +127,7 @@ no-distances-say n l = like (not-says (distances-say n l)) (λ f. fore f (decide
     fore f (inl a) =
         let (i, m, g) = some-says (own-at l) (below n) .to (not-says (all-says (own-at l) (below n)) .from (λ b. f (a, b))) in
         inr (i, below-lt n m, g)
-    fore f (inr g) = inl (some-says {p = leZ (pos 0)} {P = λ z. pos 0 ≤ℤ z} (λ z. record { to = λ t. leZ-yes t; from = λ h. h .le }) l .to (not-says (natural-says l) .from g))
+    fore f (inr g) = inl (some-says (leZ-says (pos 0)) l .to (not-says (natural-says l) .from g))
 
     rear : NoDistances n l → ((z : ℤ) → z ∈ l → pos 0 ≤ℤ z) → ((i : ℕ) → i ∈ below n → lower l i i ≡ pos 0) → ⊥
     rear (inl (z, m, f)) a b = f (a z m)

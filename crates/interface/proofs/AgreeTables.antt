@@ -1,18 +1,14 @@
 -- Each call's table of checks beside its table in words.
-use mathlib.Core.Path.{_≡_}
 use mathlib.Core.Bool.{not}
-use mathlib.Core.Logic.{_↔_}
-use mathlib.Core.List.{List, [], _∷_, _++_}
-use Prim.Native.Nat.{ℕ, _-_, _<_}
+use mathlib.Core.List.{List}
+use Prim.Native.Nat.{ℕ, _-_}
 use lib.Dec.{T}
 use lib.IntN.{ℤ}
 use lib.ListN.{length}
 use Rattle.lists.specs.Lists.{all}
 use Rattle.lists.proofs.Tests.{T-false}
-use Rattle.pairs.specs.declared.Carried.the-variants.{Scored}
-use Rattle.pairs.specs.Pairs.{carried}
-use Rattle.clusters.specs.PairList.{onePoint, pointLimit, scoreLimit, scoresInRange}
-use Rattle.interface.specs.Sheet.{names, entries, value}
+use Rattle.clusters.specs.PairList.{scoresInRange}
+use Rattle.interface.specs.Sheet.{names, entries}
 use Rattle.interface.specs.Listing.{sheetListing}
 use Rattle.interface.specs.Pool.{poolText, poolPairs}
 use Rattle.interface.specs.Refusals.{
@@ -30,7 +26,7 @@ use Rattle.interface.specs.Refusals.{
   poolChecks,
   weightChecks,
 }
-use Rattle.interface.specs.Sentences.{InPoints, wordAt, SameNames, SumBeyond}
+use Rattle.interface.specs.Sentences.{SumBeyond}
 use Rattle.interface.specs.Tables.{
   readerTable,
   sheetTable,
@@ -44,12 +40,12 @@ use Rattle.interface.specs.Tables.{
   poolTable,
   weightTable,
 }
-use Rattle.interface.proofs.Refusals.{numbered, none-append, right-length}
+use Rattle.interface.proofs.Refusals.{numbered, right-length}
 use Rattle.interface.proofs.Cells.{formed, same, points-out}
-use Rattle.interface.proofs.PoolScores.{sound, SumOutOfRange, sum-out, out-sum}
+use Rattle.interface.proofs.PoolScores.{sound, sum-out, out-sum}
 use Rattle.interface.proofs.Agree.{Says, says, lt-says, Agree, done, next, agree-append}
 use Rattle.interface.proofs.AgreeText.{two-says, three-says, four-says, five-says, six-says, seven-says, eight-says}
-use Rattle.interface.proofs.AgreeValues.{nine-says, sixteen-says, twelve-says, carried-says}
+use Rattle.interface.proofs.AgreeValues.{nine-says, sixteen-says, twelve-says}
 use Rattle.interface.proofs.AgreeNumbers.{
   one-says,
   one-groups-says,
@@ -126,47 +122,9 @@ weight-agrees n l A =
 -- 18, of two sheets that pass 2 to 9 and 11 and have the same names
 eighteen-says : (first second : List ℕ) → T (none (sheetChecks first)) → T (none (sheetChecks second)) → T (not (namesDiffer (names first) (names second)))
     → Says (not (scoresInRange (poolPairs first second))) (SumBeyond first second)
-unfolding sheetChecks scoreLimit onePoint pointLimit
-eighteen-says first second a b m = record { to = λ t. fore (sum-out (sound first a) (sound second b) both t); from = λ o. out-sum (sound first a) (sound second b) both (rear o) }
-  where
-    both : SameNames first second
-    both = names-say first second .to m
-
-    of-first : (i j : ℕ) → i < entries first → j < entries first → {z : ℤ} → (carried (value first i j) ≡ Scored z) ↔ InPoints (wordAt first i j) z
-    of-first = carried-says first (formed first (none-append (readerChecks first) _ .0 a .0))
-
-    of-second : (i j : ℕ) → i < entries second → j < entries second → {z : ℤ} → (carried (value second i j) ≡ Scored z) ↔ InPoints (wordAt second i j) z
-    of-second = carried-says second (formed second (none-append (readerChecks second) _ .0 b .0))
-
-    fore : SumOutOfRange first second → SumBeyond first second
-    fore o = record {
-      i = o .i;
-      j = o .j;
-      i′ = o .i′;
-      j′ = o .j′;
-      one = o .one;
-      other = o .other;
-      y = o .y;
-      z = o .z;
-      here = of-first (o .i) (o .j) (o .one .here) (o .other .here) .0 (o .here);
-      there = of-second (o .i′) (o .j′) (o .one .there) (o .other .there) .0 (o .there);
-      out = o .out;
-    }
-
-    rear : SumBeyond first second → SumOutOfRange first second
-    rear o = record {
-      i = o .i;
-      j = o .j;
-      i′ = o .i′;
-      j′ = o .j′;
-      one = o .one;
-      other = o .other;
-      y = o .y;
-      z = o .z;
-      here = of-first (o .i) (o .j) (o .one .here) (o .other .here) .1 (o .here);
-      there = of-second (o .i′) (o .j′) (o .one .there) (o .other .there) .1 (o .there);
-      out = o .out;
-    }
+eighteen-says first second a b m =
+    let both = names-say first second .to m in
+    record { to = sum-out (sound first a) (sound second b) both; from = out-sum (sound first a) (sound second b) both }
 
 pub scores-agree : (s : List ℕ) → Agree (sheetChecks s) (scoresTable s)
 unfolding sheetChecks

@@ -1,8 +1,8 @@
 -- Bytes, pieces, names and values of a sheet: 2 to 8 beside their sentences.
 use mathlib.Core.Path.{_≡_, refl, sym, ap, _∙_, subst}
 use mathlib.Core.Bool.{Bool, true, false, not, cond, _||_}
-use mathlib.Core.Logic.{_⊎_, inl, inr, _≢_, _↔_}
-use mathlib.Core.List.{List, [], _∷_, _++_, List·Memᴰ·head, List·Memᴰ·tail, List·Memᴰ·not-nil, List·Memᴰ·cases-cons, Memᴰ·cast}
+use mathlib.Core.Logic.{_⊎_, inl, inr, ⊎-elim, _≢_, _↔_}
+use mathlib.Core.List.{List, [], _∷_, _++_, List·Memᴰ·tail, List·Memᴰ·not-nil, List·Memᴰ·cases-cons, Memᴰ·cast}
 use Prim.Native.Nat.{ℕ, zero, suc, _+_, _<_}
 use native.Mathlib.Omega.{arith}
 use native.Mathlib.Decide.{ℕ-discrete}
@@ -11,7 +11,7 @@ use lib.ListN.{length, length-append, getD}
 use lib.Seq.{getD-at}
 use Rattle.lists.specs.Lists.{_∈_, below, keep}
 use Rattle.lists.proofs.Tests.{or-T, T-or-left, T-or-right, T-true, eqb-yes}
-use Rattle.lists.proofs.Lists.{lt-below, below-lt, in-all, in-keep, of-keep, some-length, no-element, getD-in}
+use Rattle.lists.proofs.Lists.{lt-below, below-lt, in-all, in-keep, of-keep, some-length, no-element, getD-in, place-of}
 use Rattle.pairs.specs.Pairs.{listNumber, carried}
 use Rattle.interface.specs.Sheet.{
   isUpper,
@@ -29,7 +29,7 @@ use Rattle.interface.specs.Sheet.{
   hasEqual,
 }
 use Rattle.interface.specs.Refusals.{mostBytes, wrongLength, isAllowed, wrongByte, wrongNames, equalNames, mostEntries, wrongCount, wrongLines, isRow, wrongValues}
-use Rattle.interface.proofs.Pieces.{some-piece, free, cut-last, cut-first}
+use Rattle.interface.proofs.Pieces.{some-piece, longer-length, free, cut-last, cut-first}
 use Rattle.interface.proofs.Names.{among-in, in-among}
 use Rattle.interface.proofs.Cells.{cell-says, says-cell}
 use Rattle.interface.specs.Sentences.{
@@ -56,16 +56,8 @@ use Rattle.interface.proofs.Agree.{Says, or-says, and-says, not-says, l
 -- pieces
 pieces-longer : {c b : ℕ} {t : List ℕ} {ws : List (List ℕ)} → c ≢ b → Pieces c t ws → Pieces c (b ∷ t) (longer b ws)
 unfolding longer
-pieces-longer {c} {b} d (last-piece {w} f) = last-piece (λ m. go (List·Memᴰ·cases-cons m))
-  where
-    go : (c ≡ b) ⊎ (c ∈ w) → ⊥
-    go (inl e) = d e
-    go (inr m) = f m
-pieces-longer {c} {b} d (first-piece {w} f r) = first-piece (λ m. go (List·Memᴰ·cases-cons m)) r
-  where
-    go : (c ≡ b) ⊎ (c ∈ w) → ⊥
-    go (inl e) = d e
-    go (inr m) = f m
+pieces-longer d (last-piece f) = last-piece (λ m. ⊎-elim d f (List·Memᴰ·cases-cons m))
+pieces-longer d (first-piece f r) = first-piece (λ m. ⊎-elim d f (List·Memᴰ·cases-cons m)) r
 
 pub cut-pieces : (c : ℕ) (s : List ℕ) → Pieces c s (cut c s)
 unfolding cut
@@ -93,11 +85,6 @@ parted s = record {
 }
 
 -- one piece more than there are bytes between them
-longer-length : (b : ℕ) (ws : List (List ℕ)) → 0 < length ws → length (longer b ws) ≡ length ws
-unfolding longer
-longer-length b [] h = absurd (omega arith)
-longer-length b (w ∷ ws) h = refl
-
 pub pieces-count : (c : ℕ) (s : List ℕ) → length (cut c s) ≡ suc (count c s)
 unfolding cut keep
 pieces-count c [] = refl
@@ -237,17 +224,13 @@ pub four-says : (s : List ℕ) → Says (wrongNames s) (NoNames s)
 unfolding wrongNames
 four-says s = or-says (no-feed-says s) (some-says name-says (names s))
 
-placed : {w : List ℕ} (l : List (List ℕ)) → w ∈ l → (j : ℕ) × (j < length l) × (getD l j [] ≡ w)
-placed (x ∷ l) (List·Memᴰ·head e) = (0, omega arith, sym e)
-placed (x ∷ l) (List·Memᴰ·tail m) = let (j, h, e) = placed l m in (suc j, omega arith, e)
-
 equal-to : (l : List (List ℕ)) → T (hasEqual l) → TwoEqual l
 unfolding hasEqual
 equal-to [] t = absurd t
 equal-to (w ∷ l) t = go (or-T (isAmong w l) (hasEqual l) t) (equal-to l)
   where
     go : T (isAmong w l) ⊎ T (hasEqual l) → (T (hasEqual l) → TwoEqual l) → TwoEqual (w ∷ l)
-    go (inl a) ih = let (j, h, e) = placed l (among-in w l a) in record { i = 0; j = suc j; apart = omega arith; there = omega arith; same = sym e }
+    go (inl a) ih = let (j, h, e) = place-of l [] (among-in w l a) in record { i = 0; j = suc j; apart = omega arith; there = omega arith; same = e }
     go (inr r) ih = let x = ih r in record { i = suc (x .i); j = suc (x .j); apart = omega (arith, x .apart); there = omega (arith, x .there); same = x .same }
 
 equal-from : (l : List (List ℕ)) (i j : ℕ) → i < j → j < length l → getD l i [] ≡ getD l j [] → T (hasEqual l)

@@ -1,9 +1,9 @@
 -- The values of a sheet that passes 8: 9, 16 and 12 beside their sentences; and what a cell carries, by its bytes.
 use mathlib.Core.Path.{_≡_, refl, sym, ap, _∙_, subst}
-use mathlib.Core.Bool.{Bool, not, true≢false}
+use mathlib.Core.Bool.{not, true≢false}
 use mathlib.Core.Logic.{_⊎_, inl, inr, _≢_, _↔_}
 use mathlib.Core.List.{List, [], _∷_, Memᴰ·cast}
-use Prim.Native.Nat.{ℕ, _<_, _≤_}
+use Prim.Native.Nat.{ℕ, _<_}
 use native.Mathlib.Omega.{arith}
 use lib.Dec.{T, T-not, not-T}
 use lib.IntN.{ℤ, pos}
@@ -14,7 +14,7 @@ use Rattle.integers.specs.Integers.{eqZ}
 use Rattle.pairs.specs.declared.Carried.{Carried}
 use Rattle.pairs.specs.declared.Carried.the-variants.{Scored, Unscored}
 use Rattle.pairs.specs.Pairs.{mark, numberFor, listNumber, carried, isScored}
-use Rattle.pairs.proofs.Pairs.{number-carried}
+use Rattle.pairs.proofs.Pairs.{marked, number-carried}
 use Rattle.clusters.specs.PairList.{rowStart, hasUnscored, areDistances}
 use Rattle.clusters.proofs.PairList.{of-pairList, pairList-at}
 use Rattle.clusters.proofs.Scored.{unscored-there}
@@ -24,16 +24,12 @@ use Rattle.interface.specs.Sentences.{InPoints, CellSays, points, lone-m
 use Rattle.interface.proofs.Accepted.{mirrored-same, unscored-left}
 use Rattle.interface.proofs.Cells.{said-points, one-cell, cell, listed-value}
 use Rattle.interface.proofs.Agree.{Says, says, and-says, not-says, like, eqZ-says, all-says, some-says}
-use Rattle.interface.proofs.AgreeNumbers.{no-distances-say}
+use Rattle.interface.proofs.AgreeNumbers.{third-kind, no-distances-say}
 
 -- a score is not the mark
 no-score : {z : ℤ} → Unscored ≡ Scored z → ⊥
 unfolding isScored
 no-score e = true≢false (sym (ap isScored e))
-
-mark-carried : carried mark ≡ Unscored
-unfolding carried eqZ mark
-mark-carried = refl
 
 lone-value : listNumber (pairSaid (45 ∷ [])) ≡ mark
 unfolding pairSaid isLoneMinus listNumber numberFor
@@ -103,7 +99,7 @@ module _ (s : List ℕ) (formed : T (not (wrongValues s))) where
     mark-says = like (says (unscored-there (pairs s)))
         (λ m.
         let (i, j, h, k, e) = of-pairs m in
-        record { i = i; j = j; here = (h, k); lone-minus = lone (cell s formed i j h k) (ap carried (sym e) ∙ mark-carried) })
+        record { i = i; j = j; here = (h, k); lone-minus = lone (cell s formed i j h k) (marked (sym e)) })
         (λ u.
         let (h, k) = u .here in
         Memᴰ·cast (sym (ap (λ (w : List ℕ). listNumber (pairSaid w)) (u .lone-minus) ∙ lone-value)) (listed-value s same (u .i) (u .j) h k))
@@ -143,14 +139,11 @@ module _ (s : List ℕ) (formed : T (not (wrongValues s))) where
               let (h, k) = d .here in
               inr (d .i, h, λ q. f (sym (says-number h k (d .says)) ∙ sym (ap (value s (d .i)) e) ∙ sym (own-value (d .i) h) ∙ q))
 
-    third : {kind : ℤ} → kind ≡ pos 3 → kind ≢ pos 1
-    third e f = let z : _≡_ {A = ℕ} 3 1 = cc in absurd (omega arith)
-
     pub twelve-says : (kind : ℤ) → T (not (wrongUnscored kind (pairs s))) → Says (wrongDistances kind (entries s) (pairs s)) ((kind ≡ pos 3) × NoDistance s)
     unfolding wrongDistances
     twelve-says kind t = record {
-      to = λ u. let (e, f) = test .to u in (e, distances-say (unscored-left kind (pairs s) (third e) t) .to f);
-      from = λ (e, d). test .from (e, distances-say (unscored-left kind (pairs s) (third e) t) .from d);
+      to = λ u. let (e, f) = test .to u in (e, distances-say (unscored-left kind (pairs s) (third-kind e .0) t) .to f);
+      from = λ (e, d). test .from (e, distances-say (unscored-left kind (pairs s) (third-kind e .0) t) .from d);
     }
       where
         test : Says (wrongDistances kind (entries s) (pairs s)) ((kind ≡ pos 3) × T (not (areDistances n (pairs s))))

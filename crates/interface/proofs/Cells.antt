@@ -19,7 +19,7 @@ use Rattle.integers.proofs.Range.{dn-le}
 use Rattle.pairs.specs.declared.Carried.{Carried}
 use Rattle.pairs.specs.declared.Carried.the-variants.{Scored}
 use Rattle.pairs.specs.Pairs.{mark, numberFor, listNumber, carried}
-use Rattle.pairs.proofs.Pairs.{Cases, carried-cases}
+use Rattle.pairs.proofs.Pairs.{unmarked}
 use Rattle.clusters.specs.PairList.{score, scoreLimit, onePoint, pointLimit, isAllowedPair, scoresInRange}
 use Rattle.clusters.proofs.PairList.{in-pairList, of-pairList, score-mirrored}
 use Rattle.clusters.proofs.Scored.{allowed-within, within-range}
@@ -37,11 +37,7 @@ unfolding mark up dn
 value-scored h e = omega (zarith, dn-le h, ap dn e)
 
 scored : {z : ℤ} → Within 19999999 z → carried z ≡ Scored z
-scored {z} h = go (carried-cases z)
-  where
-    go : Cases z → carried z ≡ Scored z
-    go (inl e) = e
-    go (inr (m, _)) = absurd (value-scored h m)
+scored h = unmarked (value-scored h)
 
 -- the mark, and a word that is not the mark
 pub lone-word : (w : List ℕ) → T (isLoneMinus w) → w ≡ 45 ∷ []

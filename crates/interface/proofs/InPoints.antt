@@ -1,16 +1,15 @@
 -- What bytes say in points (`InPoints`) is what is written for a number of half points; what is well formed, and what the cells of a sheet
 -- and the indices of a listing say.
 use mathlib.Core.Path.{_≡_, refl, sym, ap, ap₂, _∙_, subst, subst₂}
-use mathlib.Core.Bool.{Bool, true, false, not, cond, _&&_, _||_}
+use mathlib.Core.Bool.{Bool, true, false, not, cond, _&&_}
 use mathlib.Core.Logic.{_⊎_, inl, inr, _↔_}
 use mathlib.Core.List.{List, [], _∷_, _++_, append-nil}
 use Prim.Native.Nat.{ℕ, zero, suc, _+_, _*_, _/_, _%_, _^_, _<_, _≤_}
 use native.Mathlib.Omega.{arith}
 use native.Mathlib.Decide.{decLe}
-use lib.Dec.{T, eqb, leb, leb→le, eqb→eq, lit<}
+use lib.Dec.{T, eqb, eqb→eq, lit<}
 use lib.IntN.{ℤ, pos, negsuc, negℤ}
 use lib.ListN.{length}
-use Rattle.lists.specs.Lists.{all}
 use Rattle.lists.proofs.Tests.{and-T, T-and, true-T}
 use Rattle.integers.specs.Range.{Within}
 use Rattle.integers.proofs.Linear.{up, dn}
@@ -18,7 +17,6 @@ use Rattle.integers.proofs.Range.{within}
 use Rattle.clusters.specs.PairList.{onePoint}
 use Rattle.interface.specs.Sheet.{
   minus,
-  isDigit,
   isNumeral,
   wholePart,
   halfText,
@@ -33,10 +31,10 @@ use Rattle.interface.specs.Sheet.{
 }
 use Rattle.interface.specs.Listing.{digit, decimalFrom, decimal, pointsText, signedPoints, isDecimal, isIndex}
 use Rattle.interface.specs.Sentences.{DecimalSays, one-digit, one-more, InPoints, whole, half, minus-whole, minus-half}
-use Rattle.interface.proofs.Digits.{ten, decimal-one, decimal-more, decimal-least}
-use Rattle.interface.proofs.Numerals.{low-digit, decimal-back}
+use Rattle.interface.proofs.Digits.{ten, decimal-more, decimal-least}
+use Rattle.interface.proofs.Numerals.{low-digit, decimal-low, decimal-back}
 use Rattle.interface.proofs.Points.{half-number, index-back}
-use Rattle.interface.proofs.Values.{read-signed, value-form}
+use Rattle.interface.proofs.Values.{numeral-parts, read-signed, value-form}
 
 -- whole points and a half more, or none, without a sign
 pub even-text : (n : ℕ) → pointsText (n + n) ≡ decimal n
@@ -48,18 +46,15 @@ unfolding onePoint
 odd-text n = let e : n + n + 1 ≡ n * 2 + 1 = omega arith in ap pointsText e ∙ half-number n true
 
 -- the digits of a number say it
-decimal-says : (fuel n : ℕ) → n ≤ fuel → DecimalSays (decimal n) n
-decimal-says zero n h = subst (λ (m : ℕ). DecimalSays (decimal m) m) z (subst (λ (w : List ℕ). DecimalSays w 0) (sym nought) (one-digit 0 (omega arith)))
-  where
-    z : 0 ≡ n
-    z = omega arith
+low-says : (n : ℕ) → n < 10 → DecimalSays (decimal n) n
+low-says n h = subst (λ (w : List ℕ). DecimalSays w n) (sym (decimal-low n h)) (one-digit n h)
 
-    nought : decimal 0 ≡ 48 ∷ []
-    nought = decimal-one 0 (omega arith) ∙ ap (λ (b : ℕ). b ∷ []) (low-digit 0 (omega arith))
+decimal-says : (fuel n : ℕ) → n ≤ fuel → DecimalSays (decimal n) n
+decimal-says zero n h = low-says n (omega arith)
 decimal-says (suc fuel) n h = go (ten n) (λ l. decimal-says fuel (n / 10) (omega arith))
   where
     go : (n < 10) ⊎ (10 ≤ n) → (10 ≤ n → DecimalSays (decimal (n / 10)) (n / 10)) → DecimalSays (decimal n) n
-    go (inl l) ih = subst (λ (w : List ℕ). DecimalSays w n) (sym (decimal-one n l ∙ ap (λ (b : ℕ). b ∷ []) (low-digit n l))) (one-digit n l)
+    go (inl l) ih = low-says n l
     go (inr l) ih =
         let low : n % 10 < 10 = omega arith in
         let e : 10 * (n / 10) + n % 10 ≡ n = omega arith in
@@ -72,7 +67,7 @@ decimal-said n = decimal-says n n (omega arith)
 
 -- and no others do
 says-decimal : {w : List ℕ} {n : ℕ} → DecimalSays w n → w ≡ decimal n
-says-decimal (one-digit d h) = sym (decimal-one d h ∙ ap (λ (b : ℕ). b ∷ []) (low-digit d h))
+says-decimal (one-digit d h) = sym (decimal-low d h)
 says-decimal (one-more {w} {n} s p d h) =
     let m = 10 * n + d in
     let q : m / 10 ≡ n = omega arith in
@@ -127,22 +122,12 @@ one-text a b = says-written a ∙ sym (says-written b)
 pub says-value : {w : List ℕ} {z : ℤ} → InPoints w z → valueOf w ≡ z
 says-value {w} {z} a = ap valueOf (says-written a) ∙ read-signed z
 
--- a numeral is decimal, and below 10,000,000
-numeral-decimal : (w : List ℕ) → T (isNumeral w) → T (isDecimal w) × (length w ≤ 7)
-unfolding isNumeral isDecimal
-numeral-decimal [] t = absurd t
-numeral-decimal (b ∷ w) t =
-    let run = all isDigit (b ∷ w) in
-    let lead = not (eqb b 48) || eqb (length w) 0 in
-    let (front, l) = and-T (run && leb (length w) 6) lead t in
-    let (r, few) = and-T run (leb (length w) 6) front in
-    (T-and run lead r l, omega (arith, leb→le (length w) 6 few))
-
+-- a numeral is below 10,000,000
 numeral-small : (w : List ℕ) → T (isNumeral w) → numberFrom 10 0 w < 10000000
 numeral-small w t = go (decLe (10 ^ 7) (numberFrom 10 0 w))
   where
     go : Dec (10 ^ 7 ≤ numberFrom 10 0 w) → numberFrom 10 0 w < 10000000
-    go (yes h) = let (d, few) = numeral-decimal w t in absurd (omega (arith, decimal-least 7 (numberFrom 10 0 w) h, ap length (decimal-back w d)))
+    go (yes h) = let (_, d, few) = numeral-parts w t in absurd (omega (arith, decimal-least 7 (numberFrom 10 0 w) h, ap length (decimal-back w d)))
     go (no f) = omega arith
 
 -- a value without its sign is what is written for its half points, fewer than 20,000,000
@@ -150,7 +135,7 @@ points-index : (w : List ℕ) → T (isPoints w) → T (isIndex w)
 unfolding isPoints isIndex
 points-index w t =
     let (n, e) = and-T (isNumeral (wholePart w)) (isWholeOrHalf w) t in
-    T-and (isDecimal (wholePart w)) (isWholeOrHalf w) (numeral-decimal (wholePart w) n .0) e
+    T-and (isDecimal (wholePart w)) (isWholeOrHalf w) (numeral-parts (wholePart w) n .1) e
 
 pub points-back : (w : List ℕ) → T (isPoints w) → pointsText (halfPoints w) ≡ w
 points-back w t = index-back w (points-index w t)

@@ -37,6 +37,7 @@ pub mod WeightExample
 pub mod WholePoints
 pub mod HalfPoints
 pub mod Starts
+pub mod Lengths
 pub mod Room
 pub mod Taken
 pub mod Merging

@@ -18,25 +18,24 @@ use mathlib.Core.List.{
   Memᴰ·append-right,
   List·Memᴰ·append-cases,
 }
-use Prim.Native.Nat.{ℕ, zero, suc, _+_, _-_, _*_, _^_, _<_, _≤_}
+use Prim.Native.Nat.{ℕ, zero, suc, _+_, _*_, _^_, _<_, _≤_}
 use native.Mathlib.Decide.{ℕ-discrete}
 use native.Mathlib.Omega.{arith}
 use lib.Dec.{T, T-not, eqb, eqb→eq, lit≤}
 use lib.IntN.{ℤ, pos, _*ℤ_}
 use lib.Signed.{_≤ℤ_, leZ}
-use lib.ListN.{length, length-append, length-map, getD, take}
+use lib.ListN.{length, length-append, getD, take}
 use lib.Seq.{take-append-seam, getD-at}
 use Rattle.lists.specs.Lists.{_∈_, below, each, keep, all, erase}
 use Rattle.lists.proofs.Lists.{below-lt, lt-below, in-map, of-map, all-in}
 use Rattle.lists.proofs.Distinct.{in-erase}
 use Rattle.lists.proofs.Tests.{or-T}
-use Rattle.integers.specs.Integers.{maxZ, greatest, sumOf, sum}
+use Rattle.integers.specs.Integers.{eqZ, maxZ, greatest, sumOf, sum}
 use Rattle.integers.proofs.Linear.{zarith, *at, up, dn}
 use Rattle.integers.proofs.Least.{greatest-ge, greatest-of}
 use Rattle.sets.specs.Sets.{has, _∋_, _∪_, members, size, Subset}
 use Rattle.sets.proofs.Sets.{clash, ∪-left, ∪-right, ∪-cases, ∪-lt, subset-antisymm}
 use Rattle.pairs.specs.Pairs.{mark, carried, isScored}
-use Rattle.integers.specs.Integers.{eqZ}
 use Rattle.clusters.specs.PairList.{Similarity, rowStart, place, score, onePoint, pointLimit, scoreLimit, isInRange, inRange, hasUnscored}
 use Rattle.clusters.specs.Linkage.{Quotient, _≼_, between, Linkage, single, average, link, Greatest, merged, Merges, singles, Tree, mergedBlocks}
 use Rattle.clusters.proofs.Blocks.{Partition, disjoint, of-merged, partition-merged, partition-singles}

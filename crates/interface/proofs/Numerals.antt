@@ -131,8 +131,11 @@ leads-decimal (suc k) n h some = go (ten n) (leads-decimal k (n / 10))
 pub decimal-leads : (n : ℕ) → 0 < n → Leads (decimal n)
 decimal-leads n some = leads-decimal (suc n) n (omega arith) some
 
+pub decimal-low : (n : ℕ) → n < 10 → decimal n ≡ (48 + n) ∷ []
+decimal-low n h = decimal-one n h ∙ ap (λ (b : ℕ). b ∷ []) (low-digit n h)
+
 zero-text : decimal 0 ≡ 48 ∷ []
-zero-text = decimal-one 0 (lit< tt) ∙ ap (λ (b : ℕ). b ∷ []) (low-digit 0 (lit< tt))
+zero-text = decimal-low 0 (lit< tt)
 
 leads-form : (w : List ℕ) → Leads w → T (isDecimal w)
 unfolding isDecimal

@@ -26,6 +26,11 @@ some-piece c (b ∷ t) = go (eqb b c) (some-piece c t)
     go true h = omega arith
     go false h = long (cut c t)
 
+pub longer-length : (b : ℕ) (ws : List (List ℕ)) → 0 < length ws → length (longer b ws) ≡ length ws
+unfolding longer
+longer-length b [] h = absurd (omega arith)
+longer-length b (w ∷ ws) h = refl
+
 -- a text without the byte c
 abbrev pub free : ℕ → List ℕ → Type 0
 free c w = T (all (λ b. not (eqb b c)) w)

@@ -3,7 +3,7 @@ use mathlib.Core.Path.{_≡_, refl, sym, ap, ap₂, _∙_, subst}
 use mathlib.Core.Bool.{Bool, true, false, not, cond, _||_}
 use mathlib.Core.Logic.{_⊎_, inl, inr}
 use mathlib.Core.List.{List, [], _∷_, _++_, append-nil}
-use Prim.Native.Nat.{ℕ, _+_, _*_, _/_, _%_}
+use Prim.Native.Nat.{ℕ, _+_, _*_, _/_, _%_, _≤_}
 use native.Mathlib.Omega.{arith}
 use lib.Dec.{T, eqb, eqb→eq, eqb-refl}
 use lib.ListN.{length}
@@ -44,6 +44,11 @@ parts (b ∷ w) = go (eqb b point) (parts w)
 -- what stands behind the digits: nothing, or `.5`
 abbrev pub ending : Bool → List ℕ
 ending h = cond h halfText []
+
+pub ending-short : (h : Bool) → length (ending h) ≤ 2
+unfolding halfText
+ending-short true = omega arith
+ending-short false = omega arith
 
 -- a word without a point, or with `.5`, is its whole part and its ending
 ending-none : (l : List ℕ) → length l ≡ 0 → ending (sameBytes l halfText) ≡ l

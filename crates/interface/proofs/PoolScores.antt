@@ -1,37 +1,38 @@
 -- Two sheets that pass 2 to 9 and 11, with the same names: the scores of their pool, and when a sum is out of range.
 use mathlib.Core.Path.{_≡_, refl, sym, ap, ap₂, _∙_, subst}
 use mathlib.Core.Bool.{false, not}
-use mathlib.Core.List.{List, []}
+use mathlib.Core.List.{List}
 use Prim.Native.Nat.{ℕ, _<_}
 use native.Mathlib.Omega.{arith}
 use borrow.Author.Tests.{not-false}
 use lib.Dec.{T, T-not, not-T, eqb, lit<}
-use lib.IntN.{ℤ, _+ℤ_}
-use lib.ListN.{length, getD}
+use lib.IntN.{_+ℤ_}
+use lib.ListN.{length}
 use Rattle.lists.specs.Lists.{all, Distinct}
 use Rattle.lists.proofs.Tests.{T-false, true-T, or-none}
 use Rattle.lists.proofs.Lists.{some-fails}
-use Rattle.integers.specs.Range.{Within}
 use Rattle.pairs.specs.declared.Carried.{Carried}
 use Rattle.pairs.specs.declared.Carried.the-variants.{Scored, Unscored}
 use Rattle.pairs.specs.Pairs.{numberFor, carried}
-use Rattle.clusters.specs.PairList.{Symmetric, score, scoreLimit, isAllowedPair, scoresInRange}
+use Rattle.clusters.specs.PairList.{Symmetric, score, onePoint, pointLimit, scoreLimit, isAllowedPair, scoresInRange}
 use Rattle.clusters.specs.Pooling.{added, pooled}
 use Rattle.clusters.proofs.PairList.{length-pairList, of-pairList, score-symm, score-mirrored, score-pairList}
 use Rattle.clusters.proofs.Scored.{AllAllowed, allowed-within, within-range, list-allowed}
 use Rattle.clusters.proofs.Pooled.{added-carried, pooled-symmetric}
 use Rattle.interface.specs.Sheet.{isName, lines, names, entries, value, pairs, mirrored}
 use Rattle.interface.specs.Pool.{placeOn, poolScores, poolPairs}
-use Rattle.interface.specs.Refusals.{none, wrongNames, equalNames, wrongCount, readerChecks, sheetChecks}
-use Rattle.interface.specs.Sentences.{SameName, SameNames}
+use Rattle.interface.specs.Refusals.{none, wrongNames, equalNames, wrongCount, wrongValues, readerChecks, sheetChecks}
+use Rattle.interface.specs.Sentences.{SameName, SameNames, SumBeyond}
 use Rattle.interface.proofs.Refusals.{first-none, passes}
 use Rattle.interface.proofs.Accepted.{not-not, mirrored-same}
 use Rattle.interface.proofs.Names.{distinct-names}
+use Rattle.interface.proofs.AgreeValues.{carried-says}
 use Rattle.interface.proofs.Places.{Matching, same-count, moved-lt, moved-name, moved-only}
 
 -- what checks 2 to 9 and 11 leave of a sheet
 pub record Sound (s : List ℕ) : Type 0 where
   pub named : T (all isName (names s))
+  pub formed : T (not (wrongValues s))
   pub distinct : Distinct (names s)
   pub count : wrongCount (length (names s)) ≡ false
   pub range : T (scoresInRange (pairs s))
@@ -39,7 +40,7 @@ pub record Sound (s : List ℕ) : Type 0 where
   pub allowed : AllAllowed scoreLimit (entries s) (value s)
 
 left : (s : List ℕ) → T (none (sheetChecks s))
-    → T (not (wrongNames s)) × T (not (equalNames s)) × T (not (wrongCount (entries s))) × T (mirrored (entries s) (value s)) × T (scoresInRange (pairs s))
+    → T (not (wrongNames s)) × T (not (equalNames s)) × T (not (wrongCount (entries s))) × T (not (wrongValues s)) × T (mirrored (entries s) (value s)) × T (scoresInRange (pairs s))
 unfolding sheetChecks readerChecks all
 left s t =
     let checks = sheetChecks s in
@@ -47,6 +48,7 @@ left s t =
       passes checks tt e 2 (lit< tt),
       passes checks tt e 3 (lit< tt),
       passes checks tt e 4 (lit< tt),
+      passes checks tt e 6 (lit< tt),
       not-not (mirrored (entries s) (value s)) (passes checks tt e 7 (lit< tt)),
       not-not (scoresInRange (pairs s)) (passes checks tt e 8 (lit< tt)),
     )
@@ -54,11 +56,12 @@ left s t =
 pub sound : (s : List ℕ) → T (none (sheetChecks s)) → Sound s
 unfolding wrongNames equalNames entries pairs
 sound s t =
-    let (four, five, six, nine, eleven) = left s t in
+    let (four, five, six, eight, nine, eleven) = left s t in
     let n = entries s in
     let same = score-mirrored n (value s) (mirrored-same n (value s) nine) in
     record {
       named = true-T (not-false (all isName (names s)) (or-none (eqb (length (lines s)) 1) (not (all isName (names s))) (T-false {b = wrongNames s} four) .1));
+      formed = eight;
       distinct = distinct-names (names s) (T-false {b = equalNames s} five);
       count = T-false {b = wrongCount n} six;
       range = eleven;
@@ -80,20 +83,6 @@ pool-allowed first second t i j h k =
     let s = poolScores first second in
     subst (λ z. T (isAllowedPair scoreLimit (carried z))) (score-pairList n s (pool-symmetric first second) i j h k)
     (list-allowed n (poolPairs first second) (length-pairList n s) t i j h k)
-
--- the sum of the scores that two names have on either sheet is out of the range
-pub record SumOutOfRange (first second : List ℕ) : Type 0 where
-  pub i : ℕ
-  pub j : ℕ
-  pub i′ : ℕ
-  pub j′ : ℕ
-  pub one : SameName first second i i′
-  pub other : SameName first second j j′
-  pub y : ℤ
-  pub z : ℤ
-  pub here : carried (value first i j) ≡ Scored y
-  pub there : carried (value second i′ j′) ≡ Scored z
-  pub out : Within scoreLimit (y +ℤ z) → ⊥
 
 -- two sheets that pass their checks, with the same names
 module _ {first second : List ℕ} (a : Sound first) (b : Sound second) (m : SameNames first second) where
@@ -126,8 +115,8 @@ module _ {first second : List ℕ} (a : Sound first) (b : Sound second) (m : Sam
       ∙ added-carried (carried (value first i j)) (carried (value second i′ j′)) (a .allowed i j (p .here) (q .here)) (b .allowed i′ j′ (p .there) (q .there))
 
   -- 18: "a sum out of range"
-  pub sum-out : T (not (scoresInRange (poolPairs first second))) → SumOutOfRange first second
-  unfolding scoresInRange poolPairs added isAllowedPair
+  pub sum-out : T (not (scoresInRange (poolPairs first second))) → SumBeyond first second
+  unfolding scoresInRange poolPairs added isAllowedPair scoreLimit onePoint pointLimit
   sum-out t =
       let (v, k, f) = some-fails (λ v. isAllowedPair scoreLimit (carried v)) (poolPairs first second) t in
       let (i, j, h, l, e) = of-pairList (entries first) (poolScores first second) k in
@@ -137,7 +126,7 @@ module _ {first second : List ℕ} (a : Sound first) (b : Sound second) (m : Sam
       (subst (λ c. T (not (isAllowedPair scoreLimit c))) (ap carried e ∙ pool-carried p q) f)
     where
       go : (i i′ j j′ : ℕ) → SameName first second i i′ → SameName first second j j′ → (c d : Carried) → carried (value first i j) ≡ c → carried (value second i′ j′) ≡ d
-          → T (not (isAllowedPair scoreLimit (added c d))) → SumOutOfRange first second
+          → T (not (isAllowedPair scoreLimit (added c d))) → SumBeyond first second
       go i i′ j j′ p q (Scored y) (Scored z) e f t = record {
         i = i;
         j = j;
@@ -147,14 +136,17 @@ module _ {first second : List ℕ} (a : Sound first) (b : Sound second) (m : Sam
         other = q;
         y = y;
         z = z;
-        here = e;
-        there = f;
+        here = carried-says first (a .formed) i j (p .here) (q .here) .0 e;
+        there = carried-says second (b .formed) i′ j′ (p .there) (q .there) .0 f;
         out = λ w. T-not (isAllowedPair scoreLimit (Scored (y +ℤ z))) t (within-range w);
       }
       go i i′ j j′ p q (Scored y) Unscored e f t = absurd t
       go i i′ j j′ p q Unscored d e f t = absurd t
 
-  pub out-sum : SumOutOfRange first second → T (not (scoresInRange (poolPairs first second)))
-  unfolding added
-  out-sum o = not-T (scoresInRange (poolPairs first second)) (λ t. o .out (allowed-within (subst (λ c. T (isAllowedPair scoreLimit c))
-      (pool-carried (o .one) (o .other) ∙ ap₂ added (o .here) (o .there)) (pool-allowed first second t (o .i) (o .j) (o .one .here) (o .other .here)))))
+  pub out-sum : SumBeyond first second → T (not (scoresInRange (poolPairs first second)))
+  unfolding added scoreLimit onePoint pointLimit
+  out-sum o =
+      let y = carried-says first (a .formed) (o .i) (o .j) (o .one .here) (o .other .here) .1 (o .here) in
+      let z = carried-says second (b .formed) (o .i′) (o .j′) (o .one .there) (o .other .there) .1 (o .there) in
+      not-T (scoresInRange (poolPairs first second)) (λ t. o .out (allowed-within (subst (λ c. T (isAllowedPair scoreLimit c))
+      (pool-carried (o .one) (o .other) ∙ ap₂ added y z) (pool-allowed first second t (o .i) (o .j) (o .one .here) (o .other .here)))))

@@ -1,7 +1,7 @@
 -- Where a name starts: behind as many spaces as there are names before it, and before the first line feed.
 use mathlib.Core.Path.{_≡_, refl, sym, ap, ap₂, _∙_, subst}
-use mathlib.Core.Logic.{_⊎_, inl, inr}
-use mathlib.Core.List.{List, [], _∷_, _++_, append-nil, append-assoc, List·Memᴰ·head, List·Memᴰ·tail, List·Memᴰ·not-nil, List·Memᴰ·cases-cons, Memᴰ·append-left, Memᴰ·append-right}
+use mathlib.Core.Logic.{⊎-elim}
+use mathlib.Core.List.{List, [], _∷_, _++_, append-nil, append-assoc, List·Memᴰ·head, List·Memᴰ·tail, List·Memᴰ·eq-of-singleton, List·Memᴰ·cases-cons, Memᴰ·append-left, Memᴰ·append-right}
 use Prim.Native.Nat.{ℕ, zero, suc, _+_, _*_, _<_}
 use native.Mathlib.Omega.{arith}
 use lib.Dec.{eqb}
@@ -18,29 +18,16 @@ use Rattle.interface.proofs.AgreeText.{cut-pieces, none-counted}
 
 -- no piece has the byte between
 piece-free : {c : ℕ} {s : List ℕ} {ws : List (List ℕ)} → Pieces c s ws → {w : List ℕ} → w ∈ ws → c ∈ w → ⊥
-piece-free {c} (last-piece {w = v} f) {w} m k = go (List·Memᴰ·cases-cons m)
-  where
-    go : (w ≡ v) ⊎ (w ∈ []) → ⊥
-    go (inl e) = f (subst (λ (u : List ℕ). c ∈ u) e k)
-    go (inr n) = List·Memᴰ·not-nil n
-piece-free {c} (first-piece {w = v} {rest = rest} {ws = ws} f r) {w} m k = go (λ n. piece-free r n k) (List·Memᴰ·cases-cons m)
-  where
-    go : (w ∈ ws → ⊥) → (w ≡ v) ⊎ (w ∈ ws) → ⊥
-    go ih (inl e) = f (subst (λ (u : List ℕ). c ∈ u) e k)
-    go ih (inr n) = ih n
+piece-free {c} (last-piece f) m k = f (subst (λ (u : List ℕ). c ∈ u) (List·Memᴰ·eq-of-singleton m) k)
+piece-free {c} (first-piece f r) m k = ⊎-elim (λ e. f (subst (λ (u : List ℕ). c ∈ u) e k)) (λ n. piece-free r n k) (List·Memᴰ·cases-cons m)
 
 in-joined : (c x : ℕ) (ws : List (List ℕ)) {w : List ℕ} → w ∈ ws → x ∈ w → x ∈ joined c ws
 unfolding joined
-in-joined c x (v ∷ []) {w} m k = go (List·Memᴰ·cases-cons m)
-  where
-    go : (w ≡ v) ⊎ (w ∈ []) → x ∈ v
-    go (inl e) = subst (λ (u : List ℕ). x ∈ u) e k
-    go (inr n) = absurd (List·Memᴰ·not-nil n)
-in-joined c x (v ∷ u ∷ ws) {w} m k = go (λ n. in-joined c x (u ∷ ws) n k) (List·Memᴰ·cases-cons m)
-  where
-    go : (w ∈ u ∷ ws → x ∈ joined c (u ∷ ws)) → (w ≡ v) ⊎ (w ∈ u ∷ ws) → x ∈ (v ++ (c ∷ joined c (u ∷ ws)))
-    go ih (inl e) = Memᴰ·append-left (c ∷ joined c (u ∷ ws)) (subst (λ (u : List ℕ). x ∈ u) e k)
-    go ih (inr n) = Memᴰ·append-right v (List·Memᴰ·tail (ih n))
+in-joined c x (v ∷ []) m k = subst (λ (u : List ℕ). x ∈ u) (List·Memᴰ·eq-of-singleton m) k
+in-joined c x (v ∷ u ∷ ws) m k = ⊎-elim
+    (λ e. Memᴰ·append-left (c ∷ joined c (u ∷ ws)) (subst (λ (w : List ℕ). x ∈ w) e k))
+    (λ n. Memᴰ·append-right v (List·Memᴰ·tail (in-joined c x (u ∷ ws) n k)))
+    (List·Memᴰ·cases-cons m)
 
 count-append : (d : ℕ) (v w : List ℕ) → count d (v ++ w) ≡ count d v + count d w
 count-append d v w = ap length (keep-append (λ b. eqb b d) v w) ∙ length-append (keep (λ b. eqb b d) v) (keep (λ b. eqb b d) w)

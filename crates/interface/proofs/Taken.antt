@@ -1,9 +1,9 @@
 -- Whatever fits is taken.
 use mathlib.Core.Path.{_≡_, refl, sym, ap, _∙_, subst}
 use mathlib.Core.Bool.{Bool, false, cond}
-use mathlib.Core.Logic.{_⊎_, inl, inr, _≢_}
+use mathlib.Core.Logic.{_⊎_, inl, inr, ⊎-elim, _≢_}
 use mathlib.Core.List.{List, [], _∷_, _++_}
-use Prim.Native.Nat.{ℕ, _+_, _-_, _*_, _/_, _<_, _≤_}
+use Prim.Native.Nat.{ℕ, _+_, _*_, _/_, _<_, _≤_}
 use native.Mathlib.Omega.{arith}
 use borrow.Author.Tests.{lt-ltb, le-ltb, ltb-true}
 use lib.Dec.{T, ltb, lit<}
@@ -13,15 +13,12 @@ use lib.ListN.{length, getD, take}
 use Rattle.lists.specs.Lists.{all}
 use Rattle.lists.proofs.Tests.{T-true, T-false}
 use Rattle.lists.proofs.Lists.{in-all}
-use Rattle.integers.specs.Integers.{eqZ}
 use Rattle.integers.specs.Range.{Within}
 use Rattle.clusters.specs.PairList.{Similarity, rowStart, pairList, scoresInRange}
-use Rattle.clusters.specs.Groups.{kindOf}
 use Rattle.clusters.proofs.PairList.{length-pairList, of-pairList, pairList-at}
-use Rattle.clusters.proofs.Scored.{list-allowed, scored-in-range}
 use Rattle.answers.specs.declared.Answer.{Answer}
 use Rattle.answers.specs.Answers.{numberOf, countOf, answer}
-use Rattle.answers.proofs.Answers.{number-answer}
+use Rattle.answers.proofs.Answers.{its-number}
 use Rattle.interface.specs.Sheet.{isName, entries, value, pairs, hasEqual}
 use Rattle.interface.specs.Listing.{sheetListing}
 use Rattle.interface.specs.SheetText.{sheetText}
@@ -46,7 +43,7 @@ use Rattle.interface.specs.Refusals.{
 }
 use Rattle.interface.specs.Calls.{CCall, ReaderCall, cNumber}
 use Rattle.interface.proofs.Refusals.{first-none, none-append, first-append, first-at, passes, right-count}
-use Rattle.interface.proofs.Accepted.{not-not, unscored-left}
+use Rattle.interface.proofs.Accepted.{Passed, not-not}
 use Rattle.interface.proofs.Names.{distinct-names}
 use Rattle.interface.proofs.SheetTexts.{WellFormed, sheetText-names, sheetText-entries, sheetText-pairs, sheetText-accepted}
 use Rattle.interface.proofs.Demands.{c-refused, answered, taken, counted}
@@ -54,28 +51,23 @@ use Rattle.interface.specs.Sentences.{NoKind, NoneOrOver32, OtherLength,
 use Rattle.interface.specs.Taken.{FitsSheet, FitsKind, always, if-scored, if-distances, FitsList, Scored, Distances, ListKind, every-list, scored-list, distance-list, Taken}
 use Rattle.interface.proofs.Agree.{not-says, agree-none}
 use Rattle.interface.proofs.AgreeText.{name-says, equal-says, six-says}
-use Rattle.interface.proofs.AgreeNumbers.{one-says, eleven-says, sixteen-list-says, twelve-list-says, in-range-says}
+use Rattle.interface.proofs.AgreeNumbers.{one-says, third-kind, eleven-says, sixteen-list-says, twelve-list-says}
 use Rattle.interface.proofs.AgreeTables.{reader-agrees, reader-numbered}
 use Rattle.interface.proofs.TurnedAway.{turned-away}
 use Rattle.interface.proofs.Requests.{request-2-1}
 use Rattle.interface.proofs.Weighed.{request-2-5}
-use Rattle.interface.proofs.Room.{Left, listing-room}
+use Rattle.interface.proofs.Room.{listing-room}
 
 -- a list that fits: no sentence holds
 module _ {n : ℕ} {l : List ℤ} (f : FitsList n l) where
   six : NoneOrOver32 n → ⊥
-  six (inl e) = omega (arith, f .count .0)
-  six (inr h) = omega (arith, f .count .1)
+  six = ⊎-elim (λ e. omega (arith, f .count .0)) (λ h. omega (arith, f .count .1))
 
   ten : OtherLength n l → ⊥
   ten g = g (f .long)
 
   eleven : BeyondMillion l → ⊥
-  eleven b = go (f .range (b .number) (b .there))
-    where
-      go : (b .number ≡ markNumber) ⊎ Within (2 * 1000000) (b .number) → ⊥
-      go (inl e) = b .no-mark e
-      go (inr h) = b .out h
+  eleven b = ⊎-elim (b .no-mark) (b .out) (f .range (b .number) (b .there))
 
 no-distances : {n : ℕ} {l : List ℤ} → Distances n l → NoDistances n l → ⊥
 no-distances d (inl (z, m, g)) = g (d .natural z m)
@@ -84,16 +76,10 @@ no-distances d (inr (i, h, g)) = g (d .own i h)
 distances-scored : {n : ℕ} {l : List ℤ} → Distances n l → Scored l
 distances-scored d m = d .natural markNumber m .le
 
-one-three : pos 1 ≡ pos 3 → ⊥
-one-three e = let z : _≡_ {A = ℕ} 1 3 = cc in absurd (omega arith)
-
-two-three : pos 2 ≡ pos 3 → ⊥
-two-three e = let z : _≡_ {A = ℕ} 2 3 = cc in absurd (omega arith)
-
 kind-fits : {n : ℕ} {l : List ℤ} {kind : ℤ} → ListKind n l kind
     → (NoKind kind → ⊥) × ((kind ≢ pos 1) × HasMark l → ⊥) × ((kind ≡ pos 3) × NoDistances n l → ⊥)
-kind-fits every-list = (λ (a, _, _). a refl, λ (a, _). a refl, λ (e, _). one-three e)
-kind-fits (scored-list s) = (λ (_, b, _). b refl, λ (_, m). s m, λ (e, _). two-three e)
+kind-fits every-list = (λ (a, _, _). a refl, λ (a, _). a refl, λ (e, _). third-kind e .0 refl)
+kind-fits (scored-list s) = (λ (_, b, _). b refl, λ (_, m). s m, λ (e, _). third-kind e .1 refl)
 kind-fits (distance-list d) = (λ (_, _, c). c refl, λ (_, m). distances-scored d m, λ (_, x). no-distances d x)
 
 -- names and scores that fit
@@ -170,7 +156,7 @@ module _ {ns : List (List ℕ)} {s : Similarity} (f : FitsSheet ns s) where
   unfolding readerRefusal readerChecks all rowStart
   read {lent} {after} {r} c =
       let z : readerRefusal text ≡ 0 = first-none (readerChecks text) tt .1 read-through in
-      let none : numberOf r ≡ 0 = ap numberOf (c .answered) ∙ number-answer (readerRefusal text) (entries text) ∙ z in
+      let none = its-number (readerRefusal text) (entries text) (c .answered) ∙ z in
       let is : take (rowStart n) after ≡ pairList n s =
       taken z (pairs text) lent (c .written) (ap length (sheetText-pairs formed) ∙ length-pairList n s) ∙ sheetText-pairs formed in (
         none,
@@ -188,23 +174,24 @@ module _ (kind : ℤ) (s : List ℕ) (buffer : ℕ) where
   unfolding sheetRefusal sheetCallChecks readerChecks all
   at-fourteen = first-at 14 (lit< tt) before (ltb buffer (length (sheetListing kind s))) [] tt tt .0
 
-  left : T (none before) → Left (kindOf kind) (entries s) (pairs s)
-  unfolding readerChecks all pairs kindOf eqZ
+  left : T (none before) → (entries s ≤ 32) × Passed kind (entries s) (pairs s)
+  unfolding readerChecks all pairs
   left t =
-      let e = first-none before tt .1 t in
-      let range = not-not (scoresInRange (pairs s)) (passes before tt e 9 (lit< tt)) in
-      record {
-        few = right-count (entries s) (T-false {b = wrongCount (entries s)} (passes before tt e 5 (lit< tt)));
-        allowed = list-allowed (entries s) (pairs s) (length-pairList (entries s) (value s)) range;
-        bounded = λ g z m. in-range-says (pairs s) .to
-            (scored-in-range (pairs s) range (unscored-left kind (pairs s) (λ q. g (ap kindOf q)) (passes before tt e 10 (lit< tt)))) z m;
-      }
+      let e = first-none before tt .1 t in (
+        right-count (entries s) (T-false {b = wrongCount (entries s)} (passes before tt e 5 (lit< tt))),
+        record {
+          long = length-pairList (entries s) (value s);
+          range = not-not (scoresInRange (pairs s)) (passes before tt e 9 (lit< tt));
+          sixteen = passes before tt e 10 (lit< tt);
+        },
+      )
 
   roomy : 2048 ≤ buffer → sheetRefusal kind s buffer ≢ 14
   unfolding sheetListing
   roomy h e =
       let (t, short) = at-fourteen e in
-      omega (arith, listing-room kind (entries s) (pairs s) (left t), ltb-true buffer (length (sheetListing kind s)) (T-true short))
+      let (few, passed) = left t in
+      omega (arith, listing-room few passed, ltb-true buffer (length (sheetListing kind s)) (T-true short))
 
 pub whatever-fits : Taken
 unfolding cNumber answer
@@ -259,13 +246,10 @@ whatever-fits = record {
 }
   where
     few : {m a b : ℕ} → m ≤ a → m ≤ b → (a < m) ⊎ (b < m) → ⊥
-    few h g (inl x) = omega arith
-    few h g (inr x) = omega arith
+    few h g = ⊎-elim (λ x. omega arith) (λ x. omega arith)
 
     neither : {n x slots m : ℕ} → x < n → m ≤ slots → (n ≤ x) ⊎ (slots < m) → ⊥
-    neither h g (inl y) = omega arith
-    neither h g (inr y) = omega arith
+    neither h g = ⊎-elim (λ x. omega arith) (λ x. omega arith)
 
     neither-entry : {n i j : ℕ} → i < n → j < n → (n ≤ i) ⊎ (n ≤ j) → ⊥
-    neither-entry h g (inl y) = omega arith
-    neither-entry h g (inr y) = omega arith
+    neither-entry h g = ⊎-elim (λ x. omega arith) (λ x. omega arith)

@@ -8,6 +8,7 @@ use lib.IntN.{ℤ, pos}
 use lib.ListN.{length}
 use Rattle.lists.specs.Lists.{_lists_}
 use Rattle.integers.specs.Integers.{eqZ}
+use Rattle.pairs.proofs.Pairs.{marked}
 use Rattle.clusters.specs.PairList.{Similarity, rowStart, scoreLimit, hasLength}
 use Rattle.clusters.specs.Fillings.{ScoredMore}
 use Rattle.clusters.specs.Groups.{strong, kindOf, index, groups}
@@ -15,7 +16,6 @@ use Rattle.clusters.proofs.Groups.{in-groups, in-groupSets}
 use Rattle.clusters.proofs.Unscored.{group-every-filling, scoring-keeps, scoring-one, scored-groups, touched-unlisted}
 use Rattle.interface.specs.Demands.{Wrote}
 use Rattle.interface.specs.Requests.{Request-2-2}
-use Rattle.interface.proofs.Accepted.{marked}
 use Rattle.interface.proofs.Demands.{wrote, wrote-allowed, wrote-scored}
 
 -- what was written for kind 1 is the strong groups

@@ -52,7 +52,7 @@ use Rattle.interface.specs.Refusals.{isAllowed}
 use Rattle.interface.proofs.Pieces.{free, all-free, all-append, same-bytes}
 use Rattle.interface.proofs.Digits.{length-decimal, decimal-some}
 use Rattle.interface.proofs.Numerals.{decimal-run, decimal-form}
-use Rattle.interface.proofs.Points.{ending, ended, odd, points-parts, points-whole, points-well, read-points}
+use Rattle.interface.proofs.Points.{ending, ending-short, ended, odd, points-parts, points-whole, points-well, read-points}
 
 -- a byte of a name or of a pair: those of check 3 but the space and the line feed
 isPlain : ℕ → Bool
@@ -108,29 +108,28 @@ minus-plain : (b : ℕ) → T (eqb b minus) → T (isPlain b)
 unfolding isPlain
 minus-plain b t = T-or-left (isUpper b || isDigit b || eqb b minus) (eqb b point) (T-or-right (isUpper b || isDigit b) (eqb b minus) t)
 
-numeral-parts : (w : List ℕ) → T (isNumeral w) → T (all isDigit w) × (length w ≤ 7)
-unfolding isNumeral
+-- a numeral is decimal
+pub numeral-parts : (w : List ℕ) → T (isNumeral w) → T (all isDigit w) × T (isDecimal w) × (length w ≤ 7)
+unfolding isNumeral isDecimal
 numeral-parts [] t = absurd t
 numeral-parts (b ∷ w) t =
-    let (front, _) = and-T (all isDigit (b ∷ w) && leb (length w) 6) (not (eqb b 48) || eqb (length w) 0) t in
-    let (run, few) = and-T (all isDigit (b ∷ w)) (leb (length w) 6) front in
-    (run, omega (arith, leb→le (length w) 6 few))
+    let run = all isDigit (b ∷ w) in
+    let lead = not (eqb b 48) || eqb (length w) 0 in
+    let (front, l) = and-T (run && leb (length w) 6) lead t in
+    let (r, few) = and-T run (leb (length w) 6) front in
+    (r, T-and run lead r l, omega (arith, leb→le (length w) 6 few))
 
 points-word : (w : List ℕ) → T (isPoints w) → Word 9 w
-unfolding isPoints halfText
+unfolding isPoints
 points-word w t =
     let (n, h) = and-T (isNumeral (wholePart w)) (isWholeOrHalf w) t in
-    let (run, few) = numeral-parts (wholePart w) n in
+    let (run, _, few) = numeral-parts (wholePart w) n in
     let e = ended w h in
     record {
       plain = subst (λ (v : List ℕ). T (all isPlain v)) e
           (all-append isPlain (wholePart w) (ending (hasHalf w)) (digits-plain (wholePart w) run) (ending-plain (hasHalf w)));
-      short = omega (arith, few, ap length e, length-append (wholePart w) (ending (hasHalf w)), short (hasHalf w));
+      short = omega (arith, few, ap length e, length-append (wholePart w) (ending (hasHalf w)), ending-short (hasHalf w));
     }
-  where
-    short : (h : Bool) → length (ending h) ≤ 2
-    short true = omega arith
-    short false = omega arith
 
 value-word : (w : List ℕ) → T (isValue w) → Word 10 w
 unfolding isValue all

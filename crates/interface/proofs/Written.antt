@@ -1,57 +1,50 @@
 -- What the calls write, and what they do not touch.
 use mathlib.Core.Path.{_≡_, refl, sym, ap, _∙_, ap₂, subst}
+use mathlib.Core.Bool.{Bool, not, cond, _&&_, _||_}
 use mathlib.Core.Logic.{_≢_, inl, inr, _⊎_}
-use mathlib.Core.List.{List, [], _∷_, _++_, map, List·Memᴰ·head, List·Memᴰ·tail}
+use mathlib.Core.Option.{some}
+use mathlib.Core.List.{List, [], _∷_, _++_, List·Memᴰ·head, List·Memᴰ·tail}
 use Prim.Native.Nat.{ℕ, zero, suc, _+_, _-_, _*_, _<_, _≤_, _/_, _%_, _^_}
 use native.Mathlib.Omega.{arith}
 use borrow.Author.Tests.{ne-eqb}
-use lib.IntN.{ℤ, pos, _+ℤ_, _-ℤ_}
-use lib.ListN.{length, length-append, length-map, length-replicate, getD, drop, replicate}
-use lib.Seq.{drop-append-seam}
-use Rattle.clusters.specs.PairList.{rowStart, score, place, hasLength, inRange, areDistances}
-use Rattle.clusters.specs.Groups.{Kind, strong, clean, splits, kindOf, mostGroups, groups}
-use Rattle.clusters.specs.Linkage.{Linkage, mergedBlocks}
-use Rattle.clusters.specs.Farris.{distancesBack, unfarris, farris, isAnchored}
-use Rattle.clusters.proofs.PairList.{length-pairList, score-symm, score-row}
-use Rattle.clusters.proofs.Exists.{tree-length}
-use Rattle.clusters.proofs.Theorems.{groups-bound}
-use Rattle.sets.specs.Sets.{_∪_}
-use Rattle.answers.specs.declared.Answer.{Answer}
-use Rattle.answers.specs.Answers.{numberOf, countOf, answer, slots, filled}
-use Rattle.answers.proofs.Answers.{number-answer, count-refused, slots-refused}
-use Rattle.interface.specs.Sheet.{entries, value, pairs, lineFeed}
-use Rattle.interface.specs.Listing.{groupsFound, Line, lineOf, digit, digits, hexadecimal, decimal, signedPoints, lineText, firstText, firstLine, listing, listingRead, pairsListing, sheetListing}
-use Rattle.interface.specs.Refusals.{linkageRefusal, numbersRefusal, scoreRefusal, mostEntries, wrongCount, sheetCallChecks, sheetRefusal, wrongAnchor, shortSlice, notAnchored, backChecks, backRefusal}
-use Rattle.interface.specs.Calls.{setsFound, indicesFound, LinkageCall, BackCall, isPair, scoreAmong, pairAmong}
-use Rattle.interface.proofs.Anchored.{length-anchored}
-use Rattle.interface.proofs.Demands.{after-is, not-refused, counted, lines, lines-are, readable, lines-read, merged-slots}
-use Rattle.interface.specs.Written.{Kept, Written}
-use Rattle.interface.proofs.TurnedAway.{turned-away}
-use mathlib.Core.Bool.{Bool, not, cond, _&&_, _||_}
-use mathlib.Core.Option.{some}
-use native.Mathlib.Nat.{pow-le-pow-right}
 use lib.Dec.{T, lit<}
+use lib.IntN.{ℤ, pos, _+ℤ_, _-ℤ_}
+use lib.ListN.{length, length-append, length-map, length-replicate, getD, drop, replicate, List·getD-eq-default}
+use lib.Seq.{drop-append-seam}
 use Rattle.lists.specs.Lists.{_∈_, below, each, all}
-use Rattle.lists.proofs.Lists.{of-map, lt-below, all-in}
+use Rattle.lists.proofs.Lists.{lt-below, all-in}
+use Rattle.lists.proofs.Written.{getD-padded}
 use Rattle.lists.proofs.Tests.{and-T, T-true, T-false, or-none}
 use Rattle.integers.specs.Integers.{eqZ, half, even}
-use Rattle.integers.proofs.Linear.{zarith, +at, -at, up, dn}
+use Rattle.integers.proofs.Linear.{zarith, +at, -at}
 use Rattle.integers.proofs.Halves.{half-twice, even-half}
-use Rattle.pairs.specs.declared.Carried.the-variants.{Scored, Unscored}
 use Rattle.pairs.specs.Pairs.{mark, carried, pairOf}
-use Rattle.pairs.proofs.Pairs.{Cases, carried-cases}
-use Rattle.clusters.proofs.Groups.{in-groups, listed-index}
+use Rattle.pairs.proofs.Pairs.{marked, unmarked}
+use Rattle.clusters.specs.PairList.{rowStart, score, place, hasLength, inRange, areDistances}
+use Rattle.clusters.specs.Groups.{kindOf}
+use Rattle.clusters.specs.Farris.{distancesBack, unfarris, farris, isAnchored}
+use Rattle.clusters.proofs.PairList.{length-pairList, score-symm, score-row}
+use Rattle.clusters.proofs.Theorems.{groups-most}
+use Rattle.answers.specs.declared.Answer.{Answer}
+use Rattle.answers.specs.Answers.{numberOf, countOf, answer, slots, filled}
+use Rattle.answers.proofs.Answers.{its-number, count-refused, slots-refused}
+use Rattle.interface.specs.Sheet.{entries, value, pairs, lineFeed}
+use Rattle.interface.specs.Listing.{groupsFound, Line, digit, digits, hexadecimal, decimal, signedPoints, lineText, firstText, firstLine, listing, listingRead}
+use Rattle.interface.specs.Refusals.{numbersRefusal, scoreRefusal, mostEntries, wrongAnchor, shortSlice, notAnchored, backChecks, backRefusal}
+use Rattle.interface.specs.Calls.{setsFound, indicesFound, BackCall, isPair, scoreAmong, pairAmong}
 use Rattle.interface.specs.Demands.{Listed}
 use Rattle.interface.specs.Requests.{by-anchored-call, by-back-call}
-use Rattle.interface.proofs.Refusals.{passes, right-count}
+use Rattle.interface.specs.Sentences.{OtherLength, NoEntries}
+use Rattle.interface.specs.Written.{Kept, HexSays, no-digit, one-more-digit, LineSays, LinesSay, no-line, one-line, ListingSays, Carries, Written}
+use Rattle.interface.proofs.Anchored.{length-anchored}
+use Rattle.interface.proofs.Demands.{after-is, not-refused, counted, lines, lines-are, readable, lines-read, merged-slots}
+use Rattle.interface.proofs.TurnedAway.{turned-away}
+use Rattle.interface.proofs.Refusals.{passes}
 use Rattle.interface.proofs.Digits.{ten, length-digits}
 use Rattle.interface.proofs.Numerals.{low-digit, high-digit}
 use Rattle.interface.proofs.InPoints.{written-says, decimal-said}
-use Rattle.interface.proofs.Lines.{Readable, listing-read}
 use Rattle.interface.proofs.RowStarts.{request-2-3}
 use Rattle.interface.proofs.Accepted.{not-not}
-use Rattle.interface.specs.Written.{HexSays, no-digit, one-more-digit, LineSays, LinesSay, no-line, one-line, ListingSays, Carries}
-use Rattle.interface.specs.Sentences.{OtherLength, NoEntries}
 use Rattle.interface.proofs.Agree.{Says, and-says, not-says, eq-says, le-says, lt-says}
 
 above : {k : ℕ} → k ≢ 0 → 0 < k
@@ -59,12 +52,9 @@ above f = omega arith
 
 -- a call whose checks give k, which answers c and writes a result
 module _ {A : Type 0} {r : Answer} (k c : ℕ) (result lent : List A) {after : List A} (e : r ≡ answer k c) (w : after ≡ slots k result lent) where
-  its-number : numberOf r ≡ k
-  its-number = ap numberOf e ∙ number-answer k c
-
   kept : {m : ℕ} → (numberOf r ≡ 0 → length result ≡ m) → Kept (numberOf r) (countOf r) m lent after
   kept {m} long = record {
-    refused = λ f. let h : 0 < k = above (λ z. f (its-number ∙ z)) in (w ∙ slots-refused k result lent h, ap countOf e ∙ count-refused k c h);
+    refused = λ f. let h : 0 < k = above (λ z. f (its-number k c e ∙ z)) in (w ∙ slots-refused k result lent h, ap countOf e ∙ count-refused k c h);
     beyond = λ z.
         ap (λ (j : ℕ). drop j after) (sym (long z))
         ∙ ap (drop (length result)) (after-is (not-refused k c e z) result lent w)
@@ -87,23 +77,7 @@ module _ {A : Type 0} (nil : A) (k : ℕ) (result lent : List A) {after : List A
     filled-long = ap length full ∙ length-append result (replicate (length lent - length result) nil) ∙ omega (arith, length-replicate (length lent - length result) nil)
 
     filled-nil : (j : ℕ) → length result ≤ j → getD after j nil ≡ nil
-    filled-nil j h = ap (λ (l : List A). getD l j nil) full ∙ past result j h
-      where
-        nils : (m j : ℕ) → getD (replicate m nil) j nil ≡ nil
-        nils zero j = refl
-        nils (suc m) zero = refl
-        nils (suc m) (suc j) = nils m j
-
-        past : (l : List A) (j : ℕ) → length l ≤ j → getD (l ++ replicate (length lent - length result) nil) j nil ≡ nil
-        past [] j h = nils (length lent - length result) j
-        past (x ∷ l) zero h = absurd (omega arith)
-        past (x ∷ l) (suc j) h = past l j (omega arith)
-
-most-2n : (k : Kind) (n : ℕ) → mostGroups k n ≤ 2 * n
-unfolding mostGroups
-most-2n strong n = omega arith
-most-2n clean n = omega arith
-most-2n splits n = omega arith
+    filled-nil j h = ap (λ (l : List A). getD l j nil) full ∙ getD-padded nil result (length lent - length result) j ∙ List·getD-eq-default result nil h
 
 hex-byte : (d : ℕ) → d < 16 → ((d < 10) × (digit d ≡ 48 + d)) ⊎ ((10 ≤ d) × (d < 16) × (digit d ≡ 87 + d))
 hex-byte d h = go (ten d)
@@ -186,21 +160,9 @@ among-says : (n : ℕ) (l : List ℤ) (a b : ℕ) → Says (isPair n l a b) ((((
 unfolding isPair mostEntries hasLength rowStart
 among-says n l a b = and-says (and-says (and-says (le-says n 32) (eq-says (length l) (rowStart n))) (lt-says a n)) (lt-says b n)
 
-marked-carried : (z : ℤ) → z ≡ mark → carried z ≡ Unscored
-unfolding carried eqZ mark
-marked-carried z e = ap carried e
-
 carries : (z : ℤ) → Carries (pairOf z) z
 unfolding pairOf mark
-carries z = record { marked = λ e. one (carried-cases z) e; scored = λ f. other (carried-cases z) f }
-  where
-    one : Cases z → z ≡ mark → carried z ≡ Unscored
-    one (inl e) m = marked-carried z m
-    one (inr (_, e)) m = e
-
-    other : Cases z → (z ≡ mark → ⊥) → carried z ≡ Scored z
-    other (inl e) f = e
-    other (inr (m, _)) f = absurd (f m)
+carries z = record { marked = marked; scored = unmarked }
 
 pub written : Written
 unfolding pairs rowStart setsFound indicesFound groupsFound distancesBack place score farris pairAmong scoreAmong pairOf carried eqZ mark
@@ -217,7 +179,7 @@ written = record {
   numbers-refused = λ {kind} {n} {l} {lentIndices} {indices} {lentSets} {sets} {r} c f.
       let k = numbersRefusal kind n l (length lentSets) (length lentIndices) in
       let many = length (groupsFound kind n l) in
-      let g : k ≢ 0 = λ z. f (ap numberOf (c .answered) ∙ number-answer k many ∙ z) in (
+      let g : k ≢ 0 = λ z. f (its-number k many (c .answered) ∙ z) in (
         unfilled 0 k (setsFound kind n l) lentSets (c .setsWritten) g,
         unfilled (pos 0) k (indicesFound kind n l) lentIndices (c .indicesWritten) g,
         ap countOf (c .answered) ∙ count-refused k many (above g),
@@ -229,8 +191,7 @@ written = record {
       let zero-is = not-refused k many (c .answered) z in
       let count = counted k many (c .answered) z in
       let (_, (_, (_, (_, (_, (_, (few, _))))))) = turned-away .numbers-call c .taken .0 z in
-      let bound = groups-bound (kindOf kind) n (score l) (score-symm l) in
-      let most = most-2n (kindOf kind) n in
+      let most = groups-most (kindOf kind) n (score l) (score-symm l) in
       let s : length (setsFound kind n l) ≡ many = length-map found (λ (A, z). A) in
       let i : length (indicesFound kind n l) ≡ many = length-map found (λ (A, z). z) in
       let hs : length (setsFound kind n l) ≤ length lentSets = room (λ h. few (inl h)) (omega arith) in

@@ -9,7 +9,7 @@ use native.Mathlib.Omega.{arith}
 use lib.IntN.{ℤ}
 use lib.ListN.{length, getD, set, replicate, length-set, getD-replicate}
 use lib.Seq.{getD-set-same, getD-set-other}
-use Rattle.lists.proofs.Lists.{getD-in, getD-below}
+use Rattle.lists.proofs.Lists.{getD-in, place-of, getD-below}
 use Rattle.sets.specs.Sets.{_∋_}
 use Rattle.sets.proofs.Sets.{one-in, member-size, size-single, size-le}
 use Rattle.sets.proofs.Sizes.{size-wide}
@@ -20,7 +20,7 @@ use Rattle.clusters.proofs.Links.{link-symm}
 use Rattle.links.specs.Table.{Holds, quotientAt, Weights, GreatestAt}
 use Rattle.linkage.specs.Blocks.{mergedAt, linkageOf}
 use Rattle.linkage.specs.Steps.{weight}
-use Rattle.linkage.proofs.Places.{place-of, differ, some-at, joinedAt, joined-other, merged-moved, merged-kept}
+use Rattle.linkage.proofs.Places.{differ, some-at, joinedAt, joined-other, merged-moved, merged-kept}
 use Rattle.linkage.proofs.Updates.{numerators}
 
 -- the weights of the first k blocks
@@ -55,7 +55,7 @@ module _ (avg : Bool) (n : ℕ) (s : Similarity) (few : n ≤ 32) {bs : List ℕ
       left = getD-in bs i 0 hi;
       right = getD-in bs j 0 (g .inside);
       apart = differ p i j hi (g .inside) ne;
-      most = λ P Q hp hq e. let (a, ha, ea) = place-of bs hp in let (b, hb, eb) = place-of bs hq in
+      most = λ P Q hp hq e. let (a, ha, ea) = place-of bs 0 hp in let (b, hb, eb) = place-of bs 0 hq in
           subst₂ (λ U W. L U W ≼ L (getD bs i 0) (getD bs j 0)) (sym ea) (sym eb) (all a b ha hb (λ r. e (ea ∙ ap (λ (x : ℕ). getD bs x 0) r ∙ sym eb)));
     }
       where

@@ -1,15 +1,14 @@
 -- The blocks of a partition by their places.
 use mathlib.Core.Path.{_≡_, sym, _∙_, subst}
 use mathlib.Core.Logic.{_≢_}
-use mathlib.Core.List.{List, [], _∷_, List·Memᴰ·head, List·Memᴰ·tail}
-use Prim.Native.Nat.{ℕ, zero, suc, _-_, _≤_, _<_}
+use mathlib.Core.List.{List, [], _∷_}
+use Prim.Native.Nat.{ℕ, zero, suc, _-_, _<_}
 use native.Mathlib.Decide.{decLt}
 use native.Mathlib.Omega.{arith}
 use lib.IntN.{ℤ, pos, _+ℤ_}
 use lib.Signed.{_≤ℤ_}
 use lib.ListN.{length, getD, set, length-set, length-take}
 use lib.Seq.{getD-take, getD-set-same, getD-set-other}
-use Rattle.lists.specs.Lists.{_∈_}
 use Rattle.lists.proofs.Lists.{getD-in}
 use Rattle.integers.specs.Integers.{sumOf}
 use Rattle.integers.proofs.Linear.{up, dn, zarith, +at}
@@ -17,11 +16,6 @@ use Rattle.integers.proofs.Sums.{sum-nonneg}
 use Rattle.sets.specs.Sets.{_∋_, _∌_, _∪_}
 use Rattle.clusters.proofs.Blocks.{Partition, holds, disjoint}
 use Rattle.linkage.specs.Blocks.{mergedAt}
-
--- an element stands at a place
-pub place-of : (l : List ℕ) {x : ℕ} → x ∈ l → (i : ℕ) × (i < length l) × (x ≡ getD l i 0)
-place-of (y ∷ l) (List·Memᴰ·head e) = (0, omega arith, e)
-place-of (y ∷ l) (List·Memᴰ·tail m) = let (i, h, e) = place-of l m in (suc i, omega arith, e)
 
 -- of summands that are not below 0, one and two are at most the sum
 one-place : (l : List ℕ) (f : ℕ → ℤ) → ((x : ℕ) → pos 0 ≤ℤ f x) → (a : ℕ) → a < length l → f (getD l a 0) ≤ℤ sumOf l f

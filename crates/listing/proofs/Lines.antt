@@ -1,19 +1,18 @@
 -- Laws of lines: their fields, their lengths, and the lines of the groups in two slices, one by one.
-use mathlib.Core.Path.{_≡_, refl, sym, ap, _∙_, subst}
+use mathlib.Core.Path.{_≡_, refl, sym, subst}
 use mathlib.Core.List.{List, [], _∷_, _++_, map, append-assoc, append-nil, List·Memᴰ·head, List·Memᴰ·tail}
 use Prim.Native.Nat.{ℕ, zero, suc, _+_, _/_, _^_, _<_, _≤_}
 use native.Mathlib.Numerals.{add-one}
 use native.Mathlib.Omega.{arith}
 use lib.IntN.{ℤ, pos}
-use lib.ListN.{length, getD, drop, length-append}
+use lib.ListN.{length, getD, drop}
 use lib.Signed.{_≤ℤ_}
 use Rattle.lists.specs.Lists.{_∈_, each}
-use Rattle.lists.proofs.Lists.{each-map}
 use Rattle.sets.specs.Sets.{size}
 use Rattle.sets.proofs.Sets.{size-le}
-use Rattle.interface.specs.Listing.{lineOf, hexadecimal, decimal, pointsText, signedPoints, firstText, lineText, firstLine, listing}
+use Rattle.interface.specs.Listing.{lineOf, hexadecimal, decimal, pointsText, signedPoints, lineText, firstLine, listing}
 use Rattle.interface.proofs.Digits.{length-decimal}
-use Rattle.listing.proofs.Numbers.{length-hexadecimal, length-points}
+use Rattle.interface.proofs.Lengths.{length-points, length-line, listing-groups}
 use Rattle.interface.specs.Calls.{groupsOf}
 use Rattle.listing.specs.Lines.{line}
 use Rattle.listing.specs.Slots.{Slots}
@@ -23,25 +22,15 @@ pub line-fields : (n A k : ℕ) {s : ℕ} → s ≡ size n A → line n (A, pos 
 unfolding line lineOf lineText signedPoints
 line-fields n A k e = rw e (simp append-assoc)
 
-pub length-line : (n A k : ℕ) {s : ℕ} → s ≡ size n A → length (line n (A, pos k)) ≡ length (decimal s) + length (pointsText k) + 11
-unfolding line lineOf lineText signedPoints
-length-line n A k e = rw e (simp (length-append, length-hexadecimal) (omega arith))
-
 pub line-bound : (A k : ℕ) → k < 2 ^ 64 → length (line 32 (A, pos k)) ≤ 34
-line-bound A k h = omega (arith, length-line 32 A k refl, length-points k, length-decimal 18 (k / 2) (omega arith), length-decimal 1 (size 32 A) (omega (arith, size-le 32 A)))
+unfolding line
+line-bound A k h = omega (arith, length-line 32 A k, length-points k, length-decimal 18 (k / 2) (omega arith), length-decimal 1 (size 32 A) (omega (arith, size-le 32 A)))
 
 -- a listing, group by group
-pub listing-groups : (n : ℕ) (groups : List (ℕ × ℤ)) → listing (map (lineOf n) groups) ≡ firstLine ++ each groups (line n)
-unfolding listing line
-listing-groups n groups = ap (λ (t : List ℕ). firstLine ++ t) (each-map groups (lineOf n) (λ l. lineText l ++ (10 ∷ [])))
-
 pub listing-put : (n : ℕ) (groups : List (ℕ × ℤ)) (l : List ℕ) {r : ℕ} {m : List ℕ} → let text = firstLine ++ each groups (line n) in
     (r ≡ length text) × (m ≡ text ++ drop r l) → let ls = map (lineOf n) groups in (r ≡ length (listing ls)) × (m ≡ listing ls ++ drop r l)
+unfolding line
 listing-put n groups l {r} {m} p = subst (λ (t : List ℕ). (r ≡ length t) × (m ≡ t ++ drop r l)) (sym (listing-groups n groups)) p
-
-pub length-listing : (n : ℕ) (groups : List (ℕ × ℤ)) → length (listing (map (lineOf n) groups)) ≡ 15 + length (each groups (line n))
-unfolding firstLine firstText
-length-listing n groups = ap length (listing-groups n groups) ∙ length-append firstLine (each groups (line n))
 
 -- the lines of the first i groups in two slices, and of one group more
 pub no-lines : (sets : List ℕ) (indices : List ℤ) (f : ℕ × ℤ → List ℕ) → each (groupsOf 0 sets indices) f ≡ []

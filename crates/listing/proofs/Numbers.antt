@@ -1,8 +1,7 @@
--- Digits put into a buffer, the last one first; a number in points, even or odd, and its length.
+-- Digits put into a buffer, the last one first; a number in points, even or odd.
 use mathlib.Core.Path.{_≡_, refl, ap, _∙_}
-use mathlib.Core.Bool.{Bool, true, false}
 use mathlib.Core.List.{List, [], _∷_, _++_, append-assoc, append-nil}
-use Prim.Native.Nat.{ℕ, suc, _+_, _-_, _/_, _%_, _<_, _≤_}
+use Prim.Native.Nat.{ℕ, suc, _+_, _-_, _/_, _%_, _<_}
 use native.Mathlib.Numerals.{add-one}
 use native.Mathlib.Omega.{arith}
 use borrow.Author.Tests.{ne-eqb}
@@ -10,9 +9,8 @@ use lib.ListN.{length, set, length-append}
 use lib.Seq.{sets}
 use Rattle.clusters.specs.PairList.{onePoint}
 use Rattle.interface.specs.Sheet.{halfText}
-use Rattle.interface.specs.Listing.{digit, digits, hexadecimal, decimal, pointsText}
+use Rattle.interface.specs.Listing.{digit, digits, decimal, pointsText}
 use Rattle.interface.proofs.Digits.{length-digits}
-use Rattle.interface.proofs.Points.{ending, odd, points-parts}
 use Rattle.listing.specs.Put.{Put}
 use Rattle.listing.proofs.Puts.{sets-last, then}
 
@@ -37,10 +35,6 @@ no-digits base n = refl
 pub length-space : (xs : List ℕ) → length (xs ++ (32 ∷ [])) ≡ length xs + 1
 length-space xs = length-append xs (32 ∷ [])
 
-pub length-hexadecimal : (A : ℕ) → length (hexadecimal A) ≡ 8
-unfolding hexadecimal
-length-hexadecimal A = length-digits 16 8 A
-
 -- a number of half points: whole points, or a half more, put with the byte after it
 pub even-points : (k : ℕ) → k % 2 ≡ 0 → pointsText k ≡ decimal (k / 2)
 unfolding pointsText onePoint
@@ -53,12 +47,3 @@ half-put k after {end = end} f p = rw text (then p (record { place = refl; store
   where
     text : pointsText k ++ (after ∷ []) ≡ decimal (k / 2) ++ (46 ∷ []) ++ (53 ∷ after ∷ [])
     text = rw (ne-eqb (k % 2) 0 f) (simp append-assoc)
-
--- and its length
-pub length-points : (k : ℕ) → length (pointsText k) ≤ length (decimal (k / 2)) + 2
-unfolding onePoint halfText
-length-points k = omega (arith, ap length (points-parts k), length-append (decimal (k / 2)) (ending (odd k)), short (odd k))
-  where
-    short : (h : Bool) → length (ending h) ≤ 2
-    short true = omega arith
-    short false = omega arith

@@ -235,6 +235,10 @@ getD-in [] i d h = absurd (omega arith)
 getD-in (x ∷ l) zero d h = List·Memᴰ·head refl
 getD-in (x ∷ l) (suc i) d h = List·Memᴰ·tail (getD-in l i d (omega arith))
 
+pub place-of {ℓ} : {A : Type ℓ} (l : List A) (d : A) {x : A} → x ∈ l → (i : ℕ) × (i < length l) × (x ≡ getD l i d)
+place-of (y ∷ l) d (List·Memᴰ·head e) = (0, omega arith, e)
+place-of (y ∷ l) d (List·Memᴰ·tail m) = let (i, h, e) = place-of l d m in (suc i, omega arith, e)
+
 pub getD-below {ℓ} : {B : Type ℓ} (f : ℕ → B) (n i : ℕ) (d : B) → i < n → getD (map f (below n)) i d ≡ f i
 unfolding below
 getD-below f zero i d h = absurd (omega arith)

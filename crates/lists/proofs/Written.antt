@@ -49,7 +49,7 @@ module _ {A : Type 0} (d : A) where
   getD-default (suc k) zero = refl
   getD-default (suc k) (suc i) = getD-default k i
 
-  getD-padded : (l : List A) (k i : ℕ) → getD (l ++ replicate k d) i d ≡ getD l i d
+  pub getD-padded : (l : List A) (k i : ℕ) → getD (l ++ replicate k d) i d ≡ getD l i d
   getD-padded [] k i = getD-default k i
   getD-padded (x ∷ l) k zero = refl
   getD-padded (x ∷ l) k (suc i) = getD-padded l k i

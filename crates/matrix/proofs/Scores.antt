@@ -11,12 +11,9 @@ use Rattle.integers.specs.Range.{Within, Bounded}
 use Rattle.integers.proofs.Linear.{up, dn}
 use Rattle.integers.proofs.Range.{within, within-grow, value-within}
 use Rattle.pairs.specs.Pairs.{mark, carried}
-use Rattle.clusters.specs.PairList.{score, place, onePoint, pointLimit, scoreLimit, isInRange, inRange, isAllowedPair, scoresInRange}
-use Rattle.clusters.proofs.Scored.{range-within, allowed-cases}
-
-pub range-limit : (l : List ℤ) → T (inRange l) → Bounded scoreLimit l
-unfolding inRange
-range-limit l t z m = range-within (all-in (isInRange scoreLimit) l t m)
+use Rattle.clusters.specs.PairList.{score, onePoint, pointLimit, scoreLimit, inRange, isAllowedPair, scoresInRange}
+use Rattle.clusters.proofs.Scored.{range-limit, allowed-cases}
+use Rattle.clusters.proofs.Bounds.{score-within}
 
 pub range-bounded : (l : List ℤ) → T (inRange l) → Bounded (2 ^ 22) l
 unfolding onePoint pointLimit scoreLimit
@@ -33,10 +30,6 @@ lent-bounded l t z m = go (allowed-cases (all-in (λ v. isAllowedPair scoreLimit
     go : (z ≡ mark) ⊎ Within scoreLimit z → Within (2 ^ 31) z
     go (inl e) = subst (Within (2 ^ 31)) (sym e) mark-within
     go (inr h) = within-grow (lit≤ tt) h
-
-pub score-within : {k : ℕ} {l : List ℤ} → Bounded k l → (a b : ℕ) → Within k (score l a b)
-unfolding score
-score-within {l = l} h a b = value-within l (place a b) h
 
 -- small numbers are far from the limits of 64 bits
 module _ {l : List ℤ} (h : Bounded (2 ^ 22) l) where

@@ -1,7 +1,7 @@
 -- What a number of the pair list stands for.
 use mathlib.Core.Path.{_≡_, refl, sym, ap, _∙_, subst}
 use mathlib.Core.Bool.{Bool, true, false, not, cond}
-use mathlib.Core.Logic.{_⊎_, inl, inr}
+use mathlib.Core.Logic.{_⊎_, inl, inr, _≢_}
 use lib.IntN.{ℤ}
 use lib.Dec.{T}
 use Rattle.lists.proofs.Tests.{cond-elim}
@@ -19,6 +19,18 @@ unfolding carried
 carried-cases z = cond-elim (eqZ z mark) Unscored (Scored z) (λ p. (p ≡ Scored z) ⊎ ((z ≡ mark) × (p ≡ Unscored)))
     (λ t. inr (eqZ-yes z mark t, refl)) (λ t. inl refl)
 
+-- the mark is unscored, any other number is a score
+pub marked : {z : ℤ} → z ≡ mark → carried z ≡ Unscored
+unfolding carried eqZ mark
+marked e = ap carried e
+
+pub unmarked : {z : ℤ} → z ≢ mark → carried z ≡ Scored z
+unmarked {z} f = go (carried-cases z)
+  where
+    go : Cases z → carried z ≡ Scored z
+    go (inl e) = e
+    go (inr (m, _)) = absurd (f m)
+
 -- the pair of a number has that number
 pub number-carried : (z : ℤ) → numberFor (carried z) ≡ z
 unfolding numberFor
@@ -35,11 +47,7 @@ number-pair z = number-carried z
 -- a number that is scored is a score
 pub scored-is : {z : ℤ} → T (isScored (carried z)) → carried z ≡ Scored z
 unfolding isScored
-scored-is {z} t = go (carried-cases z)
-  where
-    go : Cases z → carried z ≡ Scored z
-    go (inl e) = e
-    go (inr (m, e)) = absurd (subst (λ p. T (isScored p)) e t)
+scored-is t = unmarked (λ m. subst (λ p. T (isScored p)) (marked m) t)
 
 pub is-scored : {z : ℤ} → carried z ≡ Scored z → T (isScored (carried z))
 unfolding isScored

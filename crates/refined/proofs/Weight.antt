@@ -20,7 +20,7 @@ use Rattle.clusters.specs.PairList.{Similarity, score}
 use Rattle.clusters.specs.Refined.{Quartet, quartets, doubledScore, refinedWeight, Across}
 use Rattle.clusters.proofs.Quartets.{in-quartets, quartets-fold, quartets-many}
 use Rattle.clusters.proofs.Refined.{quartets-within}
-use Rattle.matrix.proofs.Scores.{score-within}
+use Rattle.clusters.proofs.Bounds.{score-within}
 use Rattle.matrix.specs.Rows.{Cleared}
 use Rattle.links.specs.Table.{entry, Holds, OwnKept}
 use Rattle.links.proofs.Rows.{own-cleared}

@@ -13,7 +13,7 @@ use lib.Seq.{drop-cons, drop-drop, take-all}
 use Rattle.lists.proofs.Tests.{cond-elim}
 use Rattle.interface.specs.Sheet.{longer, cut}
 use Rattle.interface.specs.Calls.{pieceAt}
-use Rattle.interface.proofs.Pieces.{some-piece}
+use Rattle.interface.proofs.Pieces.{some-piece, longer-length}
 
 -- the list from a place on is its first byte and the list from the next place on
 pub here : (s : List ℕ) (i : ℕ) → i < length s → drop i s ≡ getD s i 0 ∷ drop (i + 1) s
@@ -92,11 +92,6 @@ module _ (c : ℕ) where
       (λ _ h. absurd (omega arith))
       (λ _ h. rw (longer-first b ws) (ap (longer b) (first-last t (omega (arith, ap length (longer-first b ws))))))
       h
-
-longer-length : (b : ℕ) (ws : List (List ℕ)) → 0 < length ws → length (longer b ws) ≡ length ws
-unfolding longer
-longer-length b [] h = absurd (omega arith)
-longer-length b (w ∷ ws) h = refl
 
 -- a byte that is c, and another
 module _ (c : ℕ) (s : List ℕ) (i : ℕ) (h : i < length s) where

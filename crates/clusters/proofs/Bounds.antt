@@ -11,14 +11,13 @@ use Rattle.lists.proofs.Lists.{of-each, of-map}
 use Rattle.integers.specs.Integers.{least}
 use Rattle.integers.specs.Range.{Within, Bounded}
 use Rattle.integers.proofs.Least.{least-of}
-use Rattle.integers.proofs.Range.{zero-within, within-grow, within-equal, within-sum, within-difference, within-max}
+use Rattle.integers.proofs.Range.{zero-within, value-within, within-grow, within-equal, within-sum, within-difference, within-max}
 use Rattle.integers.proofs.Smallest.{smallest-within}
 use Rattle.sets.specs.Sets.{others, size}
 use Rattle.sets.proofs.Sets.{size-le}
-use Rattle.clusters.specs.PairList.{Similarity, score}
+use Rattle.clusters.specs.PairList.{Similarity, place, score}
 use Rattle.clusters.specs.Indices.{strongValues, strongIndex, weight, pairsOf, weights, cleanIndex, separationValues, separationIndex}
 use Rattle.clusters.proofs.Strong.{of-strongValues, of-separationValues}
-use Rattle.matrix.proofs.Scores.{score-within}
 
 least-within : {k : ℕ} (l : List ℤ) → Bounded k l → Within k (least l)
 unfolding least
@@ -40,17 +39,21 @@ strong-within n s b A = least-within (strongValues n s A) (λ z m.
     within-grow (omega arith) (within-equal e (within-difference (b x y hx hy) (b x w hx hw))))
 
 module _ {l : List ℤ} {k : ℕ} (b : Bounded k l) where
+  pub score-within : (x y : ℕ) → Within k (score l x y)
+  unfolding score
+  score-within x y = value-within l (place x y) b
+
   pub weights-within : (n A : ℕ) → Bounded (2 * k) (weights n (score l) A)
   unfolding weight
   weights-within n A z m = let (x, y, w, e) = of-weights n (score l) A m in
-      within-grow (omega arith) (within-equal e (within-difference (score-within b x y) (within-max (score-within b x w) (score-within b y w))))
+      within-grow (omega arith) (within-equal e (within-difference (score-within x y) (within-max (score-within x w) (score-within y w))))
 
   pub separation-within : (n A : ℕ) → Within (4 * k) (separationIndex n (score l) A)
   unfolding separationIndex
   separation-within n A = least-within (separationValues n (score l) A) (λ z m.
       let (x, y, v, w, _, _, _, _, _, _, _, _, e) = of-separationValues n (score l) A m in
       within-grow (omega arith)
-      (within-equal e (within-difference (within-difference (within-sum (score-within b x v) (score-within b y w)) (score-within b x y)) (score-within b v w))))
+      (within-equal e (within-difference (within-difference (within-sum (score-within x v) (score-within y w)) (score-within x y)) (score-within v w))))
 
   pub clean-within : (n A : ℕ) → n ≤ 32 → Within (62 * k) (cleanIndex n (score l) A)
   unfolding cleanIndex
