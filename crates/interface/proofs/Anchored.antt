@@ -1,16 +1,13 @@
 -- The anchored call and the way back: what passes their checks, and that the one undoes the other.
 use mathlib.Core.Path.{_≡_, refl, sym, _∙_}
-use mathlib.Core.Bool.{Bool, true, false, not, _||_}
-use mathlib.Core.Logic.{_⊎_, inl, inr, _↔_}
-use mathlib.Core.List.{List, [], _∷_}
+use mathlib.Core.Bool.{true, false, not, _||_}
+use mathlib.Core.List.{List}
 use Prim.Native.Nat.{ℕ, _≤_, _<_}
-use native.Mathlib.Omega.{arith}
-use borrow.Author.Tests.{not-false, eq-eqb, lt-leb, le-ltb, leb-false, ltb-false, eqb-true}
-use lib.Dec.{T, leb, ltb, lit<, le→leb, lt→ltb, leb→le, ltb→lt, T-not}
+use borrow.Author.Tests.{not-false, eq-eqb, lt-leb, le-ltb, leb-false, ltb-false}
+use lib.Dec.{T, leb, ltb, lit<}
 use lib.IntN.{ℤ, pos}
 use lib.ListN.{length}
-use Rattle.lists.specs.Lists.{all}
-use Rattle.lists.proofs.Tests.{T-true, true-T, T-false, false-T, T-or-not, or-T, T-or-left, T-or-right, or-none, eqb-yes}
+use Rattle.lists.proofs.Tests.{T-true, true-T, false-T, or-none}
 use Rattle.integers.specs.Integers.{eqZ}
 use Rattle.clusters.specs.PairList.{rowStart, score, hasLength, inRange, scoresInRange, hasUnscored, areDistances}
 use Rattle.clusters.specs.Farris.{farris, anchoredScores, distancesBack, isAnchored}
@@ -19,7 +16,6 @@ use Rattle.clusters.proofs.Scored.{scored-in-range}
 use Rattle.clusters.proofs.Farris.{anchored-back, anchored-iff}
 use Rattle.interface.specs.Refusals.{
   firstOf,
-  none,
   wrongCount,
   wrongDistances,
   wrongAnchor,

@@ -60,7 +60,7 @@ use Rattle.interface.specs.Demands.{
   Complete,
   Demand3,
 }
-use Rattle.interface.specs.Tables.{Table, GivenFirst, NoneGiven, sheetTable}
+use Rattle.interface.specs.Tables.{Table, GivenFirst, NoneGiven}
 use Rattle.interface.proofs.Refusals.{numbered, passes, few-count}
 use Rattle.interface.proofs.Lines.{Readable, listing-read}
 use Rattle.interface.proofs.Slots.{groups-slots, group-at}

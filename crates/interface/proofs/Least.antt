@@ -13,7 +13,7 @@ use Rattle.integers.proofs.Least.{max-left, max-right, max-is}
 use Rattle.sets.specs.Sets.{_∋_, size}
 use Rattle.clusters.specs.PairList.{Similarity, scoreLimit}
 use Rattle.clusters.specs.Indices.{strongIndex, weight, cleanIndex, separationIndex}
-use Rattle.clusters.specs.Groups.{strong, clean, splits, kindOf, index}
+use Rattle.clusters.specs.Groups.{strong, clean, kindOf, index}
 use Rattle.clusters.specs.Triples.{Triple, tripleWeight, TripleOf}
 use Rattle.clusters.proofs.Groups.{leastSize, speaks-size, of-listed, in-groups}
 use Rattle.clusters.proofs.Strong.{strong-least, strong-attained, separation-least, separation-attained}

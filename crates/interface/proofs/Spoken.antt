@@ -1,15 +1,14 @@
 -- Which sets a kind speaks of, by entries.
-use mathlib.Core.Path.{_≡_}
-use mathlib.Core.Bool.{not, _&&_}
+use mathlib.Core.Bool.{_&&_}
 use mathlib.Core.Logic.{_≢_}
-use mathlib.Core.List.{List, [], _∷_, List·Memᴰ·head, List·Memᴰ·tail, Memᴰ·cast}
+use mathlib.Core.List.{List, [], _∷_, List·Memᴰ·head, List·Memᴰ·tail}
 use mathlib.Core.Path.{refl}
 use Prim.Native.Nat.{ℕ, _<_, _≤_}
 use native.Mathlib.Omega.{arith}
-use lib.Dec.{T, leb, ltb}
+use lib.Dec.{leb}
 use lib.ListN.{length}
 use Rattle.lists.specs.Lists.{_∈_, Distinct}
-use Rattle.sets.specs.Sets.{has, _∋_, _∌_, members, size}
+use Rattle.sets.specs.Sets.{members, size}
 use Rattle.sets.proofs.Sets.{has-no, no-has, of-members, members-distinct, member-size, size-member, size-less, less-size}
 use Rattle.clusters.specs.Groups.{Kind, strong, clean, splits, proper, speaksOf}
 use Rattle.interface.specs.Demands.{Proper, Spoken}

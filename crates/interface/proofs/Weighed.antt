@@ -1,40 +1,35 @@
 -- 2.5, the refined weight of a split, from the outcomes of the call and the theorems about quartets.
-use mathlib.Core.Path.{_≡_, refl, sym, ap, ap₂, _∙_, subst, subst₂}
-use mathlib.Core.Bool.{Bool, true, false, not, _||_}
+use mathlib.Core.Path.{_≡_, refl, sym, ap, ap₂, _∙_, subst}
+use mathlib.Core.Bool.{Bool, true, false, not}
 use mathlib.Core.Logic.{_⊎_, inl, inr, _≢_}
-use mathlib.Core.List.{List, [], _∷_, _++_}
+use mathlib.Core.List.{List}
 use Prim.Native.Nat.{ℕ, _+_, _-_, _^_, _<_, _≤_}
 use native.Mathlib.Decide.{decLt}
 use native.Mathlib.Omega.{arith}
-use borrow.Author.Tests.{lt-leb, le-ltb, ltb-false, leb-false, eq-eqb}
+use borrow.Author.Tests.{eq-eqb}
 use lib.Dec.{T, lit<}
 use lib.IntN.{ℤ, pos, _+ℤ_, _-ℤ_, _*ℤ_}
 use lib.Signed.{_≤ℤ_}
 use lib.ListN.{length}
 use Rattle.lists.specs.Lists.{_lists_, all}
-use Rattle.lists.proofs.Lists.{length-some}
-use Rattle.lists.proofs.Tests.{T-false, or-none, or-second, cond-elim}
+use Rattle.lists.proofs.Tests.{T-false, cond-elim}
 use Rattle.integers.specs.Integers.{eqZ, minZ, sumOf}
 use Rattle.integers.proofs.Linear.{zarith, +at, -at}
 use Rattle.integers.proofs.Least.{min-left, min-right, min-is}
-use Rattle.sets.specs.Sets.{has, _∋_, _∌_, size, complement}
+use Rattle.sets.specs.Sets.{has, _∋_, _∌_, complement}
 use Rattle.sets.proofs.Sets.{clash, in-complement, of-complement, size-complement, complement-lt}
-use Rattle.sets.proofs.Subsets.{fits-members, members-fit, two-size}
 use Rattle.clusters.specs.PairList.{score, rowStart, hasLength, scoresInRange, hasUnscored}
 use Rattle.clusters.specs.Fillings.{AllScored}
-use Rattle.clusters.specs.Groups.{splits, kindOf, index, listed, groups, writtenSet}
-use Rattle.clusters.specs.Refined.{Quartet, quartets, doubledScore, refinedWeight, Across, Compatible}
+use Rattle.clusters.specs.Groups.{splits, kindOf, index, groups, writtenSet}
+use Rattle.clusters.specs.Refined.{Quartet, doubledScore, refinedWeight, Compatible}
 use Rattle.clusters.proofs.PairList.{score-symm, length-pairList}
 use Rattle.clusters.proofs.Groups.{in-groups}
 use Rattle.clusters.proofs.Scored.{list-scored}
-use Rattle.clusters.proofs.Quartets.{in-quartets, quartets-many}
 use Rattle.clusters.proofs.Crossing.{refined-never-cross}
 use Rattle.clusters.proofs.Refined.{refined-ge, split-refined, refined-either-side, refined-image, refined-least, refined-attained}
-use Rattle.answers.specs.Answers.{numberOf}
 use Rattle.answers.specs.Weighed.{weighedNumber, weighedWeight, weighedAnswer}
-use Rattle.answers.proofs.Answers.{number-answer, weighed-number, weighed-nothing, weighed-found}
+use Rattle.answers.proofs.Answers.{weighed-number, weighed-nothing, weighed-found}
 use Rattle.interface.specs.Sheet.{entries, value, pairs}
-use Rattle.interface.specs.Listing.{groupsFound}
 use Rattle.interface.specs.Refusals.{
   wrongCount,
   wrongUnscored,
