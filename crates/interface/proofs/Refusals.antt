@@ -110,11 +110,6 @@ first-append (c ∷ l) m t = go (c .0) (c .1) (and-T (not (eqb (c .0) 0)) (numbe
     go k true (h, t) ih = rw (ne-eqb k 0 (eqb-no k 0 h))
     go k false (h, t) ih = ih t
 
--- a number that the second does not give is the first's
-pub first-ahead : (l m : List (ℕ × Bool)) → T (numbered l) → {k : ℕ} → firstOf m ≢ k → firstOf (l ++ m) ≡ k → firstOf l ≡ k
-first-ahead l m t {k} d e =
-    cond-elim (eqb (firstOf l) 0) (firstOf m) (firstOf l) (λ (j : ℕ). j ≡ k → firstOf l ≡ k) (λ _ q. absurd (d q)) (λ _ q. q) (sym (first-append l m t) ∙ e)
-
 -- down the first table, which gives k: k is given, or the second is gone down
 module _ (l m : List (ℕ × Bool)) {k : ℕ} (t : T (numbered l)) (e : k ≡ firstOf l) where
   pub first-front : (k ≡ 0 → ⊥) → Gives (l ++ m) k
