@@ -165,10 +165,10 @@ in-range-says l = all-says (λ z. record { to = range-within; from = within-rang
 distances-list : (n : ℕ) (d : List ℤ) → DistanceList n d ↔ ((length d ≡ rowStart n) × T (inRange d) × T (areDistances n d))
 unfolding rowStart
 distances-list n d = (
-  λ x. (x .long, in-range-says d .from (x .range), distances-say n d .from (x .natural, λ i m. x .own i (below-lt n m))),
+  λ x. (x .long, in-range-says d .from (x .range), distances-say n d .from (x .distances .natural, λ i m. x .distances .own i (below-lt n m))),
   λ (long, range, distances).
       let (a, b) = distances-say n d .to distances in
-      record { long = long; range = in-range-says d .to range; natural = a; own = λ i h. b i (lt-below n i h) },
+      record { long = long; range = in-range-says d .to range; distances = record { natural = a; own = λ i h. b i (lt-below n i h) } },
 )
 
 -- of a list of the right length

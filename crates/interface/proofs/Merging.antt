@@ -47,7 +47,8 @@ use Rattle.interface.specs.Sheet.{sameBytes}
 use Rattle.interface.specs.Calls.{LinkageCall}
 use Rattle.interface.proofs.Pieces.{same-bytes}
 use Rattle.interface.proofs.Demands.{merged-slots}
-use Rattle.interface.specs.Taken.{FitsList, Scored}
+use Rattle.interface.specs.Taken.{FitsList}
+use Rattle.interface.specs.Sentences.{HasMark}
 use Rattle.interface.proofs.AgreeNumbers.{in-range-says, marked-says}
 use Rattle.interface.proofs.Taken.{whatever-fits}
 use Rattle.interface.specs.Merging.{LeftBefore, NoSmaller, SlotMerges, fourScores, InOrder}
@@ -360,7 +361,7 @@ four-fit = record {
   range = λ z m. inr (in-range-says fourScores .to tt z m);
 }
 
-four-scored : Scored fourScores
+four-scored : HasMark fourScores → ⊥
 unfolding fourScores hasUnscored carried isScored eqZ mark all
 four-scored m = T-not (hasUnscored fourScores) tt (marked-says fourScores .from m)
 

@@ -47,8 +47,8 @@ use Rattle.interface.proofs.Accepted.{Passed, not-not}
 use Rattle.interface.proofs.Names.{distinct-names}
 use Rattle.interface.proofs.SheetTexts.{WellFormed, sheetText-names, sheetText-entries, sheetText-pairs, sheetText-accepted}
 use Rattle.interface.proofs.Demands.{c-refused, answered, taken, counted}
-use Rattle.interface.specs.Sentences.{NoKind, NoneOrOver32, OtherLength, markNumber, BeyondMillion, HasMark, lower, NoDistances}
-use Rattle.interface.specs.Taken.{FitsSheet, FitsKind, always, if-scored, if-distances, FitsList, Scored, Distances, ListKind, every-list, scored-list, distance-list, Taken}
+use Rattle.interface.specs.Sentences.{NoKind, NoneOrOver32, OtherLength, markNumber, BeyondMillion, HasMark, lower, NoDistances, Distances}
+use Rattle.interface.specs.Taken.{FitsSheet, FitsKind, always, if-scored, if-distances, FitsList, ListKind, every-list, scored-list, distance-list, Taken}
 use Rattle.interface.proofs.Agree.{not-says, agree-none}
 use Rattle.interface.proofs.AgreeText.{name-says, equal-says, six-says}
 use Rattle.interface.proofs.AgreeNumbers.{one-says, third-kind, eleven-says, sixteen-list-says, twelve-list-says}
@@ -73,7 +73,7 @@ no-distances : {n : ℕ} {l : List ℤ} → Distances n l → NoDistances n l �
 no-distances d (inl (z, m, g)) = g (d .natural z m)
 no-distances d (inr (i, h, g)) = g (d .own i h)
 
-distances-scored : {n : ℕ} {l : List ℤ} → Distances n l → Scored l
+distances-scored : {n : ℕ} {l : List ℤ} → Distances n l → HasMark l → ⊥
 distances-scored d m = d .natural markNumber m .le
 
 kind-fits : {n : ℕ} {l : List ℤ} {kind : ℤ} → ListKind n l kind

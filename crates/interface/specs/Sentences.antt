@@ -200,11 +200,14 @@ FewerThan2n n sets indices = (sets < 2 * n) ⊎ (indices < 2 * n)
 abbrev pub AnchorOrShort : ℕ → (anchor slots : ℕ) → Type 0
 AnchorOrShort n x slots = (n ≤ x) ⊎ (slots < n * (n + 1) / 2)
 
+pub record Distances (n : ℕ) (d : List ℤ) : Type 0 where
+  pub natural : (z : ℤ) → z ∈ d → pos 0 ≤ℤ z
+  pub own : (i : ℕ) → i < n → lower d i i ≡ pos 0
+
 pub record DistanceList (n : ℕ) (d : List ℤ) : Type 0 where
   pub long : length d ≡ n * (n + 1) / 2
   pub range : (z : ℤ) → z ∈ d → Within (2 * 1000000) z
-  pub natural : (z : ℤ) → z ∈ d → pos 0 ≤ℤ z
-  pub own : (i : ℕ) → i < n → lower d i i ≡ pos 0
+  pub distances : Distances n d
 
 abbrev pub OfNoDistances : ℕ → (anchor : ℕ) → List ℤ → Type 0
 OfNoDistances n x l = (d : List ℤ) → DistanceList n d → l ≡ anchoredScores n x d → ⊥

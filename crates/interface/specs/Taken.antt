@@ -17,7 +17,7 @@ use Rattle.interface.specs.Listing.{sheetListing}
 use Rattle.interface.specs.SheetText.{sheetText}
 use Rattle.interface.specs.Calls.{CCall, NumbersCall, LinkageCall, AnchoredCall, ReaderCall, NameInC, ScoreInC}
 use Rattle.interface.specs.Requests.{SharedAnswered, SideWeighed}
-use Rattle.interface.specs.Sentences.{Name, markNumber, lower, TwoSides}
+use Rattle.interface.specs.Sentences.{Name, markNumber, HasMark, lower, Distances, TwoSides}
 
 -- names and scores that a sheet can have: 1 to 32 names, no two equal; of each pair one number for both orders, half
 -- points from −1,000,000 to 1,000,000 points or the mark's
@@ -40,16 +40,9 @@ pub record FitsList (n : ℕ) (l : List ℤ) : Type 0 where
   pub long : length l ≡ n * (n + 1) / 2
   pub range : (z : ℤ) → z ∈ l → (z ≡ markNumber) ⊎ Within (2 * 1000000) z
 
-abbrev pub Scored : List ℤ → Type 0
-Scored l = markNumber ∈ l → ⊥
-
-pub record Distances (n : ℕ) (l : List ℤ) : Type 0 where
-  pub natural : (z : ℤ) → z ∈ l → pos 0 ≤ℤ z
-  pub own : (i : ℕ) → i < n → lower l i i ≡ pos 0
-
 pub data ListKind (n : ℕ) (l : List ℤ) : (kind : ℤ) → Type 0 where
   every-list : ListKind n l (pos 1)
-  scored-list : Scored l → ListKind n l (pos 2)
+  scored-list : (HasMark l → ⊥) → ListKind n l (pos 2)
   distance-list : Distances n l → ListKind n l (pos 3)
 
 pub record Taken : Type 0 where
@@ -72,14 +65,14 @@ pub record Taken : Type 0 where
   pub name : {ns : List (List ℕ)} {s : Similarity} → FitsSheet ns s
       → {i r start : ℕ} → NameInC (sheetText ns s) i r start → i < length ns
       → take r (drop start (sheetText ns s)) ≡ getD ns i []
-  -- of a pair list that fits: the numbers call counts "with 2n slots" each and gives 13 with fewer in either
+  -- of a pair list that fits: the numbers call counts with 2n slots in each slice, and gives 13 with fewer in either
   pub numbers : {n : ℕ} {l : List ℤ} → FitsList n l → {kind : ℤ} → ListKind n l kind
       → {lentSets sets : List ℕ} {lentIndices indices : List ℤ} {r : Answer}
       → NumbersCall kind n l lentSets lentIndices r sets indices
       → (2 * n ≤ length lentSets → 2 * n ≤ length lentIndices → numberOf r ≡ 0)
       × (length lentSets < 2 * n → numberOf r ≡ 13) × (length lentIndices < 2 * n → numberOf r ≡ 13)
   -- the linkage calls take it if every pair is scored, the anchored call and the weight if they are distances
-  pub linked : {n : ℕ} {l : List ℤ} → FitsList n l → Scored l
+  pub linked : {n : ℕ} {l : List ℤ} → FitsList n l → (HasMark l → ⊥)
       → {linkage : Linkage} {lent after : List ℕ} {r : Answer} → LinkageCall linkage n l lent r after
       → (n - 1 ≤ length lent → numberOf r ≡ 0) × (length lent < n - 1 → numberOf r ≡ 15)
   pub anchored : {n : ℕ} {l : List ℤ} → FitsList n l → Distances n l
