@@ -24,6 +24,7 @@ use Rattle.clusters.proofs.Groups.{of-listed, is-listed, listed-index, in-group
 use Rattle.clusters.proofs.Images.{image-only}
 use Rattle.clusters.proofs.Fillings.{filled-cong}
 use Rattle.clusters.proofs.Pooled.{both-scored, either-unscored, pooled-turned, pooled-index, pooled-strong}
+use Rattle.answers.specs.declared.Answer.{Answer}
 use Rattle.answers.specs.Answers.{numberOf, answer}
 use Rattle.answers.proofs.Answers.{number-answer}
 use Rattle.interface.specs.Sheet.{names, entries, value, pairs}
@@ -31,6 +32,7 @@ use Rattle.interface.specs.Pool.{placeOn, poolScores, poolPairs, poolTex
 use Rattle.interface.specs.Refusals.{Check, firstOf, none, namesDiffer, check17, check18, check14, readerChecks, sheetChecks, poolChecks, poolRefusal}
 use Rattle.interface.specs.Calls.{cNumber, InC, PoolCall}
 use Rattle.interface.specs.Sentences.{SameName, SameNames}
+use Rattle.interface.specs.Tables.{Judged, poolTable}
 use Rattle.interface.specs.Demands.{Wrote}
 use Rattle.interface.specs.Requests.{Pooled, by-pool-call, by-pool-in-C, SameSet, Request-2-4}
 use Rattle.interface.proofs.Refusals.{first-none, none-append, first-append, first-at, passes, some-count}
@@ -309,12 +311,16 @@ other-order {first} {second} {second′} x x′ f = x′ .are ∙ sheetText-cong
         (f (placeOn first second i) (placeOn first second′ i) (placeOn first second j) (placeOn first second′ j) (across i h) (across j k))
         ∙ sym (pool-number (x .one) (x .two) (x .same) (here i h) (here j k))
 
+pool-judged : {first second lent after : List ℕ} {r : Answer} → PoolCall first second lent r after → Judged (poolTable first second (length lent)) (numberOf r)
+unfolding poolRefusal
+pool-judged {first} {second} {lent} c = judged (pool-agrees first second (length lent)) (pool-numbered first second (length lent))
+    (ap numberOf (c .answered) ∙ number-answer (poolRefusal first second (length lent)) (length (poolText first second)))
+
 pub request-2-4 : Request-2-4
 unfolding poolRefusal
 request-2-4 = record {
-  judged = λ {first} {second} {lent} c. judged-in-C c (λ a o.
-      judged (pool-agrees first second (length lent)) (pool-numbered first second (length lent))
-      (ap numberOf (o .answered) ∙ number-answer (firstOf (table first second lent)) (length (poolText first second))));
+  judged = pool-judged;
+  judged-in-C = λ c. judged-in-C c (λ a o. pool-judged o);
   refused = λ {first} {second} {lent} c. text-refused c (table first second lent) (poolText first second) lent (c .outcome .answered) (c .outcome .written);
   own-bytes = λ {first} {second} {lent} c count e.
       let checks = table first second lent in

@@ -155,7 +155,9 @@ pub record Request-2-4 : Type 0 where
   -- "The first sheet passes 2 to 9 and 11, then the second; after them 17 means the two name sets differ, 18 a sum out
   -- of range, and 14 a short buffer": each number is given if and only if its line holds and none before it does;
   -- nothing is then written
-  pub judged : {first second lent after : List ℕ} {r : ℤ} → InC (λ a. PoolCall first second lent a after) r
+  pub judged : {first second lent after : List ℕ} {r : Answer} → PoolCall first second lent r after
+      → Judged (poolTable first second (length lent)) (numberOf r)
+  pub judged-in-C : {first second lent after : List ℕ} {r : ℤ} → InC (λ a. PoolCall first second lent a after) r
       → JudgedInC (poolTable first second (length lent)) r
   pub refused : {first second lent after : List ℕ} {r : ℤ} → InC (λ a. PoolCall first second lent a after) r
       → (k : ℕ) → 0 < k → r ≡ negℤ (pos k) → after ≡ lent
