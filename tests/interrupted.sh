@@ -91,9 +91,12 @@ begin() {
     set +m
 }
 
+# A signal at the moment at which a command of its ends may make bash say that it has no record of that process; this is bash's own word, and
+# seldom.
 end() {
     ended=0
     { wait "$command" || ended=$?; } 2>/dev/null
+    sed -i '/: wait_for: No record of process [0-9]*$/d' "$room/err"
 }
 
 declare -A outcomes=()
