@@ -10,7 +10,7 @@ use Rattle.pairs.specs.Pairs.{mark, carried}
 use Rattle.clusters.specs.PairList.{rowStart, place, score}
 use Rattle.clusters.specs.Indices.{strongValues, strongIndex, weight, pairsOf, weights, cleanIndex, separationValues, separationIndex}
 use Rattle.clusters.specs.Fillings.{low, high, worst, filledIndex}
-use Rattle.clusters.specs.Groups.{index, proper, speaksOf, listed, sets, groupSets, groups}
+use Rattle.clusters.specs.Groups.{index, proper, speaksOf, positive, listed, sets, setsBy, groupsBy, groups}
 use Rattle.clusters.specs.Bench.{
   Case,
   bench,
@@ -35,7 +35,7 @@ use Rattle.clusters.specs.Bench.{
 use Rattle.clusters.specs.Refined.{quartet, quartets, doubledScore, refinedWeight}
 
 computed : map linesFound bench ≡ map (λ (c : Case). c .lines) bench
-unfolding linesFound bench changedLines ownLines copiesLines four changed flat own copies apart equal groups groupSets sets listed speaksOf proper
+unfolding linesFound bench changedLines ownLines copiesLines four changed flat own copies apart equal groups groupsBy setsBy sets listed positive speaksOf proper
     index strongIndex strongValues cleanIndex weights pairsOf weight separationIndex separationValues score place rowStart has members others size
     minZ maxZ least sumOf sum insert sort sumOfSmallest below each keep filledIndex worst xor low high carried mark eqZ
 computed = refl

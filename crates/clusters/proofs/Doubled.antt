@@ -12,7 +12,7 @@ use lib.Dec.{T}
 use lib.ListN.{take}
 use Rattle.lists.specs.Lists.{_∈_, below, each, keep, all}
 use Rattle.lists.proofs.Tests.{and-T, T-same}
-use Rattle.lists.proofs.Lists.{below-lt, of-keep, keep-cong, map-cong, all-in, in-all, all-cong, map-take}
+use Rattle.lists.proofs.Lists.{below-lt, map-cong, all-in, in-all, all-cong, map-take}
 use Rattle.integers.specs.Integers.{minZ, maxZ, eqZ, least, sumOf, sum, insert, sort, sumOfSmallest}
 use Rattle.integers.proofs.Linear.{up, dn, zarith, +at, neg-up, neg-dn, four, four-sub, eqZ-yes, yes-eqZ}
 use Rattle.sets.specs.Sets.{has, members, others, size}
@@ -34,13 +34,13 @@ use Rattle.clusters.specs.PairList.{
 }
 use Rattle.clusters.specs.Indices.{strongValues, strongIndex, weight, pairsOf, weights, cleanIndex, separationValues, separationIndex}
 use Rattle.clusters.specs.Fillings.{AllScored, low, high, worst, filledIndex}
-use Rattle.clusters.specs.Groups.{Kind, strong, clean, splits, index, speaksOf, listed, sets, groupSets, groups}
+use Rattle.clusters.specs.Groups.{Kind, Group, strong, clean, splits, index, speaksOf, positive, listed, setsBy, groupsBy, groups}
 use Rattle.clusters.specs.Refined.{Quartet, quartets, doubledScore, refinedWeight}
-use Rattle.clusters.specs.Doubled.{twice, doubledPair, Doubles, doubledGroup, indexWithin, groupsWithin}
+use Rattle.clusters.specs.Doubled.{twice, doubledPair, Doubles, doubledGroup}
 use Rattle.clusters.proofs.PairList.{in-pairList, of-pairList, pairList-at}
 use Rattle.clusters.proofs.Pairs.{of-pairs}
 use Rattle.clusters.proofs.Quartets.{in-quartets}
-use Rattle.clusters.proofs.Groups.{speaks-size}
+use Rattle.clusters.proofs.Groups.{speaks-size, groupsBy-same}
 use Rattle.clusters.proofs.Scored.{AllAllowed}
 use Rattle.clusters.proofs.Untouched.{untouched-index, positive-untouched}
 
@@ -339,6 +339,12 @@ Other splits = Unit {0}
 other : (k : Kind) → Other k → k ≢ strong
 other k o e = subst Other e o
 
+-- the index of each kind, where the allowed range of a score is from −limit to limit; `index` has it from −scoreLimit to scoreLimit
+unfoldable pub indexWithin : (limit : ℕ) → Kind → ℕ → Similarity → ℕ → ℤ
+indexWithin limit strong n s A = filledIndex limit n s A
+indexWithin limit clean n s A = cleanIndex n s A
+indexWithin limit splits n d A = separationIndex n d A
+
 -- every index is twice what it was; unscored pairs are for strong groups only
 pub index-doubled : (limit : ℕ) (k : Kind) (n : ℕ) (s t : Similarity) → Doubles n s t → (k ≢ strong → AllScored n s) → (A : ℕ)
     → indexWithin (2 * limit) k n t A ≡ twice (indexWithin limit k n s A)
@@ -350,28 +356,34 @@ index-doubled limit splits n s t d scored A = separation-twice n s t (numbers-do
 pub weight-doubled : (n : ℕ) (s t : Similarity) → Doubles n s t → AllScored n s → (A : ℕ) → refinedWeight n t A ≡ twice (refinedWeight n s A)
 weight-doubled n s t d scored A = refined-twice n s t (numbers-doubled d scored) A
 
+-- the groups of each kind, where the allowed range of a score is from −limit to limit; `groups` has it from −scoreLimit to scoreLimit
+unfoldable pub positiveWithin : (limit : ℕ) → Kind → ℕ → Similarity → ℕ → Bool
+positiveWithin limit k n s = positive k n (indexWithin limit k n s)
+
+unfoldable pub groupsWithin : (limit : ℕ) → Kind → ℕ → Similarity → List Group
+groupsWithin limit k n s = groupsBy (positiveWithin limit k n s) (indexWithin limit k n s) n
+
 -- the same sets are listed, each with twice the index
-listing-same : {X : Type 0} (p q : ℕ → Bool) (f g : ℕ → X) (l : List ℕ) → ((A : ℕ) → p A ≡ q A) → ((A : ℕ) → T (q A) → f A ≡ g A)
-    → map f (keep p l) ≡ map g (keep q l)
-listing-same p q f g l e h =
-    ap (map f) (keep-cong p q l (λ A _. e A)) ∙ map-cong f g (keep q l) (λ A m. h A (of-keep q l m .1))
+groupsBy-doubled : (test : ℕ → Bool) (index : ℕ → ℤ) (n : ℕ) → groupsBy test (λ A. twice (index A)) n ≡ map doubledGroup (groupsBy test index n)
+unfolding groupsBy doubledGroup
+groupsBy-doubled test index n = sym (map-map _ _ (setsBy test n))
 
 pub groups-doubled : (limit : ℕ) (k : Kind) (n : ℕ) (s t : Similarity) → Doubles n s t → (k ≢ strong → AllScored n s)
     → groupsWithin (2 * limit) k n t ≡ map doubledGroup (groupsWithin limit k n s)
-unfolding groupsWithin doubledGroup
+unfolding groupsWithin positiveWithin positive
 groups-doubled limit k n s t d scored =
-    listing-same _ _ _ (λ A. (A, twice (indexWithin limit k n s A))) (sets n)
+    groupsBy-same _ (positiveWithin limit k n s) _ (λ A. twice (indexWithin limit k n s A)) n
     (λ A. ap (λ b. speaksOf k n A && b) (ap (leZ (pos 1)) (twofold A) ∙ twice-positive (indexWithin limit k n s A)))
-    (λ A _. ap (λ (z : ℤ). (A, z)) (twofold A))
-    ∙ sym (map-map _ _ (keep (λ A. speaksOf k n A && leZ (pos 1) (indexWithin limit k n s A)) (sets n)))
+    (λ A _. twofold A)
+    ∙ groupsBy-doubled (positiveWithin limit k n s) (indexWithin limit k n s) n
   where
     twofold : (A : ℕ) → indexWithin (2 * limit) k n t A ≡ twice (indexWithin limit k n s A)
     twofold = index-doubled limit k n s t d scored
 
 -- a set that is listed is touched by no unscored pair, so its index does not depend on the limit
 listed-limit : (limit limit′ : ℕ) (k : Kind) (n : ℕ) (s : Similarity) → AllAllowed limit n s → (A : ℕ)
-    → T (speaksOf k n A && leZ (pos 1) (indexWithin limit k n s A)) → indexWithin limit k n s A ≡ indexWithin limit′ k n s A
-unfolding indexWithin
+    → T (positiveWithin limit k n s A) → indexWithin limit k n s A ≡ indexWithin limit′ k n s A
+unfolding indexWithin positiveWithin positive
 listed-limit limit limit′ strong n s h A t =
     let (p, i) = and-T (speaksOf strong n A) (leZ (pos 1) (filledIndex limit n s A)) t in
     let u = positive-untouched limit n s A h (size-less n A (speaks-size strong n A p .1)) (leZ-yes i) in
@@ -381,20 +393,17 @@ listed-limit limit limit′ splits n s h A t = refl
 
 pub groups-limit : (limit limit′ : ℕ) (k : Kind) (n : ℕ) (s : Similarity) → AllAllowed limit n s → AllAllowed limit′ n s
     → groupsWithin limit k n s ≡ groupsWithin limit′ k n s
-unfolding groupsWithin
-groups-limit limit limit′ k n s h h′ = listing-same (isListed limit) (isListed limit′) _ _ (sets n)
-    (λ A. T-same (isListed limit A) (isListed limit′ A) (moved limit limit′ h A) (moved limit′ limit h′ A))
-    (λ A t. ap (λ (z : ℤ). (A, z)) (sym (listed-limit limit′ limit k n s h′ A t)))
+unfolding groupsWithin positiveWithin positive
+groups-limit limit limit′ k n s h h′ = groupsBy-same (positiveWithin limit k n s) (positiveWithin limit′ k n s) _ _ n
+    (λ A. T-same (positiveWithin limit k n s A) (positiveWithin limit′ k n s A) (moved limit limit′ h A) (moved limit′ limit h′ A))
+    (λ A t. sym (listed-limit limit′ limit k n s h′ A t))
   where
-    isListed : (limit A : ℕ) → Bool
-    isListed limit A = speaksOf k n A && leZ (pos 1) (indexWithin limit k n s A)
-
-    moved : (limit limit′ : ℕ) → AllAllowed limit n s → (A : ℕ) → T (isListed limit A) → T (isListed limit′ A)
+    moved : (limit limit′ : ℕ) → AllAllowed limit n s → (A : ℕ) → T (positiveWithin limit k n s A) → T (positiveWithin limit′ k n s A)
     moved limit limit′ h A t = subst (λ z. T (speaksOf k n A && leZ (pos 1) z)) (listed-limit limit limit′ k n s h A t) t
 
 -- the groups as they are listed are those within the range of check 11
 pub groups-within : (k : Kind) (n : ℕ) (s : Similarity) → groups k n s ≡ groupsWithin scoreLimit k n s
-unfolding groups groupSets listed index groupsWithin indexWithin
+unfolding groups listed index groupsWithin positiveWithin indexWithin
 groups-within strong n s = refl
 groups-within clean n s = refl
 groups-within splits n s = refl

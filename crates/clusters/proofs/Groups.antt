@@ -24,13 +24,34 @@ use native.Mathlib.Omega.{arith}
 use lib.IntN.{ℤ, pos}
 use lib.Signed.{_≤ℤ_, leZ, leZ-yes}
 use lib.Dec.{T, eqb, leb, ltb, leb→le, le→leb, ltb→lt, lt→ltb, eqb→eq, eqb-refl}
-use Rattle.lists.specs.Lists.{_∈_, _lists_, below, each, keep, Distinct}
+use Rattle.lists.specs.Lists.{_∈_, below, each, keep, Distinct}
 use Rattle.lists.proofs.Tests.{and-T, T-and, cond-elim}
-use Rattle.lists.proofs.Lists.{below-lt, lt-below, in-each, of-each, each-below, in-keep, of-keep, keep-append, in-map, of-map}
+use Rattle.lists.proofs.Lists.{below-lt, lt-below, in-each, of-each, each-below, in-keep, of-keep, keep-append, keep-cong, in-map, of-map, map-cong}
 use Rattle.sets.specs.Sets.{has, _∋_, _∌_, size}
 use Rattle.sets.proofs.Sets.{has-no, size-le, size-member, size-less}
 use Rattle.clusters.specs.PairList.{Similarity}
-use Rattle.clusters.specs.Groups.{Kind, strong, clean, splits, index, proper, speaksOf, listed, sets, groupSets, groups, Before, Rising}
+use Rattle.clusters.specs.Groups.{
+  Kind,
+  Group,
+  HasLine,
+  strong,
+  clean,
+  splits,
+  index,
+  proper,
+  speaksOf,
+  positive,
+  listed,
+  sets,
+  setsBy,
+  groupsBy,
+  groupSets,
+  groups,
+  setsOf,
+  indicesOf,
+  Before,
+  Rising,
+}
 
 -- the least size of the sets that a kind speaks of
 unfoldable pub leastSize : Kind → ℕ
@@ -58,11 +79,11 @@ leastSize-some splits = omega arith
 
 module _ (k : Kind) (n : ℕ) (s : Similarity) (A : ℕ) where
   pub of-listed : T (listed k n s A) → T (speaksOf k n A) × T (leZ (pos 1) (index k n s A))
-  unfolding listed
+  unfolding listed positive
   of-listed t = and-T (speaksOf k n A) (leZ (pos 1) (index k n s A)) t
 
   pub is-listed : T (speaksOf k n A) → pos 1 ≤ℤ index k n s A → T (listed k n s A)
-  unfolding listed
+  unfolding listed positive
   is-listed t h = T-and (speaksOf k n A) (leZ (pos 1) (index k n s A)) t (h .le)
 
   pub listed-index : T (listed k n s A) → pos 1 ≤ℤ index k n s A
@@ -98,21 +119,59 @@ in-sets n A = (
       (in-keep (λ B. eqb (size n B) (size n A)) (lt-below (2 ^ n) A h) (eqb-refl (size n A))),
 )
 
-module _ (k : Kind) (n : ℕ) (s : Similarity) (A : ℕ) where
-  pub in-groupSets : (A ∈ groupSets k n s) ↔ ((A < 2 ^ n) × T (listed k n s A))
-  unfolding groupSets
-  in-groupSets = (λ m. let (h, t) = of-keep (listed k n s) (sets n) m in (in-sets n A .0 h, t), λ p. in-keep (listed k n s) (in-sets n A .1 (p .0)) (p .1))
+-- what passes a test, and what is listed
+pub in-setsBy : (test : ℕ → Bool) (n A : ℕ) → (A ∈ setsBy test n) ↔ ((A < 2 ^ n) × T (test A))
+unfolding setsBy
+in-setsBy test n A = (λ m. let (h, t) = of-keep test (sets n) m in (in-sets n A .0 h, t), λ p. in-keep test (in-sets n A .1 (p .0)) (p .1))
 
-  pub in-groups : (z : ℤ) → (groups k n s lists (A, z)) ↔ ((A < 2 ^ n) × T (listed k n s A) × (z ≡ index k n s A))
+pub in-groupsBy : (test : ℕ → Bool) (index : ℕ → ℤ) (n : ℕ) (g : Group)
+    → (g ∈ groupsBy test index n) ↔ ((g .set < 2 ^ n) × T (test (g .set)) × (g .index ≡ index (g .set)))
+unfolding groupsBy
+in-groupsBy test index n g = (
+  λ m.
+      let (B, b, e) = of-map with-index (setsBy test n) m in
+      let a : g .set ≡ B = ap (λ (h : Group). h .set) e in
+      let (h, t) = in-setsBy test n (g .set) .0 (Memᴰ·cast a b) in
+      (h, t, ap (λ (h : Group). h .index) e ∙ ap index (sym a)),
+  λ (h, t, e). Memᴰ·cast (ap {B = Group} (λ y. record { set = g .set; index = y }) e) (in-map with-index (in-setsBy test n (g .set) .1 (h, t))),
+)
+  where
+    with-index : ℕ → Group
+    with-index A = record { set = A; index = index A }
+
+-- tests and indices that agree list the same
+pub groupsBy-same : (test test′ : ℕ → Bool) (index index′ : ℕ → ℤ) (n : ℕ) → ((A : ℕ) → test A ≡ test′ A) → ((A : ℕ) → T (test′ A) → index A ≡ index′ A)
+    → groupsBy test index n ≡ groupsBy test′ index′ n
+unfolding groupsBy setsBy
+groupsBy-same test test′ index index′ n same h =
+    ap (map {B = Group} (λ A. record { set = A; index = index A })) (keep-cong test test′ (sets n) (λ A _. same A))
+    ∙ map-cong _ _ (keep test′ (sets n)) (λ A m. ap {B = Group} (λ z. record { set = A; index = z }) (h A (of-keep test′ (sets n) m .1)))
+
+module _ (k : Kind) (n : ℕ) (s : Similarity) where
+  pub in-groupSets : (A : ℕ) → (A ∈ groupSets k n s) ↔ ((A < 2 ^ n) × T (listed k n s A))
+  unfolding groupSets
+  in-groupSets A = in-setsBy (listed k n s) n A
+
+  pub in-groups : (g : Group) → (g ∈ groups k n s) ↔ ((g .set < 2 ^ n) × T (listed k n s (g .set)) × (g .index ≡ index k n s (g .set)))
   unfolding groups
-  in-groups z = (fore, λ (h, t, e). Memᴰ·cast (ap (λ (y : ℤ). (A, y)) e) (in-map (λ B. (B, index k n s B)) (in-groupSets .1 (h, t))))
-    where
-      fore : groups k n s lists (A, z) → (A < 2 ^ n) × T (listed k n s A) × (z ≡ index k n s A)
-      fore m =
-          let (B, b, e) = of-map (λ B. (B, index k n s B)) (groupSets k n s) m in
-          let a : A ≡ B = ap (λ (p : ℕ × ℤ). p .0) e in
-          let (h, t) = in-groupSets .0 (Memᴰ·cast a b) in
-          (h, t, ap (λ (p : ℕ × ℤ). p .1) e ∙ ap (index k n s) (sym a))
+  in-groups g = in-groupsBy (listed k n s) (index k n s) n g
+
+  -- a group is one of the sets, and each of the sets has a line with its index
+  pub group-set : {g : Group} → g ∈ groups k n s → g .set ∈ groupSets k n s
+  group-set {g} m = let (h, t, _) = in-groups g .0 m in in-groupSets (g .set) .1 (h, t)
+
+  pub set-line : {A : ℕ} → A ∈ groupSets k n s → HasLine (groups k n s) A (index k n s A)
+  set-line {A} m =
+      let (h, t) = in-groupSets A .0 m in
+      let g : Group = record { set = A; index = index k n s A } in
+      (g, in-groups g .1 (h, t, refl), refl, refl)
+
+  pub line-of : (A : ℕ) (z : ℤ) → HasLine (groups k n s) A z ↔ ((A < 2 ^ n) × T (listed k n s A) × (z ≡ index k n s A))
+  line-of A z = (
+    λ (g, m, a, e). subst (λ (B : ℕ). (B < 2 ^ n) × T (listed k n s B) × (z ≡ index k n s B)) a
+        (let (h, t, i) = in-groups g .0 m in (h, t, sym e ∙ i)),
+    λ (h, t, e). let (g, m, a, i) = set-line (in-groupSets A .1 (h, t)) in (g, m, a, i ∙ sym e),
+  )
 
 -- the written order
 pub before-apart : (n : ℕ) {A B : ℕ} → Before n A B → A ≢ B
@@ -180,7 +239,7 @@ unfolding sets row
 sets-rise n = rows-rise n (2 ^ n) (suc n)
 
 pub groups-rise : (k : Kind) (n : ℕ) (s : Similarity) → Rising n (groupSets k n s)
-unfolding groupSets
+unfolding groupSets setsBy
 groups-rise k n s = keep-rise n (listed k n s) (sets n) (sets-rise n)
 
 pub rising-distinct : (n : ℕ) (l : List ℕ) → Rising n l → Distinct l
@@ -210,10 +269,10 @@ rising-equal n (A ∷ l) (B ∷ m) rl rm f = ap₂ _∷_ same (rising-equal n l 
         go (inr d) = d
 
 -- the sets and the indices of the groups
-pub groups-sets : (k : Kind) (n : ℕ) (s : Similarity) → map (λ (g : ℕ × ℤ). g .0) (groups k n s) ≡ groupSets k n s
-unfolding groups
+pub groups-sets : (k : Kind) (n : ℕ) (s : Similarity) → setsOf (groups k n s) ≡ groupSets k n s
+unfolding groups groupsBy groupSets
 groups-sets k n s = map-map _ _ (groupSets k n s) ∙ map-id (groupSets k n s)
 
-pub groups-indices : (k : Kind) (n : ℕ) (s : Similarity) → map (λ (g : ℕ × ℤ). g .1) (groups k n s) ≡ map (index k n s) (groupSets k n s)
-unfolding groups
+pub groups-indices : (k : Kind) (n : ℕ) (s : Similarity) → indicesOf (groups k n s) ≡ map (index k n s) (groupSets k n s)
+unfolding groups groupsBy groupSets
 groups-indices k n s = map-map _ _ (groupSets k n s)

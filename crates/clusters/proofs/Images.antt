@@ -7,17 +7,17 @@ use Prim.Native.Nat.{ℕ, _^_, _<_}
 use native.Mathlib.Omega.{arith}
 use lib.IntN.{ℤ}
 use lib.Dec.{T, T-not}
-use Rattle.lists.specs.Lists.{_∈_, _lists_}
+use Rattle.lists.specs.Lists.{_∈_}
 use Rattle.lists.proofs.Tests.{T-same}
 use Rattle.lists.proofs.Lists.{all-in}
 use Rattle.sets.specs.Sets.{has, _∋_, size, allEntries, Subset}
 use Rattle.sets.proofs.Sets.{has-yes, yes-has, mask-has, subset-antisymm}
 use Rattle.sets.proofs.Subsets.{all-entries-in, all-entries-lt}
 use Rattle.clusters.specs.PairList.{Similarity, Symmetric}
-use Rattle.clusters.specs.Groups.{Kind, strong, clean, splits, index, groupSets, groups, writtenSet}
+use Rattle.clusters.specs.Groups.{Kind, HasLine, strong, clean, splits, index, groupSets, groups, writtenSet}
 use Rattle.clusters.specs.Reordering.{Permutation, Reordered, image}
 use Rattle.clusters.specs.Nesting.{Hit, firstFrom, holdsBoth, smallestShared}
-use Rattle.clusters.proofs.Groups.{in-groupSets, in-groups}
+use Rattle.clusters.proofs.Groups.{group-set, set-line}
 use Rattle.clusters.proofs.Reindex.{Image}
 use Rattle.clusters.proofs.Reordering.{image-lt, size-image, inverse, groups-image}
 use Rattle.clusters.proofs.Hierarchies.{Hierarchy, groups-hierarchy}
@@ -138,15 +138,11 @@ written-group clean t n A = refl
 written-group splits t n A = absurd t
 
 module _ (k : Kind) (kind : T (ofGroups k)) (n : ℕ) (s : Similarity) (A : ℕ) where
-  to-line : A ∈ groupSets k n s → groups k n s lists (writtenSet k n A, index k n s A)
-  to-line m =
-      let (h, t) = in-groupSets k n s A .0 m in
-      Memᴰ·cast (ap {B = ℕ × ℤ} (λ (B : ℕ). (B, index k n s A)) (written-group k kind n A)) (in-groups k n s A (index k n s A) .1 (h, t, refl))
+  to-line : A ∈ groupSets k n s → HasLine (groups k n s) (writtenSet k n A) (index k n s A)
+  to-line m = let (g, h, a, i) = set-line k n s m in (g, h, a ∙ sym (written-group k kind n A), i)
 
-  of-line : (z : ℤ) → groups k n s lists (writtenSet k n A, z) → A ∈ groupSets k n s
-  of-line z m =
-      let (h, t, _) = in-groups k n s A z .0 (Memᴰ·cast (ap {B = ℕ × ℤ} (λ (B : ℕ). (B, z)) (sym (written-group k kind n A))) m) in
-      in-groupSets k n s A .1 (h, t)
+  of-line : (z : ℤ) → HasLine (groups k n s) (writtenSet k n A) z → A ∈ groupSets k n s
+  of-line z (g, m, a, _) = Memᴰ·cast (sym (a ∙ written-group k kind n A)) (group-set k n s m)
 
 module _ (k : Kind) (kind : T (ofGroups k)) (n : ℕ) (p : Permutation n) (old new : Similarity) (r : Reordered n p old new)
     (old-symm : Symmetric old) (new-symm : Symmetric new) where

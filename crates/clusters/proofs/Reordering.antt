@@ -21,12 +21,12 @@ use Rattle.pairs.specs.Pairs.{carried}
 use Rattle.clusters.specs.PairList.{Similarity, Symmetric, scoreLimit}
 use Rattle.clusters.specs.Indices.{strongValues, strongIndex, weight, weights, cleanIndex, separationValues, separationIndex}
 use Rattle.clusters.specs.Fillings.{low, high, worst, filledIndex}
-use Rattle.clusters.specs.Groups.{Kind, strong, clean, splits, index, proper, speaksOf, groups, writtenSet}
+use Rattle.clusters.specs.Groups.{Kind, HasLine, strong, clean, splits, index, proper, speaksOf, groups, writtenSet}
 use Rattle.clusters.specs.Reordering.{Permutation, Reordered, image}
 use Rattle.clusters.proofs.Weights.{weight-symm, weights-sum}
 use Rattle.clusters.proofs.Strong.{in-strongValues, of-strongValues, in-separationValues, of-separationValues}
 use Rattle.clusters.proofs.Farris.{separation-either-side}
-use Rattle.clusters.proofs.Groups.{leastSize, between, speaks-size, of-listed, is-listed, listed-index, in-groups}
+use Rattle.clusters.proofs.Groups.{leastSize, between, speaks-size, of-listed, is-listed, listed-index, line-of}
 use Rattle.clusters.proofs.Reindex.{Image, reindex-members, reindex-others, reindex-pairs}
 
 pub image-lt : (n : ℕ) (p : Permutation n) (A : ℕ) → image n p A < 2 ^ n
@@ -176,13 +176,13 @@ abbrev Line : Kind → ℕ → ℤ → ℕ → ℤ → Type 0
 Line k n z m i = (leastSize k ≤ m) × (m < n) × (pos 1 ≤ℤ i) × (z ≡ i)
 
 in-written : (k : Kind) (n : ℕ) (s : Similarity) → Symmetric s → (A : ℕ) → A < 2 ^ n → (z : ℤ)
-    → (groups k n s lists (writtenSet k n A, z)) ↔ Line k n z (size n A) (index k n s A)
+    → HasLine (groups k n s) (writtenSet k n A) z ↔ Line k n z (size n A) (index k n s A)
 in-written k n s symm A h z = (
   λ m.
-      let (_, t, q) = in-groups k n s B z .0 m in
+      let (_, t, q) = line-of k n s B z .0 m in
       let (l, u) = speaks-written k n A .0 (of-listed k n s B t .0) in
       (l, u, subst (λ i. pos 1 ≤ℤ i) e (listed-index k n s B t), q ∙ e),
-  λ (l, u, v, q). in-groups k n s B z .1
+  λ (l, u, v, q). line-of k n s B z .1
       (written-lt k n A h, is-listed k n s B (speaks-written k n A .1 (l, u)) (subst (λ i. pos 1 ≤ℤ i) (sym e) v), q ∙ sym e),
 )
   where
@@ -194,7 +194,7 @@ in-written k n s symm A h z = (
 
 pub groups-image : (k : Kind) (n : ℕ) (p : Permutation n) (old new : Similarity) → Reordered n p old new → Symmetric old → Symmetric new → (A : ℕ)
     → A < 2 ^ n → (z : ℤ)
-    → (groups k n old lists (writtenSet k n A, z)) ↔ (groups k n new lists (writtenSet k n (image n p A), z))
+    → HasLine (groups k n old) (writtenSet k n A) z ↔ HasLine (groups k n new) (writtenSet k n (image n p A)) z
 groups-image k n p old new r old-symm new-symm A h z =
     let before = in-written k n old old-symm A h z in
     let after = in-written k n new new-symm (image n p A) (image-lt n p A) z in

@@ -11,9 +11,9 @@ use native.Mathlib.Omega.{arith}
 use lib.Dec.{T}
 use lib.ListN.{length, getD, set}
 use lib.Seq.{getD-set-same, getD-set-other}
-use Rattle.lists.specs.Lists.{_∈_, _lists_}
+use Rattle.lists.specs.Lists.{_∈_}
 use Rattle.lists.proofs.Tests.{and-T, T-and}
-use Rattle.lists.proofs.Lists.{in-keep, of-keep, keep-cong, map-cong}
+use Rattle.lists.proofs.Lists.{in-map, of-map}
 use Rattle.integers.specs.Range.{Within}
 use Rattle.integers.proofs.Linear.{zarith}
 use Rattle.sets.specs.Sets.{_∋_}
@@ -27,16 +27,18 @@ use Rattle.clusters.specs.Touched.{untouched}
 use Rattle.clusters.specs.Linkage.{single, link, Tree, blocks}
 use Rattle.clusters.specs.Groups.{
   Kind,
+  Group,
+  HasLine,
+  setsOf,
   strong,
   clean,
   splits,
   index,
   speaksOf,
+  positive,
   listed,
-  sets,
   groupSets,
   groups,
-  plainSets,
   plainGroups,
   treeLinkage,
   lentScores,
@@ -47,9 +49,10 @@ use Rattle.clusters.proofs.Groups.{
   listed-index,
   listed-some,
   listed-proper,
-  in-sets,
   in-groupSets,
-  in-groups,
+  in-groupsBy,
+  groupsBy-same,
+  line-of,
 }
 use Rattle.clusters.proofs.PairList.{place-lt}
 use Rattle.clusters.proofs.Scored.{AllAllowed, within-allowed}
@@ -60,42 +63,43 @@ use Rattle.clusters.proofs.Links.{link-symm}
 use Rattle.clusters.proofs.Single.{strong-repels}
 use Rattle.clusters.proofs.Theorems.{group-in-tree}
 
-pub in-plainSets : (n : ℕ) (s : Similarity) (A : ℕ) → (A ∈ plainSets n s) ↔ ((A < 2 ^ n) × T (speaksOf strong n A) × (pos 1 ≤ℤ strongIndex n s A))
-unfolding plainSets
-in-plainSets n s A = (
+pub in-plainGroups : (n : ℕ) (s : Similarity) (A : ℕ) → (A ∈ setsOf (plainGroups n s)) ↔ ((A < 2 ^ n) × T (speaksOf strong n A) × (pos 1 ≤ℤ strongIndex n s A))
+unfolding plainGroups positive
+in-plainGroups n s A = (
   λ m.
-      let (h, t) = of-keep (λ A. speaksOf strong n A && leZ (pos 1) (strongIndex n s A)) (sets n) m in
-      let (p, i) = and-T (speaksOf strong n A) (leZ (pos 1) (strongIndex n s A)) t in
-      (in-sets n A .0 h, p, leZ-yes i),
-  λ (h, p, i). in-keep (λ A. speaksOf strong n A && leZ (pos 1) (strongIndex n s A)) (in-sets n A .1 h)
-      (T-and (speaksOf strong n A) (leZ (pos 1) (strongIndex n s A)) p (i .le)),
+      let (g, k, e) = of-map (λ (g : Group). g .set) (plainGroups n s) m in
+      let (h, t, _) = in-groupsBy (positive strong n (strongIndex n s)) (strongIndex n s) n g .0 k in
+      let (p, i) = and-T (speaksOf strong n (g .set)) (leZ (pos 1) (strongIndex n s (g .set))) t in
+      subst (λ (A : ℕ). (A < 2 ^ n) × T (speaksOf strong n A) × (pos 1 ≤ℤ strongIndex n s A)) (sym e) (h, p, leZ-yes i),
+  λ (h, p, i). in-map (λ (g : Group). g .set) (in-groupsBy (positive strong n (strongIndex n s)) (strongIndex n s) n (record { set = A; index = strongIndex n s A }) .1
+      (h, T-and (speaksOf strong n A) (leZ (pos 1) (strongIndex n s A)) p (i .le), refl)),
 )
 
 -- "a set is listed exactly if every filling would list it"
 pub group-every-filling : (n : ℕ) (s : Similarity) → Symmetric s → (A : ℕ)
-    → (A ∈ groupSets strong n s) ↔ ((f : Similarity) → Fills scoreLimit n s f → A ∈ plainSets n f)
+    → (A ∈ groupSets strong n s) ↔ ((f : Similarity) → Fills scoreLimit n s f → A ∈ setsOf (plainGroups n f))
 unfolding index
 group-every-filling n s symm A = (
   λ m f fills.
       let (h, t) = in-groupSets strong n s A .0 m in
-      in-plainSets n f A .1 (h, of-listed strong n s A t .0, filled-positive scoreLimit n s symm A .0 (listed-index strong n s A t) f fills),
+      in-plainGroups n f A .1 (h, of-listed strong n s A t .0, filled-positive scoreLimit n s symm A .0 (listed-index strong n s A t) f fills),
   λ g.
-      let (h, p, _) = in-plainSets n (lowest scoreLimit s) A .0 (g (lowest scoreLimit s) (lowest-fills scoreLimit n s symm)) in
+      let (h, p, _) = in-plainGroups n (lowest scoreLimit s) A .0 (g (lowest scoreLimit s) (lowest-fills scoreLimit n s symm)) in
       in-groupSets strong n s A .1
-      (h, is-listed strong n s A p (filled-positive scoreLimit n s symm A .1 (λ f fills. in-plainSets n f A .0 (g f fills) .2))),
+      (h, is-listed strong n s A p (filled-positive scoreLimit n s symm A .1 (λ f fills. in-plainGroups n f A .0 (g f fills) .2))),
 )
 
 -- "Scoring one more pair never removes a listed group", nor does scoring several; and its index does not fall
 pub scoring-keeps : (n : ℕ) (s later : Similarity) → Symmetric later → ScoredMore scoreLimit n s later → (A : ℕ) (z : ℤ)
-    → groups strong n s lists (A, z) → (y : ℤ) × (groups strong n later lists (A, y)) × (z ≤ℤ y)
+    → HasLine (groups strong n s) A z → (y : ℤ) × HasLine (groups strong n later) A y × (z ≤ℤ y)
 unfolding index
 scoring-keeps n s later symm more A z m =
-    let (h, t, e) = in-groups strong n s A z .0 m in
+    let (h, t, e) = line-of strong n s A z .0 m in
     let i = listed-index strong n s A t in
     let k = scoring-raises scoreLimit n s later symm more A in
     let y = index strong n later A in (
       y,
-      in-groups strong n later A y .1 (h, is-listed strong n later A (of-listed strong n s A t .0) (omega zarith), refl),
+      line-of strong n later A y .1 (h, is-listed strong n later A (of-listed strong n s A t .0) (omega zarith), refl),
       omega zarith,
     )
 
@@ -124,13 +128,11 @@ scoring-one n l a b z long ha hb e h = record { pairs = λ i j _ _. at (place i 
 
 -- with every pair scored the groups are those of document 01
 pub scored-groups : (n : ℕ) (s : Similarity) → AllScored n s → groups strong n s ≡ plainGroups n s
-unfolding groups groupSets listed plainGroups plainSets index
-scored-groups n s scored =
-    ap (map (λ A. (A, filledIndex scoreLimit n s A)))
-    (keep-cong (λ A. speaksOf strong n A && leZ (pos 1) (filledIndex scoreLimit n s A)) (λ A. speaksOf strong n A && leZ (pos 1) (strongIndex n s A))
-    (sets n) (λ A _. ap (λ z. speaksOf strong n A && leZ (pos 1) z) (scored-index scoreLimit n s scored A)))
-    ∙ map-cong (λ A. (A, filledIndex scoreLimit n s A)) (λ A. (A, strongIndex n s A)) (plainSets n s)
-    (λ A _. ap (λ (z : ℤ). (A, z)) (scored-index scoreLimit n s scored A))
+unfolding groups listed plainGroups positive index
+scored-groups n s scored = groupsBy-same _ _ _ _ n (λ A. ap (λ z. speaksOf strong n A && leZ (pos 1) z) (same A)) (λ A _. same A)
+  where
+    same : (A : ℕ) → filledIndex scoreLimit n s A ≡ strongIndex n s A
+    same = scored-index scoreLimit n s scored
 
 -- of scores that are all allowed
 module _ (n : ℕ) (s : Similarity) (allowed : AllAllowed scoreLimit n s) (A : ℕ) where

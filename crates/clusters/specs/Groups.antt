@@ -20,6 +20,22 @@ use Rattle.clusters.specs.Linkage.{Linkage, single, average}
 pub data Kind : Type 0 where
   strong clean splits : Kind
 
+-- a group, or a split by the side that is written, with its index
+pub record Group : Type 0 where
+  pub set : ℕ
+  pub index : ℤ
+
+-- the sets and the indices of what was found
+abbrev pub setsOf : List Group → List ℕ
+setsOf found = map (λ g. g .set) found
+
+abbrev pub indicesOf : List Group → List ℤ
+indicesOf found = map (λ g. g .index) found
+
+-- "a set A has a line", with the index z
+abbrev pub HasLine : List Group → (A : ℕ) (z : ℤ) → Type 0
+HasLine found A z = (g : Group) × (g ∈ found) × (g .set ≡ A) × (g .index ≡ z)
+
 -- the kind of each of these numbers; check 1 refuses any other
 unfoldable pub kindOf : ℤ → Kind
 kindOf k = cond (eqZ k (pos 1)) strong (cond (eqZ k (pos 2)) clean splits)
@@ -41,27 +57,35 @@ speaksOf strong n A = leb 1 (size n A) && proper n A
 speaksOf clean n A = leb 2 (size n A) && proper n A
 speaksOf splits n A = leb 1 (size n A) && proper n A && not (has A 0)
 
--- "A group or split is listed if its index is 1 or more", in the unit of the list: half a point (document 02, 2.6)
+-- "its index is 1 or more", in the unit of the list: half a point (document 02, 2.6)
+unfoldable pub positive : Kind → ℕ → (index : ℕ → ℤ) → ℕ → Bool
+positive kind n index A = speaksOf kind n A && leZ (pos 1) (index A)
+
+-- "A group or split is listed if its index is 1 or more"
 unfoldable pub listed : Kind → ℕ → Similarity → ℕ → Bool
-listed kind n s A = speaksOf kind n A && leZ (pos 1) (index kind n s A)
+listed kind n s = positive kind n (index kind n s)
 
 -- all sets of the n entries, in the order that "Lines rise by size, then by set"
 unfoldable pub sets : ℕ → List ℕ
 sets n = each (below (suc n)) λ k. keep (λ A. eqb (size n A) k) (below (2 ^ n))
 
--- the groups or splits of a kind, and each with its index
+-- those that pass a test, and each with its index
+unfoldable pub setsBy : (test : ℕ → Bool) → ℕ → List ℕ
+setsBy test n = keep test (sets n)
+
+unfoldable pub groupsBy : (test : ℕ → Bool) (index : ℕ → ℤ) → ℕ → List Group
+groupsBy test index n = map (λ A. record { set = A; index = index A }) (setsBy test n)
+
+-- the groups or splits of a kind
 unfoldable pub groupSets : Kind → ℕ → Similarity → List ℕ
-groupSets kind n s = keep (listed kind n s) (sets n)
+groupSets kind n s = setsBy (listed kind n s) n
 
-unfoldable pub groups : Kind → ℕ → Similarity → List (ℕ × ℤ)
-groups kind n s = map (λ A. (A, index kind n s A)) (groupSets kind n s)
+unfoldable pub groups : Kind → ℕ → Similarity → List Group
+groups kind n s = groupsBy (listed kind n s) (index kind n s) n
 
--- the strong groups as document 01 has them, each with its strong index: of scores of which none is unscored
-unfoldable pub plainSets : ℕ → Similarity → List ℕ
-plainSets n s = keep (λ A. speaksOf strong n A && leZ (pos 1) (strongIndex n s A)) (sets n)
-
-unfoldable pub plainGroups : ℕ → Similarity → List (ℕ × ℤ)
-plainGroups n s = map (λ A. (A, strongIndex n s A)) (plainSets n s)
+-- the strong groups as document 01 has them: of scores of which none is unscored
+unfoldable pub plainGroups : ℕ → Similarity → List Group
+plainGroups n s = groupsBy (positive strong n (strongIndex n s)) (strongIndex n s) n
 
 -- the set by which the group A, or the split of A and the entries outside, is written
 unfoldable pub writtenSet : Kind → ℕ → ℕ → ℕ
