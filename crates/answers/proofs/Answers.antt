@@ -12,7 +12,7 @@ use Rattle.answers.specs.declared.Answer.{Answer}
 use Rattle.answers.specs.declared.Answer.the-variants.{Count, Refused}
 use Rattle.answers.specs.Answers.{numberOf, countOf, answer, slots, filled}
 use Rattle.answers.specs.Shared.{sharedNumber, sharedSet, sharedLine, sharedAnswer}
-use Rattle.answers.specs.Weighed.{weighedNumber, weighedWeight, weighedAnswer}
+use Rattle.answers.specs.Refined.{refinedNumber, answeredWeight, refinedAnswer}
 
 pub number-answer : (k c : ℕ) → numberOf (answer k c) ≡ k
 unfolding numberOf answer
@@ -82,16 +82,16 @@ module _ (A line : ℕ) where
 
 -- the same of a weight
 module _ (w : ℤ) where
-  pub weighed-number : (k : ℕ) → weighedNumber (weighedAnswer k w) ≡ k
-  unfolding weighedNumber weighedAnswer
-  weighed-number zero = refl
-  weighed-number (suc k) = refl
+  pub refined-number : (k : ℕ) → refinedNumber (refinedAnswer k w) ≡ k
+  unfolding refinedNumber refinedAnswer
+  refined-number zero = refl
+  refined-number (suc k) = refl
 
-  pub weighed-nothing : (k : ℕ) → k ≢ 0 → weighedWeight (weighedAnswer k w) ≡ pos 0
-  unfolding weighedWeight weighedAnswer
-  weighed-nothing zero f = absurd (f refl)
-  weighed-nothing (suc k) f = refl
+  pub refined-nothing : (k : ℕ) → k ≢ 0 → answeredWeight (refinedAnswer k w) ≡ pos 0
+  unfolding answeredWeight refinedAnswer
+  refined-nothing zero f = absurd (f refl)
+  refined-nothing (suc k) f = refl
 
-  pub weighed-found : weighedWeight (weighedAnswer 0 w) ≡ w
-  unfolding weighedWeight weighedAnswer
-  weighed-found = refl
+  pub refined-found : answeredWeight (refinedAnswer 0 w) ≡ w
+  unfolding answeredWeight refinedAnswer
+  refined-found = refl

@@ -1,4 +1,4 @@
 pub mod Answers
 pub mod Shared
-pub mod Weighed
+pub mod Refined
 pub mod Values

@@ -14,7 +14,7 @@ pub enum Shared {
 }
 
 // The refined weight of a split, or the number of the refusal.
-pub enum Weighed {
+pub enum Refined {
     Weight(i64),
     Refused(usize),
 }

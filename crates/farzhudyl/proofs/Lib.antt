@@ -3,4 +3,4 @@ pub mod Found
 pub mod Sheets
 pub mod Small
 pub mod InC
-pub mod Weighed
+pub mod Refined

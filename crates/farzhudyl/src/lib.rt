@@ -10,12 +10,12 @@ ghost use Rattle.answers.specs.Answers.{numberOf, countOf};
 ghost use Rattle.interface.specs.Refusals.{wrongKind};
 ghost use Rattle.interface.specs.Calls.{SheetCall, cNumber, InC, CCall, NumbersCall, LinkageCall};
 ghost use Rattle.interface.specs.Calls.{AnchoredCall, BackCall, ReaderCall, NameInC, ScoreInC, SharedInC, PoolCall};
-ghost use Rattle.interface.specs.Calls.{WeightInC};
+ghost use Rattle.interface.specs.Calls.{RefinedInC};
 ghost use Rattle.accept.specs.Names.{NamesRead};
 ghost use Rattle.farzhudyl.specs.Pairs.{PairsListed};
 use answers::Answer;
+use answers::Refined;
 use answers::Shared;
-use answers::Weighed;
 
 // The listing of a pair list, or the first of checks 11, 16, 12 and 14 that refuses.
 fn list_pairs(kind: i32, n: usize, pairs: &[i32], out: &mut [u8]) -> Answer
@@ -297,15 +297,15 @@ pub extern "C" fn farzhudyl_refined_weight(
     side: u32,
     weight: &mut i64,
 ) -> i32
-    ensures { λ r. ⌜ WeightInC n (now (pairs .entry)) side r (now (weight .exit)) ⌝ }
+    ensures { λ r. ⌜ RefinedInC n (now (pairs .entry)) side r (now (weight .exit)) ⌝ }
 {
     let answer = refined::refined_weight(n, pairs, side);
     match answer {
-        Weighed::Weight(found) => {
+        Refined::Weight(found) => {
             *weight = found;
             0
         }
-        Weighed::Refused(number) => {
+        Refined::Refused(number) => {
             *weight = 0;
             as_i32(number)
         }

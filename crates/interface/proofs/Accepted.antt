@@ -4,7 +4,7 @@ use mathlib.Core.Bool.{Bool, true, false, not, _&&_}
 use mathlib.Core.Logic.{_≢_}
 use mathlib.Core.List.{List}
 use Prim.Native.Nat.{ℕ, _<_}
-use lib.Dec.{T, lit<, not-T}
+use lib.Dec.{T, not-T}
 use lib.IntN.{ℤ, pos}
 use lib.ListN.{length}
 use Rattle.lists.specs.Lists.{below, all}
@@ -22,14 +22,20 @@ use Rattle.clusters.proofs.Scored.{AllAllowed, list-allowed, list-scored}
 use Rattle.interface.specs.Sheet.{entries, value, mirrored, pairs}
 use Rattle.interface.specs.Refusals.{
   wrongUnscored,
+  readerChecks,
+  sheetChecks,
   sheetCallChecks,
   sheetRefusal,
   numbersChecks,
   numbersRefusal,
   linkageChecks,
   linkageRefusal,
+  sharedRefusal,
+  sharedChecks,
+  wrongGroupKind,
+  wrongEntries,
 }
-use Rattle.interface.proofs.Refusals.{passes, right-length}
+use Rattle.interface.proofs.Refusals.{under, passes, right-length, right-entries}
 
 pub not-not : (b : Bool) → T (not (not b)) → T b
 not-not true t = tt
@@ -69,26 +75,34 @@ module _ {kind : ℤ} {n : ℕ} {l : List ℤ} (p : Passed kind n l) where
   passed-scored d = list-scored n l (p .long) (unscored-left kind l d (p .sixteen))
 
 pub sheet-passed : (kind : ℤ) (s : List ℕ) (buffer : ℕ) → sheetRefusal kind s buffer ≡ 0 → Passed kind (entries s) (pairs s)
-unfolding sheetRefusal sheetCallChecks all pairs
+unfolding sheetRefusal sheetCallChecks sheetChecks readerChecks under all pairs
 sheet-passed kind s buffer e = record {
   long = length-pairList (entries s) (value s);
-  range = not-not (scoresInRange (pairs s)) (passes (sheetCallChecks kind s buffer) tt e 9 (lit< tt));
-  sixteen = passes (sheetCallChecks kind s buffer) tt e 10 (lit< tt);
+  range = not-not (scoresInRange (pairs s)) (passes 11 (sheetCallChecks kind s buffer) tt e);
+  sixteen = passes 16 (sheetCallChecks kind s buffer) tt e;
 }
 
 pub numbers-passed : (kind : ℤ) (n : ℕ) (l : List ℤ) (sets indices : ℕ) → numbersRefusal kind n l sets indices ≡ 0 → Passed kind n l
-unfolding numbersRefusal numbersChecks all
+unfolding numbersRefusal numbersChecks under all
 numbers-passed kind n l sets indices e =
     let checks = numbersChecks kind n l sets indices in
     record {
-      long = right-length n l (T-false {b = not (hasLength n l)} (passes checks tt e 2 (lit< tt)));
-      range = not-not (scoresInRange l) (passes checks tt e 3 (lit< tt));
-      sixteen = passes checks tt e 4 (lit< tt);
+      long = right-length n l (T-false {b = not (hasLength n l)} (passes 10 checks tt e));
+      range = not-not (scoresInRange l) (passes 11 checks tt e);
+      sixteen = passes 16 checks tt e;
     }
 
 -- a linkage call takes scores only
 pub linkage-scored : (n : ℕ) (l : List ℤ) (slots : ℕ) → linkageRefusal n l slots ≡ 0 → AllScored n (score l)
-unfolding linkageRefusal linkageChecks all
+unfolding linkageRefusal linkageChecks under all
 linkage-scored n l slots e =
     let checks = linkageChecks n l slots in
-    list-scored n l (right-length n l (T-false {b = not (hasLength n l)} (passes checks tt e 1 (lit< tt)))) (passes checks tt e 3 (lit< tt))
+    list-scored n l (right-length n l (T-false {b = not (hasLength n l)} (passes 10 checks tt e))) (passes 16 checks tt e)
+
+-- what is left beside the checks of the pair list by those of the smallest group that two entries share
+pub shared-left : (kind : ℤ) (n : ℕ) (l : List ℤ) (i j : ℕ) → sharedRefusal kind n l i j ≡ 0 → (wrongGroupKind kind ≡ false) × (i < n) × (j < n)
+unfolding sharedRefusal sharedChecks under all
+shared-left kind n l i j e =
+    let checks = sharedChecks kind n l i j in
+    let (hi, hj) = right-entries n i j (T-false {b = wrongEntries n i j} (passes 15 checks tt e)) in
+    (T-false {b = wrongGroupKind kind} (passes 1 checks tt e), hi, hj)

@@ -4,10 +4,11 @@ use mathlib.Core.Bool.{true, false, not, _||_}
 use mathlib.Core.List.{List}
 use Prim.Native.Nat.{ℕ, _≤_, _<_}
 use borrow.Author.Tests.{not-false, eq-eqb, lt-leb, le-ltb, leb-false, ltb-false}
-use lib.Dec.{T, leb, ltb, lit<}
+use lib.Dec.{T, leb, ltb}
 use lib.IntN.{ℤ, pos}
 use lib.ListN.{length}
-use Rattle.lists.proofs.Tests.{T-true, true-T, false-T, or-none}
+use Rattle.lists.proofs.Tests.{T-true, T-false, true-T, or-none}
+use Rattle.lists.specs.Lists.{all}
 use Rattle.integers.specs.Integers.{eqZ}
 use Rattle.clusters.specs.PairList.{rowStart, score, hasLength, inRange, scoresInRange, hasUnscored, areDistances}
 use Rattle.clusters.specs.Farris.{farris, anchoredScores, distancesBack, isAnchored}
@@ -26,7 +27,7 @@ use Rattle.interface.specs.Refusals.{
   backChecks,
   backRefusal,
 }
-use Rattle.interface.proofs.Refusals.{no-first, right-length}
+use Rattle.interface.proofs.Refusals.{under, passes, right-length}
 
 -- "judged as kind 3"
 pub judged : (n : ℕ) (l : List ℤ) → wrongDistances (pos 3) n l ≡ not (areDistances n l)
@@ -50,19 +51,20 @@ pub record Anchorable (n x : ℕ) (l : List ℤ) (slots : ℕ) : Type 0 where
   pub room : rowStart n ≤ slots
 
 pub anchored-passes : (n x : ℕ) (l : List ℤ) (slots : ℕ) → anchoredRefusal n x l slots ≡ 0 → Anchorable n x l slots
-unfolding anchoredRefusal anchoredChecks
+unfolding anchoredRefusal anchoredChecks under all
 anchored-passes n x l slots e =
-    let (c₆, e₆) = no-first 6 (wrongCount n) _ (lit< tt) e in
-    let (c₁₀, e₁₀) = no-first 10 (not (hasLength n l)) _ (lit< tt) e₆ in
-    let (c₁₁, e₁₁) = no-first 11 (not (scoresInRange l)) _ (lit< tt) e₁₀ in
-    let (c₁₆, e₁₆) = no-first 16 (hasUnscored l) _ (lit< tt) e₁₁ in
-    let (c₁₂, e₁₂) = no-first 12 (wrongDistances (pos 3) n l) _ (lit< tt) e₁₆ in
-    let (c₁₅, _) = no-first 15 (wrongAnchor n x || shortSlice slots (rowStart n)) _ (lit< tt) e₁₂ in
+    let checks = anchoredChecks n x l slots in
+    let c₆ = T-false {b = wrongCount n} (passes 6 checks tt e) in
+    let c₁₀ = T-false {b = not (hasLength n l)} (passes 10 checks tt e) in
+    let c₁₁ = T-false {b = not (scoresInRange l)} (passes 11 checks tt e) in
+    let c₁₆ = passes 16 checks tt e in
+    let c₁₂ = T-false {b = wrongDistances (pos 3) n l} (passes 12 checks tt e) in
+    let c₁₅ = T-false {b = wrongAnchor n x || shortSlice slots (rowStart n)} (passes 15 checks tt e) in
     let (hx, hr) = in-place n x slots c₁₅ in
     record {
       count = c₆;
       long = right-length n l c₁₀;
-      range = scored-in-range l (true-T (not-false (scoresInRange l) c₁₁)) (false-T c₁₆);
+      range = scored-in-range l (true-T (not-false (scoresInRange l) c₁₁)) c₁₆;
       distances = true-T (not-false (areDistances n l) (sym (judged n l) ∙ c₁₂));
       anchor = hx;
       room = hr;

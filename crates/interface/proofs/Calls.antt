@@ -16,7 +16,7 @@ use Rattle.clusters.specs.PairList.{hasUnscored, areDistances}
 use Rattle.clusters.specs.Indices.{strongValues, strongIndex}
 use Rattle.clusters.specs.Fillings.{low, high, worst, filledIndex}
 use Rattle.clusters.specs.Farris.{unfarris, distancesBack, isAnchored}
-use Rattle.clusters.specs.Groups.{kindOf, index, proper, speaksOf, listed, sets, groupSets, groups}
+use Rattle.clusters.specs.Groups.{kindOf, index, proper, speaksOf, listed, sets, groupSets, groups, positive, setsBy, groupsBy}
 use Rattle.clusters.specs.Bench.{own}
 use Rattle.answers.specs.declared.Answer.{Answer}
 use Rattle.answers.specs.declared.Answer.the-variants.{Count, Refused}
@@ -138,7 +138,7 @@ pub record Examples : Type 0 where
 
 pub examples : Examples
 unfolding own below each keep all minZ maxZ eqZ least half even has members others size rowStart place score pairList onePoint pointLimit scoreLimit hasLength inRange
-    areDistances strongValues strongIndex unfarris distancesBack isAnchored kindOf index proper speaksOf listed sets groupSets groups groupsFound firstOf
+    areDistances strongValues strongIndex unfarris distancesBack isAnchored kindOf index proper speaksOf listed positive sets setsBy groupsBy groups groupsFound firstOf
     mostEntries wrongKind wrongCount wrongDistances fewSlots wrongAnchor wrongEntries shortSlice notAnchored numbersChecks numbersRefusal linkageChecks
     linkageRefusal anchoredChecks anchoredRefusal backChecks backRefusal scoreChecks scoreRefusal wrongGroupKind sharedChecks sharedRefusal
     setsFound indicesFound isPair scoreAmong pairAmong pairOf isInRange isAllowedPair scoresInRange hasUnscored filledIndex worst xor low high mark carried isScored

@@ -16,11 +16,11 @@ use Rattle.pairs.specs.Pairs.{mark, numberFor, listNumber, carried, isScored}
 use Rattle.clusters.specs.PairList.{rowStart, place, score, pairList, onePoint, pointLimit, scoreLimit, isInRange, isAllowedPair, scoresInRange, hasUnscored, areDistances}
 use Rattle.clusters.specs.Indices.{strongValues, strongIndex}
 use Rattle.clusters.specs.Fillings.{low, high, worst, filledIndex}
-use Rattle.clusters.specs.Groups.{kindOf, index, proper, speaksOf, listed, sets, groupSets, groups}
+use Rattle.clusters.specs.Groups.{kindOf, index, proper, speaksOf, positive, listed, sets, setsBy, groupsBy, groups}
 use Rattle.answers.specs.declared.Answer.{Answer}
 use Rattle.answers.specs.declared.Answer.the-variants.{Count}
 use Rattle.answers.specs.Answers.{answer, slots}
-use Rattle.answers.proofs.Answers.{slots-written}
+use Rattle.answers.proofs.Answers.{its-number, slots-refused, slots-written}
 use Rattle.interface.specs.Sheet.{
   isUpper,
   isDigit,
@@ -101,9 +101,10 @@ use Rattle.interface.specs.Refusals.{
   sheetRefusal,
   readerChecks,
   readerRefusal,
+  sheetChecks,
 }
 use Rattle.interface.specs.Calls.{cNumber, CCall, hasName, ReaderCall, nameOf, startOf, nameStart, NameInC}
-use Rattle.interface.proofs.Demands.{answered, text-number, demand-1}
+use Rattle.interface.proofs.Outcomes.{refused-number}
 
 -- Program strong, standard input, and whole output
 unfoldable pub sheet : List ℕ
@@ -279,12 +280,12 @@ record Computed : Type 0 where
 
 computed : Computed
 unfolding sheet text six signed halves halvesText halfWords illFormed parted refused many isUpper isDigit isName isNumeral wholePart fraction halfText hasHalf isWholeOrHalf isPoints isValue digitValue numberFrom halfPoints valueOf longer cut lines names entries
-    words value mirrored pairs sameBytes isAmong hasEqual kindOf index proper speaksOf listed sets groupSets groups strongValues strongIndex score place
+    words value mirrored pairs sameBytes isAmong hasEqual kindOf index proper speaksOf listed sets setsBy groupsBy positive groups strongValues strongIndex score place
     rowStart pairList has members others size minZ maxZ eqZ least below each keep all lineOf digit digits hexadecimal decimalFrom decimal pointsText signedPoints
     firstText lineText firstLine listing groupsFound pairsListing sheetListing isHexDigit isSet isDecimal isIndex isLine lineRead isFirst lineWords isListing
     listingRead isInRange isAllowedPair scoresInRange hasUnscored mark numberFor listNumber carried isScored low high worst xor filledIndex
     isLoneMinus isCell pairSaid wrongUnscored unscored unscoredText onePoint pointLimit scoreLimit areDistances firstOf mostBytes mostEntries wrongKind wrongLength isAllowed wrongByte wrongNames equalNames wrongCount
-    wrongLines isRow wrongValues wrongDistances sheetCallChecks sheetRefusal readerChecks readerRefusal hasName nameOf startOf nameStart
+    wrongLines isRow wrongValues wrongDistances sheetCallChecks sheetChecks sheetRefusal readerChecks readerRefusal hasName nameOf startOf nameStart
 computed = record {
   written = refl;
   passes = refl;
@@ -317,7 +318,7 @@ unfolding cNumber answer
 listed-as s t k written passes size lent after r long c =
     let none : sheetRefusal (pos 1) s (length lent) ≡ 0 = ap (sheetRefusal (pos 1) s) long ∙ passes in
     let all : length lent ≤ length t = omega (arith, size) in (
-      answered c (sheetRefusal (pos 1) s (length lent)) (length (sheetListing (pos 1) s)) (c .outcome .answered)
+      c .number ∙ ap cNumber (c .outcome .answered)
           ∙ ap₂ (λ (k : ℕ) (t : List ℕ). cNumber (answer k (length t))) none written ∙ ap pos size,
       c .outcome .written ∙ ap₂ (λ (k : ℕ) (t : List ℕ). slots k t lent) none written ∙ slots-written t lent
           ∙ ap (λ (l : List ℕ). t ++ l) (drop-of-length-le lent all) ∙ append-nil t,
@@ -343,16 +344,15 @@ example-read = computed .read
 -- the C call on each sheet that is refused answers minus its number, and writes nothing; every number of the C call is there
 pub refused-with : (c : Case) → c ∈ refused → (lent after : List ℕ) (r : ℤ) → length lent ≡ c .buffer → CCall (c .kind) (c .sheet) lent r after
     → (r ≡ negℤ (pos (c .number))) × (after ≡ lent)
-unfolding sheetRefusal
 refused-with c m lent after r long call =
     let given = of-map-cong (λ c. sheetRefusal (c .kind) (c .sheet) (c .buffer)) (λ c. c .number) refused (computed .given) m in
     let more : 0 < c .number = ltb→lt 0 (c .number) (all-in (λ (c : Case). ltb 0 (c .number)) refused (computed .positive) m) in
-    let checks = sheetCallChecks (c .kind) (c .sheet) (length lent) in
-    let first : firstOf checks ≡ c .number = ap (sheetRefusal (c .kind) (c .sheet)) long ∙ given in
-    let demand = demand-1 (c .kind) (c .sheet) lent r after call in
-    let text = sheetListing (c .kind) (c .sheet) in
-    let minus = text-number call checks text lent (call .outcome .answered) (call .outcome .written) (c .number) more .1 first in
-    (minus, demand .refused (c .number) more minus)
+    let k = sheetRefusal (c .kind) (c .sheet) (length lent) in
+    let first : k ≡ c .number = ap (sheetRefusal (c .kind) (c .sheet)) long ∙ given in
+    let text = sheetListing (c .kind) (c .sheet) in (
+      call .number ∙ refused-number (call .given) (c .number) more .1 (its-number k (length text) (call .outcome .answered) ∙ first),
+      call .outcome .written ∙ slots-refused k text lent (omega arith),
+    )
 
 pub every-number : map (λ c. c .number) refused ≡ 1 ∷ 2 ∷ 3 ∷ 4 ∷ 4 ∷ 5 ∷ 6 ∷ 7 ∷ 8 ∷ 8 ∷ 8 ∷ 8 ∷ 9 ∷ 9 ∷ 11 ∷ 11 ∷ 11 ∷ 16 ∷ 16 ∷ 12 ∷ 14 ∷ []
 every-number = computed .numbers

@@ -1,15 +1,16 @@
--- Two sheets that pass 2 to 9 and 11, with the same names: the scores of their pool, and when a sum is out of range.
+-- Two sheets that pass 2 to 9 and 11, the table of their pool, and how long it can be.
 use mathlib.Core.Path.{_≡_, refl, sym, ap, ap₂, _∙_, subst}
-use mathlib.Core.Bool.{false, not}
-use mathlib.Core.List.{List}
-use Prim.Native.Nat.{ℕ, _<_}
+use mathlib.Core.Logic.{_≢_}
+use mathlib.Core.Bool.{false, not, Bool, cond, _&&_, true}
+use mathlib.Core.List.{List, _++_, _∷_, []}
+use Prim.Native.Nat.{ℕ, _<_, _≤_}
 use native.Mathlib.Omega.{arith}
-use borrow.Author.Tests.{not-false}
-use lib.Dec.{T, T-not, not-T, eqb, lit<}
+use borrow.Author.Tests.{not-false, ltb-true}
+use lib.Dec.{T, T-not, not-T, eqb, lit<, ltb}
 use lib.IntN.{_+ℤ_}
 use lib.ListN.{length}
 use Rattle.lists.specs.Lists.{all, Distinct}
-use Rattle.lists.proofs.Tests.{T-false, true-T, or-none}
+use Rattle.lists.proofs.Tests.{T-false, true-T, or-none, T-true, and-T}
 use Rattle.lists.proofs.Lists.{some-fails}
 use Rattle.pairs.specs.declared.Carried.{Carried}
 use Rattle.pairs.specs.declared.Carried.the-variants.{Scored, Unscored}
@@ -20,14 +21,12 @@ use Rattle.clusters.proofs.PairList.{length-pairList, of-pairList, score-symm, 
 use Rattle.clusters.proofs.Scored.{AllAllowed, allowed-within, within-range, list-allowed}
 use Rattle.clusters.proofs.Pooled.{added-carried, pooled-symmetric}
 use Rattle.interface.specs.Sheet.{isName, lines, names, entries, value, pairs, mirrored}
-use Rattle.interface.specs.Pool.{placeOn, poolScores, poolPairs}
-use Rattle.interface.specs.Refusals.{none, wrongNames, equalNames, wrongCount, wrongValues, readerChecks, sheetChecks}
-use Rattle.interface.specs.Sentences.{SameName, SameNames, SumBeyond}
-use Rattle.interface.proofs.Refusals.{first-none, passes}
+use Rattle.interface.specs.Pool.{placeOn, poolScores, poolPairs, poolText}
+use Rattle.interface.specs.Refusals.{none, wrongNames, equalNames, wrongCount, wrongValues, readerChecks, sheetChecks, Check, poolRefusal, namesDiffer, check14, check17, poolChecks, firstOf, check18}
+use Rattle.interface.proofs.Refusals.{first-none, passes, under, none-append, first-append, some-count, first-at}
 use Rattle.interface.proofs.Accepted.{not-not, mirrored-same}
 use Rattle.interface.proofs.Names.{distinct-names}
-use Rattle.interface.proofs.AgreeValues.{carried-says}
-use Rattle.interface.proofs.Places.{Matching, same-count, moved-lt, moved-name, moved-only}
+use Rattle.interface.proofs.SheetTexts.{WellFormed, sheetText-most}
 
 -- what checks 2 to 9 and 11 leave of a sheet
 pub record Sound (s : List ℕ) : Type 0 where
@@ -41,16 +40,16 @@ pub record Sound (s : List ℕ) : Type 0 where
 
 left : (s : List ℕ) → T (none (sheetChecks s))
     → T (not (wrongNames s)) × T (not (equalNames s)) × T (not (wrongCount (entries s))) × T (not (wrongValues s)) × T (mirrored (entries s) (value s)) × T (scoresInRange (pairs s))
-unfolding sheetChecks readerChecks all
+unfolding sheetChecks readerChecks under all
 left s t =
     let checks = sheetChecks s in
     let e = first-none checks tt .1 t in (
-      passes checks tt e 2 (lit< tt),
-      passes checks tt e 3 (lit< tt),
-      passes checks tt e 4 (lit< tt),
-      passes checks tt e 6 (lit< tt),
-      not-not (mirrored (entries s) (value s)) (passes checks tt e 7 (lit< tt)),
-      not-not (scoresInRange (pairs s)) (passes checks tt e 8 (lit< tt)),
+      passes 4 checks tt e,
+      passes 5 checks tt e,
+      passes 6 checks tt e,
+      passes 8 checks tt e,
+      not-not (mirrored (entries s) (value s)) (passes 9 checks tt e),
+      not-not (scoresInRange (pairs s)) (passes 11 checks tt e),
     )
 
 pub sound : (s : List ℕ) → T (none (sheetChecks s)) → Sound s
@@ -76,7 +75,7 @@ unfolding poolScores
 pool-symmetric first second =
     pooled-symmetric (placeOn first second) (score (pairs first)) (score (pairs second)) (score-symm (pairs first)) (score-symm (pairs second))
 
-pool-allowed : (first second : List ℕ) → T (scoresInRange (poolPairs first second)) → AllAllowed scoreLimit (entries first) (poolScores first second)
+pub pool-allowed : (first second : List ℕ) → T (scoresInRange (poolPairs first second)) → AllAllowed scoreLimit (entries first) (poolScores first second)
 unfolding poolPairs
 pool-allowed first second t i j h k =
     let n = entries first in
@@ -84,69 +83,77 @@ pool-allowed first second t i j h k =
     subst (λ z. T (isAllowedPair scoreLimit (carried z))) (score-pairList n s (pool-symmetric first second) i j h k)
     (list-allowed n (poolPairs first second) (length-pairList n s) t i j h k)
 
--- two sheets that pass their checks, with the same names
-module _ {first second : List ℕ} (a : Sound first) (b : Sound second) (m : SameNames first second) where
-  pub matching : Matching (names first) (names second)
-  matching = record { first = a .distinct; second = b .distinct; there = m .there; back = m .back }
+-- the table
+module _ (first second : List ℕ) where
+  abbrev pub before : List Check
+  before = sheetChecks first ++ sheetChecks second
 
-  pub same-entries : entries first ≡ entries second
-  unfolding entries
-  same-entries = same-count matching
+  abbrev pub differing : Bool
+  differing = namesDiffer (names first) (names second)
 
-  -- entry i of the first: the second has its name at one place
-  pub on-second : (i : ℕ) → i < entries first → SameName first second i (placeOn first second i)
-  unfolding entries placeOn
-  on-second i h = record { here = h; there = omega (arith, same-count matching, moved-lt matching i h); same = sym (moved-name matching i h) }
+  abbrev pub ranging : Bool
+  ranging = scoresInRange (poolPairs first second)
 
-  pub only-there : {i j : ℕ} → SameName first second i j → placeOn first second i ≡ j
-  unfolding entries placeOn
-  only-there {i} {j} q = moved-only matching i j (q .there) (q .same)
+  pub both-sound : T (none before) → Sound first × Sound second
+  both-sound t = let (p, q) = none-append (sheetChecks first) (sheetChecks second) .0 t in (sound first p, sound second q)
 
-  -- "each score is the sum. A pair unscored in either is unscored in the pool."
-  pub pool-number : {i i′ j j′ : ℕ} → SameName first second i i′ → SameName first second j j′
-      → poolScores first second i j ≡ numberFor (added (carried (value first i j)) (carried (value second i′ j′)))
-  unfolding poolScores pooled
-  pool-number {i} {i′} {j} {j′} p q = ap₂ (λ y z. numberFor (added (carried y) (carried z))) (a .scores i j (p .here) (q .here))
-      (ap₂ (score (pairs second)) (only-there p) (only-there q) ∙ b .scores i′ j′ (p .there) (q .there))
+  module _ (buffer : ℕ) where
+    abbrev room : Check
+    room = check14 buffer (poolText first second)
 
-  pub pool-carried : {i i′ j j′ : ℕ} → SameName first second i i′ → SameName first second j j′
-      → carried (poolScores first second i j) ≡ added (carried (value first i j)) (carried (value second i′ j′))
-  pool-carried {i} {i′} {j} {j′} p q = ap carried (pool-number p q)
-      ∙ added-carried (carried (value first i j)) (carried (value second i′ j′)) (a .allowed i j (p .here) (q .here)) (b .allowed i′ j′ (p .there) (q .there))
+    abbrev last : List Check
+    last = check17 first second ∷ check18 (poolPairs first second) ∷ room ∷ []
 
-  -- 18: "a sum out of range"
-  pub sum-out : T (not (scoresInRange (poolPairs first second))) → SumBeyond first second
-  unfolding scoresInRange poolPairs added isAllowedPair scoreLimit onePoint pointLimit
-  sum-out t =
-      let (v, k, f) = some-fails (λ v. isAllowedPair scoreLimit (carried v)) (poolPairs first second) t in
-      let (i, j, h, l, e) = of-pairList (entries first) (poolScores first second) k in
-      let p = on-second i h in
-      let q = on-second j (omega arith) in
-      go i (placeOn first second i) j (placeOn first second j) p q (carried (value first i j)) (carried (value second (placeOn first second i) (placeOn first second j))) refl refl
-      (subst (λ c. T (not (isAllowedPair scoreLimit c))) (ap carried e ∙ pool-carried p q) f)
-    where
-      go : (i i′ j j′ : ℕ) → SameName first second i i′ → SameName first second j j′ → (c d : Carried) → carried (value first i j) ≡ c → carried (value second i′ j′) ≡ d
-          → T (not (isAllowedPair scoreLimit (added c d))) → SumBeyond first second
-      go i i′ j j′ p q (Scored y) (Scored z) e f t = record {
-        i = i;
-        j = j;
-        i′ = i′;
-        j′ = j′;
-        one = p;
-        other = q;
-        y = y;
-        z = z;
-        here = carried-says first (a .formed) i j (p .here) (q .here) .0 e;
-        there = carried-says second (b .formed) i′ j′ (p .there) (q .there) .0 f;
-        out = λ w. T-not (isAllowedPair scoreLimit (Scored (y +ℤ z))) t (within-range w);
-      }
-      go i i′ j j′ p q (Scored y) Unscored e f t = absurd t
-      go i i′ j j′ p q Unscored d e f t = absurd t
+    -- what a table that gives no number leaves
+    pub pool-passed : poolRefusal first second buffer ≡ 0 → T (none before) × T (not differing) × T ranging
+    unfolding poolRefusal poolChecks sheetChecks readerChecks under all
+    pool-passed e =
+        let checks = poolChecks first second buffer in (
+          none-append before last .0 (first-none checks tt .0 e) .0,
+          passes 17 checks tt e,
+          not-not ranging (passes 18 checks tt e),
+        )
 
-  pub out-sum : SumBeyond first second → T (not (scoresInRange (poolPairs first second)))
-  unfolding added scoreLimit onePoint pointLimit
-  out-sum o =
-      let y = carried-says first (a .formed) (o .i) (o .j) (o .one .here) (o .other .here) .1 (o .here) in
-      let z = carried-says second (b .formed) (o .i′) (o .j′) (o .one .there) (o .other .there) .1 (o .there) in
-      not-T (scoresInRange (poolPairs first second)) (λ t. o .out (allowed-within (subst (λ c. T (isAllowedPair scoreLimit c))
-      (pool-carried (o .one) (o .other) ∙ ap₂ added y z) (pool-allowed first second t (o .i) (o .j) (o .one .here) (o .other .here)))))
+    -- and only 14 is left to two that pass, with the same names and sums in range
+    pub pool-last : T (none before) → T (not differing) → T ranging → poolRefusal first second buffer ≡ cond (ltb buffer (length (poolText first second))) 14 0
+    unfolding poolRefusal poolChecks sheetChecks readerChecks all firstOf
+    pool-last t d g =
+        first-append before last tt ∙ rw (first-none before tt .1 t, T-false {b = differing} d, T-true {b = ranging} g)
+
+    -- 14 comes after all else
+    pub pool-short : poolRefusal first second buffer ≡ 14 → T (none before) × T (not differing) × T ranging × (buffer < length (poolText first second))
+    unfolding poolRefusal poolChecks sheetChecks readerChecks all
+    pool-short e =
+        let short = ltb buffer (length (poolText first second)) in
+        let front = check17 first second ∷ check18 (poolPairs first second) ∷ [] in
+        let (t, s) = first-at 14 (lit< tt) (before ++ front) short [] tt tt .0 e in
+        let (b, rest) = none-append before front .0 t in
+        let (seventeen, eighteen) = and-T (not differing) (not (not ranging) && true) rest in
+        let (sums, _) = and-T (not (not ranging)) true eighteen in
+        (b, seventeen, not-not ranging sums, ltb-true buffer (length (poolText first second)) (T-true s))
+
+-- the pool of two that pass is a sheet of at most 10,528 bytes
+pub pool-formed : {first : List ℕ} (second : List ℕ) → Sound first → T (ranging first second) → WellFormed (names first) (poolScores first second)
+unfolding entries poolPairs
+pool-formed {first} second one range = record {
+  some = some-count (length (names first)) (one .count);
+  named = one .named;
+  distinct = one .distinct;
+  symmetric = λ i j _ _. pool-symmetric first second i j;
+  allowed = range;
+}
+
+pub pool-most : {first : List ℕ} (second : List ℕ) → Sound first → T (ranging first second) → length (poolText first second) ≤ 10528
+unfolding poolText
+pool-most second one range = sheetText-most (pool-formed second one range) (one .count)
+
+pub pool-room : (first second : List ℕ) (buffer : ℕ) → poolRefusal first second buffer ≡ 0 → length (poolText first second) ≤ 10528
+pool-room first second buffer e =
+    let (t, _, range) = pool-passed first second buffer e in
+    pool-most second (both-sound first second t .0) range
+
+-- so of a buffer of so many bytes 14 is not given
+pub pool-never-short : (first second : List ℕ) (buffer : ℕ) → 10528 ≤ buffer → poolRefusal first second buffer ≢ 14
+pool-never-short first second buffer h e =
+    let (t, _, range, short) = pool-short first second buffer e in
+    omega (arith, pool-most second (both-sound first second t .0) range)

@@ -86,9 +86,25 @@ first-none (c ∷ checks) t = go (c .0) (c .1) t (first-none checks)
     go m true t ih = (λ e. eqb-no m 0 (and-T (not (eqb m 0)) (numbered checks) t .0) e, λ u. absurd u)
     go m false t ih = ih (and-T (not (eqb m 0)) (numbered checks) t .1)
 
--- no number is given: the i-th condition does not hold
-pub passes : (checks : List (ℕ × Bool)) → T (numbered checks) → firstOf checks ≡ 0 → (i : ℕ) → i < length checks → T (not (getD checks i (0, false) .1))
-passes checks t e i h = all-in (λ (c : ℕ × Bool). not (c .1)) checks (first-none checks t .0 e) (getD-in checks i (0, false) h)
+-- the condition that stands under a number, the first of them
+unfoldable pub under : ℕ → List (ℕ × Bool) → Bool
+under k [] = false
+under k ((number, holds) ∷ checks) = cond (eqb number k) holds (under k checks)
+
+-- no number is given: no condition under a number holds
+pub passes : (k : ℕ) (checks : List (ℕ × Bool)) → T (numbered checks) → firstOf checks ≡ 0 → T (not (under k checks))
+unfolding under all
+passes k checks t e = none-under k checks (first-none checks t .0 e)
+  where
+    go : (same holds other : Bool) → T (not holds) → T (not other) → T (not (cond same holds other))
+    go true holds other t u = t
+    go false holds other t u = u
+
+    none-under : (k : ℕ) (checks : List (ℕ × Bool)) → T (none checks) → T (not (under k checks))
+    none-under k [] t = tt
+    none-under k (c ∷ checks) t =
+        let (h, r) = and-T (not (c .1)) (none checks) t in
+        go (eqb (c .0) k) (c .1) (under k checks) h (none-under k checks r)
 
 -- two tables, one behind the other
 pub none-append : (l m : List (ℕ × Bool)) → T (none (l ++ m)) ↔ (T (none l) × T (none m))

@@ -14,7 +14,7 @@ use Rattle.integers.specs.Range.{Within, Bounded}
 use Rattle.integers.proofs.Linear.{up, dn}
 use Rattle.integers.proofs.Range.{within-grow, up-le}
 use Rattle.clusters.specs.PairList.{score, onePoint, pointLimit, scoreLimit, hasUnscored}
-use Rattle.clusters.specs.Groups.{Kind, strong, clean, splits, kindOf, index, groups}
+use Rattle.clusters.specs.Groups.{Kind, Group, strong, clean, splits, kindOf, index, groups}
 use Rattle.clusters.proofs.PairList.{score-symm}
 use Rattle.clusters.proofs.Scored.{range-limit, scored-in-range}
 use Rattle.clusters.proofs.Bounds.{strong-within, clean-within, separation-within}
@@ -58,8 +58,8 @@ module _ {kind : ℤ} {n : ℕ} {l : List ℤ} (few : n ≤ 32) (p : Passed kind
       natural (pos k) h w = (k, refl, omega (arith, up-le w))
       natural (negsuc k) h w = absurd (h .le)
 
-      at : (g : ℕ × ℤ) → g ∈ groups k n (score l) → (k : ℕ) × (g .1 ≡ pos k) × (k < 10 ^ 9)
+      at : (g : Group) → g ∈ groups k n (score l) → (k : ℕ) × (g .index ≡ pos k) × (k < 10 ^ 9)
       at g m =
-          let (h, t, e) = in-groups k n (score l) (g .0) (g .1) .0 m in
-          let one = subst (λ z. pos 1 ≤ℤ z) (sym e) (listed-index k n (score l) (g .0) t) in
-          natural (g .1) one (subst (Within (62 * scoreLimit)) (sym e) (index-within (g .0)))
+          let (h, t, e) = in-groups k n (score l) g .0 m in
+          let one = subst (λ z. pos 1 ≤ℤ z) (sym e) (listed-index k n (score l) (g .set) t) in
+          natural (g .index) one (subst (Within (62 * scoreLimit)) (sym e) (index-within (g .set)))

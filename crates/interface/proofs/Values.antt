@@ -2,9 +2,10 @@
 use mathlib.Core.Path.{_≡_, refl, sym, ap, _∙_, subst}
 use mathlib.Core.Bool.{Bool, true, false, not, cond, _&&_, _||_}
 use mathlib.Core.Logic.{_⊎_, inl, inr, ⊎-elim}
-use mathlib.Core.List.{List, [], _∷_, _++_}
-use Prim.Native.Nat.{ℕ, suc, _+_, _/_, _%_, _≤_, _<_}
+use mathlib.Core.List.{List, [], _∷_, _++_, append-nil}
+use Prim.Native.Nat.{ℕ, zero, suc, _+_, _/_, _%_, _≤_, _<_, _*_, _^_}
 use native.Mathlib.Omega.{arith}
+use native.Mathlib.Decide.{decLe}
 use borrow.Author.Tests.{ne-eqb}
 use lib.Dec.{T, eqb, eqb→eq, leb, leb→le, le→leb, not-T}
 use lib.IntN.{ℤ, pos, negsuc, negℤ}
@@ -14,7 +15,7 @@ use Rattle.lists.proofs.Tests.{and-T, T-and, T-true, true-T, T-false, or-T, T-o
 use Rattle.lists.proofs.Lists.{no-length, in-all, all-in}
 use Rattle.integers.specs.Range.{Within}
 use Rattle.integers.proofs.Linear.{up, dn}
-use Rattle.integers.proofs.Range.{up-le, dn-le}
+use Rattle.integers.proofs.Range.{up-le, dn-le, within}
 use Rattle.pairs.specs.declared.Carried.{Carried}
 use Rattle.pairs.specs.declared.Carried.the-variants.{Scored, Unscored}
 use Rattle.pairs.specs.Pairs.{numberFor, listNumber, carried}
@@ -46,13 +47,13 @@ use Rattle.interface.specs.Sheet.{
   pairSaid,
   sameBytes,
 }
-use Rattle.interface.specs.Listing.{decimal, pointsText, signedPoints, isDecimal}
+use Rattle.interface.specs.Listing.{decimal, pointsText, signedPoints, isDecimal, isIndex, decimalFrom, digit}
 use Rattle.interface.specs.SheetText.{pairText}
 use Rattle.interface.specs.Refusals.{isAllowed}
 use Rattle.interface.proofs.Pieces.{free, all-free, all-append, same-bytes}
-use Rattle.interface.proofs.Digits.{length-decimal, decimal-some}
-use Rattle.interface.proofs.Numerals.{decimal-run, decimal-form}
-use Rattle.interface.proofs.Points.{ending, ending-short, ended, odd, points-parts, points-whole, points-well, read-points}
+use Rattle.interface.proofs.Digits.{length-decimal, decimal-some, decimal-least}
+use Rattle.interface.proofs.Numerals.{decimal-run, decimal-form, decimal-back}
+use Rattle.interface.proofs.Points.{ending, ending-short, ended, odd, points-parts, points-whole, points-well, read-points, index-back, half-number}
 
 -- a byte of a name or of a pair: those of check 3 but the space and the line feed
 isPlain : ℕ → Bool
@@ -270,3 +271,83 @@ pub pair-word : {k : ℕ} (c : Carried) → k ≤ 2000000 → T (isAllowedPair k
 unfolding pairText all isPlain isUpper isDigit
 pair-word (Scored z) h t = signed-word z h (allowed-within t)
 pair-word Unscored h t = record { plain = tt; short = omega arith }
+
+-- the mark, and a word that is not the mark
+pub lone-word : (w : List ℕ) → T (isLoneMinus w) → w ≡ 45 ∷ []
+unfolding isLoneMinus
+lone-word [] t = absurd t
+lone-word (b ∷ w) t =
+    let (e, l) = and-T (eqb b 45) (eqb (length w) 0) t in
+    ap (λ (c : ℕ). c ∷ w) (eqb→eq b 45 e) ∙ ap (λ (v : List ℕ). 45 ∷ v) (no-length w (eqb→eq (length w) 0 l))
+
+pub said-value : (w : List ℕ) → T (not (isLoneMinus w)) → listNumber (pairSaid w) ≡ valueOf w
+unfolding listNumber pairSaid numberFor
+said-value w t = rw (T-false {b = isLoneMinus w} t)
+
+-- whole points and a half more, or none, without a sign
+pub even-text : (n : ℕ) → pointsText (n + n) ≡ decimal n
+unfolding onePoint
+even-text n = let e : n + n ≡ n * 2 + 0 = omega arith in ap pointsText e ∙ half-number n false ∙ append-nil (decimal n)
+
+pub odd-text : (n : ℕ) → pointsText (n + n + 1) ≡ decimal n ++ halfText
+unfolding onePoint
+odd-text n = let e : n + n + 1 ≡ n * 2 + 1 = omega arith in ap pointsText e ∙ half-number n true
+
+-- a numeral is below 10,000,000
+numeral-small : (w : List ℕ) → T (isNumeral w) → numberFrom 10 0 w < 10000000
+numeral-small w t = go (decLe (10 ^ 7) (numberFrom 10 0 w))
+  where
+    go : Dec (10 ^ 7 ≤ numberFrom 10 0 w) → numberFrom 10 0 w < 10000000
+    go (yes h) = let (_, d, few) = numeral-parts w t in absurd (omega (arith, decimal-least 7 (numberFrom 10 0 w) h, ap length (decimal-back w d)))
+    go (no f) = omega arith
+
+-- a value without its sign is what is written for its half points, fewer than 20,000,000
+points-index : (w : List ℕ) → T (isPoints w) → T (isIndex w)
+unfolding isPoints isIndex
+points-index w t =
+    let (n, e) = and-T (isNumeral (wholePart w)) (isWholeOrHalf w) t in
+    T-and (isDecimal (wholePart w)) (isWholeOrHalf w) (numeral-parts (wholePart w) n .1) e
+
+pub points-back : (w : List ℕ) → T (isPoints w) → pointsText (halfPoints w) ≡ w
+points-back w t = index-back w (points-index w t)
+
+points-small : (w : List ℕ) → T (isPoints w) → halfPoints w < 20000000
+unfolding isPoints halfPoints onePoint
+points-small w t =
+    let n = numeral-small (wholePart w) (and-T (isNumeral (wholePart w)) (isWholeOrHalf w) t .0) in
+    omega (arith, one (hasHalf w))
+  where
+    one : (b : Bool) → cond b 1 0 ≤ 1
+    one true = omega arith
+    one false = omega arith
+
+-- only `0` is written for nothing
+zero-text : pointsText 0 ≡ 48 ∷ []
+unfolding decimal decimalFrom digit
+zero-text = even-text 0
+
+pub only-zero : (w : List ℕ) → T (isPoints w) → halfPoints w ≡ 0 → w ≡ 48 ∷ []
+only-zero w t e = sym (points-back w t) ∙ ap pointsText e ∙ zero-text
+
+negative-back : (w : List ℕ) (k : ℕ) → halfPoints w ≡ k → T (isPoints w) → T (not (sameBytes w (48 ∷ [])))
+    → (signedPoints (negℤ (pos k)) ≡ minus ∷ w) × Within 19999999 (negℤ (pos k))
+unfolding signedPoints up dn sameBytes
+negative-back w zero e p n = absurd (subst (λ (v : List ℕ). T (not (sameBytes v (48 ∷ [])))) (only-zero w p e) n)
+negative-back w (suc k) e p n = (
+  ap (λ (v : List ℕ). minus ∷ v) (ap pointsText (sym e) ∙ points-back w p),
+  within (omega arith) (omega (arith, points-small w p)),
+)
+
+-- of a well-formed value
+pub value-back : (w : List ℕ) → T (isValue w) → (signedPoints (valueOf w) ≡ w) × Within 19999999 (valueOf w)
+unfolding isValue valueOf signedPoints up dn
+value-back [] t = absurd t
+value-back (b ∷ w) t = go (eqb b minus) refl t
+  where
+    go : (x : Bool) → eqb b minus ≡ x → T (cond x (isPoints w && not (sameBytes w (48 ∷ []))) (isPoints (b ∷ w)))
+        → let z = cond x (negℤ (pos (halfPoints w))) (pos (halfPoints (b ∷ w))) in (signedPoints z ≡ b ∷ w) × Within 19999999 z
+    go true e t =
+        let (p, n) = and-T (isPoints w) (not (sameBytes w (48 ∷ []))) t in
+        let (back, in-range) = negative-back w (halfPoints w) refl p n in
+        (back ∙ ap (λ (c : ℕ). c ∷ w) (sym (eqb→eq b minus (true-T e))), in-range)
+    go false e t = (points-back (b ∷ w) t, within (omega (arith, points-small (b ∷ w) t)) (omega arith))

@@ -7,10 +7,12 @@ use Prim.Native.Nat.{ℕ, zero, suc, _+_, _-_}
 use lib.IntN.{ℤ, pos, negℤ}
 use lib.Dec.{eqb, leb, ltb}
 use lib.ListN.{length, getD, take, drop}
+use Rattle.lists.specs.Lists.{below}
 use Rattle.pairs.specs.declared.Carried.the-variants.{Scored}
 use Rattle.pairs.specs.declared.Pair.{Pair}
 use Rattle.pairs.specs.Pairs.{listNumber, pairOf}
 use Rattle.clusters.specs.PairList.{Similarity, rowStart, score, hasLength}
+use Rattle.clusters.specs.Groups.{Group, setsOf, indicesOf}
 use Rattle.clusters.specs.Farris.{anchoredScores, distancesBack}
 use Rattle.clusters.specs.Linkage.{Linkage, Tree, mergedBlocks}
 use Rattle.clusters.specs.Nesting.{Hit, smallestShared}
@@ -20,8 +22,8 @@ use Rattle.answers.specs.declared.Answer.the-variants.{Count, Refused}
 use Rattle.answers.specs.Answers.{answer, slots, filled}
 use Rattle.answers.specs.declared.Shared.{Shared}
 use Rattle.answers.specs.Shared.{sharedNumber, sharedSet, sharedLine, sharedAnswer}
-use Rattle.answers.specs.declared.Weighed.{Weighed}
-use Rattle.answers.specs.Weighed.{weighedNumber, weighedWeight, weighedAnswer}
+use Rattle.answers.specs.declared.Refined.{Refined}
+use Rattle.answers.specs.Refined.{refinedNumber, answeredWeight, refinedAnswer}
 use Rattle.answers.specs.declared.ValueRead.{ValueRead}
 use Rattle.answers.specs.Values.{readNumber, readPair, readPlace}
 use Rattle.interface.specs.Sheet.{space, cut, names, entries, isCell, pairSaid, pairs}
@@ -38,7 +40,7 @@ use Rattle.interface.specs.Refusals.{
   scoreRefusal,
   sharedRefusal,
   poolRefusal,
-  weightRefusal,
+  refinedRefusal,
 }
 
 -- The sheet call: the listing's length, and the listing in the first bytes.
@@ -63,10 +65,10 @@ CCall kind sheet lent r after = InC (λ a. SheetCall kind sheet lent a after) r
 -- "The numbers call puts sets and indices in two lent slices in this order, returns their count, and fills all further
 -- slots with 0."
 unfoldable pub setsFound : ℤ → ℕ → List ℤ → List ℕ
-setsFound kind n l = map (λ (A, z). A) (groupsFound kind n l)
+setsFound kind n l = setsOf (groupsFound kind n l)
 
 unfoldable pub indicesFound : ℤ → ℕ → List ℤ → List ℤ
-indicesFound kind n l = map (λ (A, z). z) (groupsFound kind n l)
+indicesFound kind n l = indicesOf (groupsFound kind n l)
 
 pub record NumbersCall (kind : ℤ) (n : ℕ) (l : List ℤ) (lentSets : List ℕ) (lentIndices : List ℤ) (r : Answer)
     (sets : List ℕ) (indices : List ℤ) : Type 0 where
@@ -79,12 +81,9 @@ pub record NumbersCall (kind : ℤ) (n : ℕ) (l : List ℤ) (lentSets : List �
       ≡ filled (pos 0) (numbersRefusal kind n l (length lentSets) (length lentIndices))
       (indicesFound kind n l) lentIndices
 
--- the first count sets, each with its index
-unfoldable pub groupsOf : ℕ → List ℕ → List ℤ → List (ℕ × ℤ)
-groupsOf zero sets indices = []
-groupsOf (suc count) [] indices = []
-groupsOf (suc count) (A ∷ sets) [] = []
-groupsOf (suc count) (A ∷ sets) (z ∷ indices) = (A, z) ∷ groupsOf count sets indices
+-- the groups in the first `count` slots, each with its index
+unfoldable pub groupsIn : ℕ → List ℕ → List ℤ → List Group
+groupsIn count sets indices = map (λ k. record { set = getD sets k 0; index = getD indices k (pos 0) }) (below count)
 
 -- "A linkage call writes the n − 1 merged blocks in the order of merging", of some tree; it "answers how many slots it
 -- wrote; slots beyond are not touched".
@@ -183,16 +182,16 @@ pub record PoolCall (first second lent : List ℕ) (r : Answer) (after : List �
   pub written : after ≡ slots (poolRefusal first second (length lent)) (poolText first second) lent
 
 -- The refined weight of a split (document 02, 2.5), of which "one side as a set" is handed in.
-pub record WeightCall (n : ℕ) (l : List ℤ) (A : ℕ) (r : Weighed) : Type 0 where
-  pub answered : r ≡ weighedAnswer (weightRefusal n l A) (refinedWeight n (score l) A)
+pub record RefinedCall (n : ℕ) (l : List ℤ) (A : ℕ) (r : Refined) : Type 0 where
+  pub answered : r ≡ refinedAnswer (refinedRefusal n l A) (refinedWeight n (score l) A)
 
 -- in C, since a weight may be negative: the refusal's number is answered, 0 for none, and the weight goes to a slot, on
 -- refusal too
-pub record WeightInC (n : ℕ) (l : List ℤ) (A : ℕ) (r weight : ℤ) : Type 0 where
-  pub given : Weighed
-  pub outcome : WeightCall n l A given
-  pub answered : r ≡ pos (weighedNumber given)
-  pub written : weight ≡ weighedWeight given
+pub record RefinedInC (n : ℕ) (l : List ℤ) (A : ℕ) (r weight : ℤ) : Type 0 where
+  pub given : Refined
+  pub outcome : RefinedCall n l A given
+  pub answered : r ≡ pos (refinedNumber given)
+  pub written : weight ≡ answeredWeight given
 
 -- The value reader: "a value is read with the place after it, or the line is refused". What is read is the piece of the
 -- line that starts at a place, whatever the place: behind the line's end the piece is empty, and no cell.

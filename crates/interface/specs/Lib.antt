@@ -4,13 +4,3 @@ pub mod SheetText
 pub mod Pool
 pub mod Refusals
 pub mod Calls
-pub mod Sentences
-pub mod Tables
-pub mod WholePoints
-pub mod Demands
-pub mod Requests
-pub mod TurnedAway
-pub mod Taken
-pub mod Merging
-pub mod Written
-pub mod Least

@@ -9,7 +9,7 @@ use lib.ListN.{length, getD, take, drop}
 use Rattle.lists.specs.Lists.{each, all}
 use Rattle.sets.specs.Sets.{size}
 use Rattle.clusters.specs.PairList.{onePoint, score}
-use Rattle.clusters.specs.Groups.{kindOf, groups}
+use Rattle.clusters.specs.Groups.{Group, kindOf, groups}
 use Rattle.interface.specs.Sheet.{lineFeed, space, minus, isDigit, numberFrom, cut}
 use Rattle.interface.specs.Sheet.{wholePart, halfText, isWholeOrHalf, halfPoints}
 use Rattle.interface.specs.Sheet.{lines, entries, pairs, sameBytes}
@@ -20,9 +20,12 @@ pub record Line : Type 0 where
   pub size : ℕ
   pub index : ℤ
 
--- the line of a set with its index
-unfoldable pub lineOf : ℕ → ℕ × ℤ → Line
-lineOf n (A, z) = record { set = A; size = size n A; index = z }
+-- the line of a group, or a split; and what a line says of it
+unfoldable pub lineOf : ℕ → Group → Line
+lineOf n g = record { set = g .set; size = size n (g .set); index = g .index }
+
+unfoldable pub groupOf : Line → Group
+groupOf l = record { set = l .set; index = l .index }
 
 -- Written.
 -- a digit: 0 to 9, then a to f
@@ -74,7 +77,7 @@ unfoldable pub listing : List Line → List ℕ
 listing ls = firstLine ++ each ls (λ l. lineText l ++ (lineFeed ∷ []))
 
 -- the groups or splits of a kind number, of n entries and their pair list; their listing; the listing of a sheet
-unfoldable pub groupsFound : ℤ → ℕ → List ℤ → List (ℕ × ℤ)
+unfoldable pub groupsFound : ℤ → ℕ → List ℤ → List Group
 groupsFound kind n l = groups (kindOf kind) n (score l)
 
 unfoldable pub pairsListing : ℤ → ℕ → List ℤ → List ℕ

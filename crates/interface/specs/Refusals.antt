@@ -1,6 +1,7 @@
 -- Where a call is turned away (document 01), as tests, which the contracts of the code cite: the table, one check for
--- each line, in its order; and which call makes which checks. Nobody need believe it: interface/specs/Sentences and
--- Tables say the same in words, and that both agree is proved (interface/proofs/AgreeTables).
+-- each line, in its order; and which call makes which checks. Nobody need believe it: demands/specs/Sentences and
+-- Tables say the same in words, and that both agree is proved (demands/proofs/AgreeTables; of a request's call in its
+-- file of requests/proofs).
 use mathlib.Core.Bool.{Bool, not, cond, _&&_, _||_}
 use mathlib.Core.List.{List, [], _∷_, _++_}
 use Prim.Native.Nat.{ℕ, _+_, _-_, _*_, _^_}
@@ -207,66 +208,8 @@ wrongSide n A = ltb (size n A) 2 || ltb (size n (complement n A)) 2 || leb (2 ^ 
 abbrev pub check19 : ℕ → (side : ℕ) → Check
 check19 n A = (19, wrongSide n A)
 
--- Which call makes which, 16 "right after 11". "The sheet and C calls make checks 1 to 9, 11, 12, 14"
-unfoldable pub sheetCallChecks : ℤ → List ℕ → (buffer : ℕ) → List Check
-sheetCallChecks kind s buffer =
-    check1 kind
-    ∷ check2 s
-    ∷ check3 s
-    ∷ check4 s
-    ∷ check5 s
-    ∷ check6 (entries s)
-    ∷ check7 s
-    ∷ check8 s
-    ∷ check9 s
-    ∷ check11 (pairs s)
-    ∷ check16Of kind (pairs s)
-    ∷ check12 kind (entries s) (pairs s)
-    ∷ check14 buffer (sheetListing kind s)
-    ∷ []
-
--- "the numbers call 1, 6, 10 to 13"
-unfoldable pub numbersChecks : ℤ → ℕ → List ℤ → (sets indices : ℕ) → List Check
-numbersChecks kind n l sets indices =
-    check1 kind
-    ∷ check6 n
-    ∷ check10 n l
-    ∷ check11 l
-    ∷ check16Of kind l
-    ∷ check12 kind n l
-    ∷ check13 n sets indices
-    ∷ []
-
--- "the linkage calls 6, 10, 11, 15"; the result has n − 1 blocks
-unfoldable pub linkageChecks : ℕ → List ℤ → (slots : ℕ) → List Check
-linkageChecks n l slots =
-    check6 n
-    ∷ check10 n l
-    ∷ check11 l
-    ∷ check16 l
-    ∷ check15 (shortSlice slots (n - 1))
-    ∷ []
-
--- "the anchored scores 6, 10, 11, 12, 15, judged as kind 3"; the result has as many numbers as the pair list
-unfoldable pub anchoredChecks : ℕ → (anchor : ℕ) → List ℤ → (slots : ℕ) → List Check
-anchoredChecks n x l slots =
-    check6 n
-    ∷ check10 n l
-    ∷ check11 l
-    ∷ check16 l
-    ∷ check12 (pos 3) n l
-    ∷ check15 (wrongAnchor n x || shortSlice slots (rowStart n))
-    ∷ []
-
--- "the way back 6, 10, 15"
-unfoldable pub backChecks : ℕ → (anchor : ℕ) → List ℤ → (slots : ℕ) → List Check
-backChecks n x l slots =
-    check6 n
-    ∷ check10 n l
-    ∷ check15 (wrongAnchor n x || shortSlice slots (rowStart n) || notAnchored n x l)
-    ∷ []
-
--- of the reader and of the name of an entry: "if checks 2 to 9 refuse the sheet" (The sheet)
+-- Which call makes which: parts that several calls make, and each call's list, in which 16 stands "right after 11".
+-- of a sheet: "if checks 2 to 9 refuse the sheet" (The sheet), and with 11
 unfoldable pub readerChecks : List ℕ → List Check
 readerChecks s =
     check2 s
@@ -279,32 +222,63 @@ readerChecks s =
     ∷ check9 s
     ∷ []
 
+unfoldable pub sheetChecks : List ℕ → List Check
+sheetChecks s = readerChecks s ++ (check11 (pairs s) ∷ [])
+
+-- of a pair list: 6 and 10; with 11; with 16, of the calls that take scores only; with 12, of those that take distances
+abbrev pub lengthChecks : ℕ → List ℤ → List Check
+lengthChecks n l = check6 n ∷ check10 n l ∷ []
+
+abbrev pub pairChecks : ℕ → List ℤ → List Check
+pairChecks n l = lengthChecks n l ++ (check11 l ∷ [])
+
+abbrev pub scoredChecks : ℕ → List ℤ → List Check
+scoredChecks n l = pairChecks n l ++ (check16 l ∷ [])
+
+abbrev pub distanceChecks : ℕ → List ℤ → List Check
+distanceChecks n l = scoredChecks n l ++ (check12 (pos 3) n l ∷ [])
+
+-- of a kind, after 11
+abbrev pub kindChecks : ℤ → ℕ → List ℤ → List Check
+kindChecks kind n l = check16Of kind l ∷ check12 kind n l ∷ []
+
+-- "The sheet and C calls make checks 1 to 9, 11, 12, 14"
+unfoldable pub sheetCallChecks : ℤ → List ℕ → (buffer : ℕ) → List Check
+sheetCallChecks kind s buffer =
+    (check1 kind ∷ sheetChecks s) ++ kindChecks kind (entries s) (pairs s)
+    ++ (check14 buffer (sheetListing kind s) ∷ [])
+
+-- "the numbers call 1, 6, 10 to 13"
+unfoldable pub numbersChecks : ℤ → ℕ → List ℤ → (sets indices : ℕ) → List Check
+numbersChecks kind n l sets indices =
+    (check1 kind ∷ pairChecks n l) ++ kindChecks kind n l ++ (check13 n sets indices ∷ [])
+
+-- "the linkage calls 6, 10, 11, 15"; the result has n − 1 blocks
+unfoldable pub linkageChecks : ℕ → List ℤ → (slots : ℕ) → List Check
+linkageChecks n l slots = scoredChecks n l ++ (check15 (shortSlice slots (n - 1)) ∷ [])
+
+-- "the anchored scores 6, 10, 11, 12, 15, judged as kind 3"; the result has as many numbers as the pair list
+unfoldable pub anchoredChecks : ℕ → (anchor : ℕ) → List ℤ → (slots : ℕ) → List Check
+anchoredChecks n x l slots =
+    distanceChecks n l ++ (check15 (wrongAnchor n x || shortSlice slots (rowStart n)) ∷ [])
+
+-- "the way back 6, 10, 15"
+unfoldable pub backChecks : ℕ → (anchor : ℕ) → List ℤ → (slots : ℕ) → List Check
+backChecks n x l slots =
+    lengthChecks n l ++ (check15 (wrongAnchor n x || shortSlice slots (rowStart n) || notAnchored n x l) ∷ [])
+
 -- of a score looked up in C: the checks of a pair list's length, and 15 for an entry number of n or more
 unfoldable pub scoreChecks : ℕ → List ℤ → (a b : ℕ) → List Check
-scoreChecks n l a b =
-    check6 n
-    ∷ check10 n l
-    ∷ check15 (wrongEntries n a b)
-    ∷ []
+scoreChecks n l a b = lengthChecks n l ++ (check15 (wrongEntries n a b) ∷ [])
 
 -- of the smallest group that two entries share: "after the numbers call's checks, 13 left out, an entry number of n or
 -- more gets 15" (document 02, 2.1)
 unfoldable pub sharedChecks : ℤ → ℕ → List ℤ → (i j : ℕ) → List Check
 sharedChecks kind n l i j =
-    check1Groups kind
-    ∷ check6 n
-    ∷ check10 n l
-    ∷ check11 l
-    ∷ check16Of kind l
-    ∷ check12 kind n l
-    ∷ check15 (wrongEntries n i j)
-    ∷ []
+    (check1Groups kind ∷ pairChecks n l) ++ kindChecks kind n l ++ (check15 (wrongEntries n i j) ∷ [])
 
 -- of the pool of two sheets: "The first sheet passes 2 to 9 and 11, then the second; after them 17 .., 18 .., and 14 a
 -- short buffer." (document 02, 2.4)
-unfoldable pub sheetChecks : List ℕ → List Check
-sheetChecks s = readerChecks s ++ (check11 (pairs s) ∷ [])
-
 abbrev pub bothChecks : (first second : List ℕ) → (buffer : ℕ) → List Check
 bothChecks first second buffer =
     check17 first second
@@ -316,8 +290,8 @@ unfoldable pub poolChecks : (first second : List ℕ) → (buffer : ℕ) → Lis
 poolChecks first second buffer = sheetChecks first ++ (sheetChecks second ++ bothChecks first second buffer)
 
 -- of the refined weight of a split: "after 6, 10, 11, 16 and 12, judged as kind 3", 19 (document 02, 2.5)
-unfoldable pub weightChecks : ℕ → List ℤ → (side : ℕ) → List Check
-weightChecks n l A = check6 n ∷ check10 n l ∷ check11 l ∷ check16 l ∷ check12 (pos 3) n l ∷ check19 n A ∷ []
+unfoldable pub refinedChecks : ℕ → List ℤ → (side : ℕ) → List Check
+refinedChecks n l A = distanceChecks n l ++ (check19 n A ∷ [])
 
 -- the number of the refusal that each call gives, 0 if none
 unfoldable pub sheetRefusal : ℤ → List ℕ → (buffer : ℕ) → ℕ
@@ -347,5 +321,5 @@ sharedRefusal kind n l i j = firstOf (sharedChecks kind n l i j)
 unfoldable pub poolRefusal : (first second : List ℕ) → (buffer : ℕ) → ℕ
 poolRefusal first second buffer = firstOf (poolChecks first second buffer)
 
-unfoldable pub weightRefusal : ℕ → List ℤ → (side : ℕ) → ℕ
-weightRefusal n l A = firstOf (weightChecks n l A)
+unfoldable pub refinedRefusal : ℕ → List ℤ → (side : ℕ) → ℕ
+refinedRefusal n l A = firstOf (refinedChecks n l A)

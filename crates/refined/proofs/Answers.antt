@@ -10,33 +10,33 @@ use Rattle.sets.specs.Sets.{size}
 use Rattle.clusters.specs.PairList.{rowStart, score}
 use Rattle.clusters.specs.Refined.{refinedWeight}
 use Rattle.clusters.proofs.Scored.{scored-in-range}
-use Rattle.answers.specs.declared.Weighed.the-variants.{Weight, Refused}
-use Rattle.answers.specs.Weighed.{weighedAnswer}
-use Rattle.interface.specs.Refusals.{wrongSide, weightChecks, weightRefusal}
-use Rattle.interface.specs.Calls.{WeightCall}
+use Rattle.answers.specs.declared.Refined.the-variants.{Weight, Refused}
+use Rattle.answers.specs.Refined.{refinedAnswer}
+use Rattle.interface.specs.Refusals.{wrongSide, refinedChecks, refinedRefusal}
+use Rattle.interface.specs.Calls.{RefinedCall}
 use Rattle.interface.proofs.Refusals.{no-first}
 use Rattle.interface.proofs.Sides.{sides}
 use Rattle.matrix.proofs.Checks.{distances-none}
 use Rattle.matrix.proofs.Scores.{range-bounded}
 
-pub weight-pass : (n : ℕ) (l : List ℤ) (A : ℕ) → weightRefusal n l A ≡ 0
+pub weight-pass : (n : ℕ) (l : List ℤ) (A : ℕ) → refinedRefusal n l A ≡ 0
     → (n ≤ 32) × (length l ≡ rowStart n) × Bounded (2 ^ 22) l × (2 ≤ size n A) × (size n A + 2 ≤ n)
-unfolding weightRefusal weightChecks
+unfolding refinedRefusal refinedChecks
 weight-pass n l A e =
     let (checked, scored, _, e₁₂) = distances-none n l _ e in
     let (c₁₉, _) = no-first 19 (wrongSide n A) _ (lit< tt) e₁₂ in
     let s = sides c₁₉ in
     (checked .few, checked .long, range-bounded l (scored-in-range l (checked .range) scored), s .two, s .rest)
 
-module _ {n : ℕ} {l : List ℤ} {A r : ℕ} (e : r ≡ weightRefusal n l A) where
-  pub weight-refused : (r ≡ 0 → ⊥) → WeightCall n l A (Refused r)
-  unfolding weighedAnswer
-  weight-refused f = record { answered = go r (weightRefusal n l A) e f }
+module _ {n : ℕ} {l : List ℤ} {A r : ℕ} (e : r ≡ refinedRefusal n l A) where
+  pub weight-refused : (r ≡ 0 → ⊥) → RefinedCall n l A (Refused r)
+  unfolding refinedAnswer
+  weight-refused f = record { answered = go r (refinedRefusal n l A) e f }
     where
-      go : (r k : ℕ) → r ≡ k → (r ≡ 0 → ⊥) → Refused r ≡ weighedAnswer k (refinedWeight n (score l) A)
+      go : (r k : ℕ) → r ≡ k → (r ≡ 0 → ⊥) → Refused r ≡ refinedAnswer k (refinedWeight n (score l) A)
       go zero k e f = absurd (f refl)
       go (suc r) k e f = rw (sym e)
 
-  pub weight-answered : {w : ℤ} → r ≡ 0 → w ≡ refinedWeight n (score l) A → WeightCall n l A (Weight w)
-  unfolding weighedAnswer
-  weight-answered z q = record { answered = ap₂ weighedAnswer (sym z ∙ e) q }
+  pub weight-answered : {w : ℤ} → r ≡ 0 → w ≡ refinedWeight n (score l) A → RefinedCall n l A (Weight w)
+  unfolding refinedAnswer
+  weight-answered z q = record { answered = ap₂ refinedAnswer (sym z ∙ e) q }

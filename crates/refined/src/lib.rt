@@ -6,13 +6,13 @@ ghost use Rattle.integers.specs.Integers.{Sorted};
 ghost use Rattle.sets.specs.Sets.{others};
 ghost use Rattle.clusters.specs.PairList.{score};
 ghost use Rattle.clusters.specs.Refined.{quartet, doubledScore, refinedWeight};
-ghost use Rattle.interface.specs.Refusals.{wrongSide, weightRefusal};
-ghost use Rattle.interface.specs.Calls.{WeightCall};
+ghost use Rattle.interface.specs.Refusals.{wrongSide, refinedRefusal};
+ghost use Rattle.interface.specs.Calls.{RefinedCall};
 ghost use Rattle.matrix.specs.Rows.{Cleared};
 ghost use Rattle.links.specs.Table.{entry};
 ghost use Rattle.refined.specs.Kept.{Weighable, DistanceTable, Below};
 ghost use Rattle.refined.specs.Kept.{keepBeside, keepAcross, keepWithin, keepQuartets};
-use answers::Weighed;
+use answers::Refined;
 
 // Beyond every doubled score.
 const BEYOND: i64 = 1073741824;
@@ -31,7 +31,7 @@ fn is_wrong_side(n: usize, side: u32) -> bool
 
 // The first number of the call's table whose condition holds, 0 if none does.
 fn weight_refusal(n: usize, pairs: &[i32], side: u32) -> usize
-    ensures { λ r. ⌜ r ≡ weightRefusal n (now (pairs .entry)) side ⌝ }
+    ensures { λ r. ⌜ r ≡ refinedRefusal n (now (pairs .entry)) side ⌝ }
 {
     let refused = matrix::distances_refusal(n, pairs);
     if refused != 0 {
@@ -212,12 +212,12 @@ fn weight_of(n: usize, pairs: &[i32], side: u32) -> i64
 }
 
 // The call.
-pub fn refined_weight(n: usize, pairs: &[i32], side: u32) -> Weighed
-    ensures { λ r. ⌜ WeightCall n (now (pairs .entry)) side r ⌝ }
+pub fn refined_weight(n: usize, pairs: &[i32], side: u32) -> Refined
+    ensures { λ r. ⌜ RefinedCall n (now (pairs .entry)) side r ⌝ }
 {
     let refusal = weight_refusal(n, pairs, side);
     if refusal != 0 {
-        return Weighed::Refused(refusal);
+        return Refined::Refused(refusal);
     }
-    Weighed::Weight(weight_of(n, pairs, side))
+    Refined::Weight(weight_of(n, pairs, side))
 }

@@ -4,25 +4,25 @@ use borrow.Author.Needs.{needs, sfits-of}
 use mir.Syntax.{w32}
 use mir.Facts.{toZ-ofZ}
 use Rattle.integers.proofs.Held.{passed}
-use Rattle.answers.specs.declared.Weighed.{Weighed}
-use Rattle.answers.specs.Weighed.{weighedNumber}
-use Rattle.interface.specs.Calls.{WeightCall}
-use Rattle.farzhudyl.proofs.Weighed.{weight-small, weight-put, weight-refused}
+use Rattle.answers.specs.declared.Refined.{Refined}
+use Rattle.answers.specs.Refined.{refinedNumber}
+use Rattle.interface.specs.Calls.{RefinedCall}
+use Rattle.farzhudyl.proofs.Refined.{weight-small, weight-put, weight-refused}
 use Rattle.farzhudyl.proofs.farzhudyl_refined_weight.Statement.{statement}
 use Rattle.farzhudyl.proofs.farzhudyl_refined_weight.Tie as tie
 
 -- the call was asked for these entries and this side
-asked : (c : tie.After-refined-weight) → let a = c .before .args in WeightCall (a .n) (a .pairs .now) (a .side) (c .refined-weight .result)
+asked : (c : tie.After-refined-weight) → let a = c .before .args in RefinedCall (a .n) (a .pairs .now) (a .side) (c .refined-weight .result)
 asked c = c .refined-weight .ensures
 
 returns : tie.Need-returns
 returns c = let t = c .before in let s = t .before .before .before in
-    weight-put _ _ _ (subst (WeightCall (s .args .n) (s .args .pairs .now) (s .args .side)) (t .answer .given .1) (asked (t .before .before)))
+    weight-put _ _ _ (subst (RefinedCall (s .args .n) (s .args .pairs .now) (s .args .side)) (t .answer .given .1) (asked (t .before .before)))
     (toZ-ofZ (sfits-of (c .known-told .given .0 .1)))
 
 returns-2 : tie.Need-returns-2
 returns-2 c = let t = c .before .before in let s = t .before .before .before in
-    weight-refused _ _ _ (subst (WeightCall (s .args .n) (s .args .pairs .now) (s .args .side)) (t .answer2 .given .1) (asked (t .before .before)))
+    weight-refused _ _ _ (subst (RefinedCall (s .args .n) (s .args .pairs .now) (s .args .side)) (t .answer2 .given .1) (asked (t .before .before)))
     (passed w32 (c .as-i32 .ok) (c .as-i32 .ensures))
 
 refined-weight-requires : tie.Need-refined-weight-requires
@@ -35,9 +35,9 @@ enum-known-answer-2 : tie.Need-enum-known-answer-2
 enum-known-answer-2 c = search needs
 
 as-i32-requires : tie.Need-as-i32-requires
-unfolding weighedNumber
+unfolding refinedNumber
 as-i32-requires c κs = let t = c .before in
-    subst (λ (r : Weighed). weighedNumber r < 2 ^ 31) (t .answer2 .given .1) (weight-small _ _ _ (asked (t .before .before)))
+    subst (λ (r : Refined). refinedNumber r < 2 ^ 31) (t .answer2 .given .1) (weight-small _ _ _ (asked (t .before .before)))
 
 pub farzhudyl-refined-weight-spec : {M : Type 1} → statement M
 farzhudyl-refined-weight-spec =

@@ -39,18 +39,6 @@ value-scored h e = omega (zarith, dn-le h, ap dn e)
 scored : {z : ℤ} → Within 19999999 z → carried z ≡ Scored z
 scored h = unmarked (value-scored h)
 
--- the mark, and a word that is not the mark
-pub lone-word : (w : List ℕ) → T (isLoneMinus w) → w ≡ 45 ∷ []
-unfolding isLoneMinus
-lone-word [] t = absurd t
-lone-word (b ∷ w) t =
-    let (e, l) = and-T (eqb b 45) (eqb (length w) 0) t in
-    ap (λ (c : ℕ). c ∷ w) (eqb→eq b 45 e) ∙ ap (λ (v : List ℕ). 45 ∷ v) (no-length w (eqb→eq (length w) 0 l))
-
-pub said-value : (w : List ℕ) → T (not (isLoneMinus w)) → listNumber (pairSaid w) ≡ valueOf w
-unfolding listNumber pairSaid numberFor
-said-value w t = rw (T-false {b = isLoneMinus w} t)
-
 lone-formed : T (isCell (45 ∷ []))
 unfolding isCell isLoneMinus
 lone-formed = tt

@@ -6,14 +6,18 @@ use mathlib.Core.List.{List}
 use Prim.Native.Nat.{ℕ, _<_}
 use lib.IntN.{ℤ, pos, _+ℤ_, _-ℤ_}
 use lib.Signed.{_≤ℤ_}
-use Rattle.lists.specs.Lists.{_lists_}
+use Rattle.lists.specs.Lists.{_∈_}
 use Rattle.integers.specs.Integers.{sumOf}
 use Rattle.sets.specs.Sets.{_∋_, _∌_}
-use Rattle.clusters.specs.PairList.{Similarity}
+use Rattle.clusters.specs.PairList.{Similarity, score}
 use Rattle.clusters.specs.Indices.{strongIndex, cleanIndex, separationIndex}
+use Rattle.clusters.specs.Groups.{Group}
 use Rattle.clusters.specs.Triples.{Triple, tripleWeight, TripleOf, ChosenTriples}
-use Rattle.interface.specs.Demands.{Wrote, Proper}
-use Rattle.interface.specs.Requests.{SamePair}
+use Rattle.demands.specs.Demands.{Wrote, Proper}
+
+-- the same two entries, in one order or the other
+abbrev pub SamePair : (x x′ y y′ : ℕ) → Type 0
+SamePair x x′ y y′ = ((x ≡ y) × (x′ ≡ y′)) ⊎ ((x ≡ y′) × (x′ ≡ y))
 
 -- two entries of A and one outside
 pub record Inside (n A a a′ x : ℕ) : Type 0 where
@@ -80,9 +84,9 @@ pub record LeastIndices : Type 0 where
   pub of-entries : (n A : ℕ) (t : Triple) → TripleOf n A t → Inside n A (t .a) (t .b) (t .c) × (t .a ≢ t .b)
   -- and of what a call wrote: kind 1, with unscored pairs too: no pair of an entry of a listed set is one (2.2,
   -- `touched`)
-  pub strong : {n : ℕ} {s : Similarity} {found : List (ℕ × ℤ)} → Wrote (pos 1) n s found
-      → (A : ℕ) (z : ℤ) → found lists (A, z) → StrongLeast n s A z
-  pub clean : {n : ℕ} {s : Similarity} {found : List (ℕ × ℤ)} → Wrote (pos 2) n s found
-      → (A : ℕ) (z : ℤ) → found lists (A, z) → CleanLeast n s A z
-  pub separation : {n : ℕ} {s : Similarity} {found : List (ℕ × ℤ)} → Wrote (pos 3) n s found
-      → (A : ℕ) (z : ℤ) → found lists (A, z) → SeparationLeast n s A z
+  pub strong : {n : ℕ} {l : List ℤ} {found : List Group} → Wrote (pos 1) n l found
+      → (g : Group) → g ∈ found → StrongLeast n (score l) (g .set) (g .index)
+  pub clean : {n : ℕ} {l : List ℤ} {found : List Group} → Wrote (pos 2) n l found
+      → (g : Group) → g ∈ found → CleanLeast n (score l) (g .set) (g .index)
+  pub separation : {n : ℕ} {l : List ℤ} {found : List Group} → Wrote (pos 3) n l found
+      → (g : Group) → g ∈ found → SeparationLeast n (score l) (g .set) (g .index)

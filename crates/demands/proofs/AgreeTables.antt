@@ -24,7 +24,7 @@ use Rattle.interface.specs.Refusals.{
   scoreChecks,
   sharedChecks,
   poolChecks,
-  weightChecks,
+  refinedChecks,
 }
 use Rattle.interface.specs.Sentences.{SumBeyond}
 use Rattle.interface.specs.Tables.{
@@ -38,7 +38,7 @@ use Rattle.interface.specs.Tables.{
   sharedTable,
   scoresTable,
   poolTable,
-  weightTable,
+  refinedTable,
 }
 use Rattle.interface.proofs.Refusals.{numbered, right-length}
 use Rattle.interface.proofs.Cells.{formed, same, points-out}
@@ -113,9 +113,9 @@ shared-agrees kind n l i j =
     next (one-groups-says kind) λ _. next (six-says n) λ _. next (ten-says n l) λ _. next (eleven-says l) λ _. next (sixteen-list-says kind l) λ _.
     next (twelve-list-says kind n l) λ _. next (entries-say n i j) λ _. done
 
-pub weight-agrees : (n : ℕ) (l : List ℤ) (A : ℕ) → Agree (weightChecks n l A) (weightTable n l A)
-unfolding weightChecks
-weight-agrees n l A =
+pub refined-agrees : (n : ℕ) (l : List ℤ) (A : ℕ) → Agree (refinedChecks n l A) (refinedTable n l A)
+unfolding refinedChecks
+refined-agrees n l A =
     next (six-says n) λ _. next (ten-says n l) λ _. next (eleven-says l) λ _. next (marked-says l) λ _. next (twelve-always-says n l) λ _.
     next (nineteen-says n A) λ _. done
 
@@ -178,6 +178,6 @@ pub shared-numbered : (kind : ℤ) (n : ℕ) (l : List ℤ) (i j : ℕ) → T (n
 unfolding sharedChecks all
 shared-numbered kind n l i j = tt
 
-pub weight-numbered : (n : ℕ) (l : List ℤ) (A : ℕ) → T (numbered (weightChecks n l A))
-unfolding weightChecks all
-weight-numbered n l A = tt
+pub refined-numbered : (n : ℕ) (l : List ℤ) (A : ℕ) → T (numbered (refinedChecks n l A))
+unfolding refinedChecks all
+refined-numbered n l A = tt

@@ -11,18 +11,16 @@ use Rattle.pairs.specs.declared.Pair.{Pair}
 use Rattle.clusters.specs.Linkage.{Linkage}
 use Rattle.answers.specs.declared.Answer.{Answer}
 use Rattle.answers.specs.Answers.{numberOf, countOf}
 use Rattle.interface.specs.Sheet.{entries}
 use Rattle.interface.specs.Listing.{Line, listingRead}
 use Rattle.interface.specs.Calls.{SheetCall, NumbersCall, LinkageCall, AnchoredCall, BackCall, ReaderCall}
-use Rattle.interface.specs.Calls.{pairAmong, ScoreInC, PoolCall}
-use Rattle.interface.specs.Sentences.{DecimalSays, InPoints, markNumber, lower, OtherLength, NoEntries}
-use Rattle.interface.specs.Demands.{Listed}
+use Rattle.interface.specs.Calls.{pairAmong}
+use Rattle.demands.specs.Sentences.{DecimalSays, InPoints, markNumber, lower, OtherLength, NoEntries}
+use Rattle.demands.specs.Demands.{Listed}
 
--- a call that answers a refusal's number, 0 for none, and a count, and writes so many slots of those lent: "Nothing
--- lent is then written; the count and length are 0"; "slots beyond are not touched"
-pub record Kept {A : Type 0} (number count written : ℕ) (lent after : List A) : Type 0 where
-  pub refused : number ≢ 0 → (after ≡ lent) × (count ≡ 0)
-  pub beyond : number ≡ 0 → drop written after ≡ drop written lent
+-- "slots beyond are not touched": those behind the first `written`
+abbrev pub Beyond : {A : Type 0} → (written : ℕ) (lent after : List A) → Type 0
+Beyond written lent after = drop written after ≡ drop written lent
 
 -- lower-case hexadecimal digits, and the number that they say
 pub data HexSays : (bytes : List ℕ) → (n : ℕ) → Type 0 where
@@ -63,30 +61,23 @@ pub record Carries (p : Pair) (number : ℤ) : Type 0 where
   pub scored : number ≢ markNumber → p .carries ≡ Scored number
 
 pub record Written : Type 0 where
-  -- nothing but what is answered
+  -- nothing but what is answered; that a refusal writes nothing is in `TurnedAway`
   pub sheet : {kind : ℤ} {sheet lent after : List ℕ} {r : Answer} → SheetCall kind sheet lent r after
-      → Kept (numberOf r) (countOf r) (countOf r) lent after
-  pub pool : {first second lent after : List ℕ} {r : Answer} → PoolCall first second lent r after
-      → Kept (numberOf r) (countOf r) (countOf r) lent after
+      → numberOf r ≡ 0 → Beyond (countOf r) lent after
   pub linkage : {linkage : Linkage} {n : ℕ} {l : List ℤ} {lent after : List ℕ} {r : Answer}
-      → LinkageCall linkage n l lent r after → Kept (numberOf r) (countOf r) (countOf r) lent after
+      → LinkageCall linkage n l lent r after → numberOf r ≡ 0 → Beyond (countOf r) lent after
   pub anchored : {n x : ℕ} {l lent after : List ℤ} {r : Answer} → AnchoredCall n x l lent r after
-      → Kept (numberOf r) (countOf r) (countOf r) lent after
+      → numberOf r ≡ 0 → Beyond (countOf r) lent after
   pub back : {n x : ℕ} {l lent after : List ℤ} {r : Answer} → BackCall n x l lent r after
-      → Kept (numberOf r) (countOf r) (countOf r) lent after
+      → numberOf r ≡ 0 → Beyond (countOf r) lent after
   -- the reader counts the entries and writes a pair list of them
   pub reader : {sheet : List ℕ} {lent after : List ℤ} {r : Answer} → ReaderCall sheet lent r after
-      → let n = countOf r in Kept (numberOf r) n (n * (n + 1) / 2) lent after × (numberOf r ≡ 0 → n ≡ entries sheet)
+      → numberOf r ≡ 0 → let n = countOf r in (n ≡ entries sheet) × Beyond (n * (n + 1) / 2) lent after
   -- the numbers call "fills all further slots with 0"
-  pub numbers-refused : {kind : ℤ} {n : ℕ} {l lentIndices indices : List ℤ} {lentSets sets : List ℕ} {r : Answer}
-      → NumbersCall kind n l lentSets lentIndices r sets indices → numberOf r ≢ 0
-      → (sets ≡ lentSets) × (indices ≡ lentIndices) × (countOf r ≡ 0)
-  pub numbers-filled : {kind : ℤ} {n : ℕ} {l lentIndices indices : List ℤ} {lentSets sets : List ℕ} {r : Answer}
+  pub numbers : {kind : ℤ} {n : ℕ} {l lentIndices indices : List ℤ} {lentSets sets : List ℕ} {r : Answer}
       → NumbersCall kind n l lentSets lentIndices r sets indices → numberOf r ≡ 0
       → (length sets ≡ length lentSets) × (length indices ≡ length lentIndices)
       × ((k : ℕ) → countOf r ≤ k → (getD sets k 0 ≡ 0) × (getD indices k (pos 0) ≡ pos 0))
-  pub score : {n : ℕ} {l : List ℤ} {i j : ℕ} {lent r after : ℤ} → ScoreInC n l i j lent r after
-      → r ≢ pos 0 → after ≡ lent
   -- what is listed says, byte by byte, the lines that are read back from it
   pub listing : {kind : ℤ} {sheet bytes : List ℕ} → Listed kind sheet bytes
       → (ls : List Line) × ListingSays bytes ls × (listingRead bytes ≡ some ls)

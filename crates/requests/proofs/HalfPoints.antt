@@ -32,7 +32,7 @@ use Rattle.interface.proofs.Unique.{is-read, lines-form}
 use Rattle.interface.proofs.Demands.{answered, not-refused, counted, not-refused-in-C, accepted, wrote, wrote-allowed, wrote-scored}
 use Rattle.interface.proofs.RowStarts.{request-2-3}
 use Rattle.interface.proofs.Pool.{request-2-4}
-use Rattle.interface.proofs.Weighed.{found}
+use Rattle.interface.proofs.Refined.{found}
 use Rattle.interface.proofs.InPoints.{says-value, written-says, one-text}
 use Rattle.interface.proofs.Cells.{cell-at, cells, listed-score}
 use Rattle.interface.proofs.Agree.{agree-none}

@@ -1,21 +1,20 @@
 -- The sentences of the refusal table (document 01, Where a call is turned away), in words: of bytes, lengths, line
 -- feeds counted, pieces between separators, and numbers with their bounds. No check of interface/specs/Refusals is
--- named here.
+-- named here. What only a request's call checks is said in its file of requests/specs.
 use mathlib.Core.Path.{_≡_}
 use mathlib.Core.Logic.{_⊎_, _≢_}
 use mathlib.Core.List.{List, [], _∷_, _++_}
 use Prim.Native.Nat.{ℕ, suc, _+_, _*_, _/_, _<_, _≤_}
-use lib.IntN.{ℤ, pos, negℤ, _+ℤ_}
+use lib.IntN.{ℤ, pos, negℤ}
 use lib.Signed.{_≤ℤ_}
 use lib.Dec.{eqb}
 use lib.ListN.{length, getD}
 use Rattle.lists.specs.Lists.{_∈_, keep}
 use Rattle.integers.specs.Range.{Within}
-use Rattle.sets.specs.Sets.{_∋_, _∌_}
 use Rattle.pairs.specs.declared.Carried.{Carried}
 use Rattle.pairs.specs.declared.Carried.the-variants.{Scored, Unscored}
 use Rattle.clusters.specs.Farris.{anchoredScores}
 use Rattle.interface.specs.Sheet.{lines, names, entries, words}
 
 -- "A to Z"; "0 to 9"
 abbrev pub Upper : ℕ → Type 0
@@ -76,12 +75,9 @@ pub record Parted (sheet : List ℕ) : Type 0 where
 abbrev pub wordAt : (sheet : List ℕ) → (i j : ℕ) → List ℕ
 wordAt sheet i j = getD (words sheet i) j []
 
--- 1: "not 1, 2 or 3"; of the groups that two entries share "Kind 3 gets 1" too (document 02, 2.1)
+-- 1: "not 1, 2 or 3"
 abbrev pub NoKind : ℤ → Type 0
 NoKind kind = (kind ≢ pos 1) × (kind ≢ pos 2) × (kind ≢ pos 3)
-
-abbrev pub NoGroupKind : ℤ → Type 0
-NoGroupKind kind = (kind ≢ pos 1) × (kind ≢ pos 2)
 
 -- 2: "0 bytes, or over 12,288"
 abbrev pub NoneOrTooMany : List ℕ → Type 0
@@ -160,7 +156,7 @@ pub record NoDistance (sheet : List ℕ) : Type 0 where
   pub says : InPoints (wordAt sheet i j) z
   pub wrong : (pos 0 ≤ℤ z → ⊥) ⊎ ((i ≡ j) × (z ≢ pos 0))
 
--- 14: "the listing has more bytes than the buffer"; of two sheets, the pool
+-- 14: "the listing has more bytes than the buffer"
 abbrev pub ShortFor : (text : List ℕ) → (buffer : ℕ) → Type 0
 ShortFor text buffer = buffer < length text
 
@@ -215,43 +211,3 @@ OfNoDistances n x l = (d : List ℤ) → DistanceList n d → l ≡ anchoredScor
 -- "an entry number of n or more" (document 02, 2.1)
 abbrev pub NoEntries : ℕ → (i j : ℕ) → Type 0
 NoEntries n i j = (n ≤ i) ⊎ (n ≤ j)
-
--- Of two sheets (document 02, 2.4): entry i of one and entry j of the other have the same name
-pub record SameName (first second : List ℕ) (i j : ℕ) : Type 0 where
-  pub here : i < entries first
-  pub there : j < entries second
-  pub same : getD (names first) i [] ≡ getD (names second) j []
-
--- 17: "the two name sets differ": not every name of one sheet is on the other
-pub record SameNames (first second : List ℕ) : Type 0 where
-  pub there : (w : List ℕ) → w ∈ names first → w ∈ names second
-  pub back : (w : List ℕ) → w ∈ names second → w ∈ names first
-
--- 18: "a sum out of range", of the numbers that two names have on either sheet
-pub record SumBeyond (first second : List ℕ) : Type 0 where
-  pub i : ℕ
-  pub j : ℕ
-  pub i′ : ℕ
-  pub j′ : ℕ
-  pub one : SameName first second i i′
-  pub other : SameName first second j j′
-  pub y : ℤ
-  pub z : ℤ
-  pub here : InPoints (wordAt first i j) y
-  pub there : InPoints (wordAt second i′ j′) z
-  pub out : Within (2 * 1000000) (y +ℤ z) → ⊥
-
--- Of a split (document 02, 2.5): "a, a' different on one side and b, b' different on the other"
-pub record OnSides (n A a a′ b b′ : ℕ) : Type 0 where
-  pub one-side : (a < n) × (a′ < n) × (A ∋ a) × (A ∋ a′) × (a ≢ a′)
-  pub other-side : (b < n) × (b′ < n) × (A ∌ b) × (A ∌ b′) × (b ≢ b′)
-
--- 19: "a side with fewer than two, or a member numbered n or more": not that both sides have two entries and no member
--- is numbered n or more
-pub record TwoSides (n A : ℕ) : Type 0 where
-  pub members : (i : ℕ) → A ∋ i → i < n
-  pub a : ℕ
-  pub a′ : ℕ
-  pub b : ℕ
-  pub b′ : ℕ
-  pub entries : OnSides n A a a′ b b′

@@ -25,7 +25,7 @@ use Rattle.interface.specs.Least.{Inside, StrongLeast, UnorderedTriple, 
 use Rattle.interface.proofs.Demands.{wrote-allowed, demand-3}
 use Rattle.interface.proofs.Unscored.{strong-wrote}
 use Rattle.interface.proofs.Spoken.{sizes}
-use Rattle.interface.proofs.Weighed.{falling, either-order}
+use Rattle.interface.proofs.Refined.{falling, either-order}
 
 -- each index, of a set that its kind speaks of
 strong-is : (n : ℕ) (s : Similarity) (A : ℕ) → 1 ≤ size n A → size n A < n → StrongLeast n s A (strongIndex n s A)

@@ -36,15 +36,6 @@ use Rattle.interface.proofs.Numerals.{low-digit, decimal-low, decimal-b
 use Rattle.interface.proofs.Points.{half-number, index-back}
 use Rattle.interface.proofs.Values.{numeral-parts, read-signed, value-form}
 
--- whole points and a half more, or none, without a sign
-pub even-text : (n : ℕ) → pointsText (n + n) ≡ decimal n
-unfolding onePoint
-even-text n = let e : n + n ≡ n * 2 + 0 = omega arith in ap pointsText e ∙ half-number n false ∙ append-nil (decimal n)
-
-odd-text : (n : ℕ) → pointsText (n + n + 1) ≡ decimal n ++ halfText
-unfolding onePoint
-odd-text n = let e : n + n + 1 ≡ n * 2 + 1 = omega arith in ap pointsText e ∙ half-number n true
-
 -- the digits of a number say it
 low-says : (n : ℕ) → n < 10 → DecimalSays (decimal n) n
 low-says n h = subst (λ (w : List ℕ). DecimalSays w n) (sym (decimal-low n h)) (one-digit n h)
@@ -121,65 +112,6 @@ one-text a b = says-written a ∙ sym (says-written b)
 
 pub says-value : {w : List ℕ} {z : ℤ} → InPoints w z → valueOf w ≡ z
 says-value {w} {z} a = ap valueOf (says-written a) ∙ read-signed z
-
--- a numeral is below 10,000,000
-numeral-small : (w : List ℕ) → T (isNumeral w) → numberFrom 10 0 w < 10000000
-numeral-small w t = go (decLe (10 ^ 7) (numberFrom 10 0 w))
-  where
-    go : Dec (10 ^ 7 ≤ numberFrom 10 0 w) → numberFrom 10 0 w < 10000000
-    go (yes h) = let (_, d, few) = numeral-parts w t in absurd (omega (arith, decimal-least 7 (numberFrom 10 0 w) h, ap length (decimal-back w d)))
-    go (no f) = omega arith
-
--- a value without its sign is what is written for its half points, fewer than 20,000,000
-points-index : (w : List ℕ) → T (isPoints w) → T (isIndex w)
-unfolding isPoints isIndex
-points-index w t =
-    let (n, e) = and-T (isNumeral (wholePart w)) (isWholeOrHalf w) t in
-    T-and (isDecimal (wholePart w)) (isWholeOrHalf w) (numeral-parts (wholePart w) n .1) e
-
-pub points-back : (w : List ℕ) → T (isPoints w) → pointsText (halfPoints w) ≡ w
-points-back w t = index-back w (points-index w t)
-
-points-small : (w : List ℕ) → T (isPoints w) → halfPoints w < 20000000
-unfolding isPoints halfPoints onePoint
-points-small w t =
-    let n = numeral-small (wholePart w) (and-T (isNumeral (wholePart w)) (isWholeOrHalf w) t .0) in
-    omega (arith, one (hasHalf w))
-  where
-    one : (b : Bool) → cond b 1 0 ≤ 1
-    one true = omega arith
-    one false = omega arith
-
--- only `0` is written for nothing
-zero-text : pointsText 0 ≡ 48 ∷ []
-unfolding decimal decimalFrom digit
-zero-text = even-text 0
-
-pub only-zero : (w : List ℕ) → T (isPoints w) → halfPoints w ≡ 0 → w ≡ 48 ∷ []
-only-zero w t e = sym (points-back w t) ∙ ap pointsText e ∙ zero-text
-
-negative-back : (w : List ℕ) (k : ℕ) → halfPoints w ≡ k → T (isPoints w) → T (not (sameBytes w (48 ∷ [])))
-    → (signedPoints (negℤ (pos k)) ≡ minus ∷ w) × Within 19999999 (negℤ (pos k))
-unfolding signedPoints up dn sameBytes
-negative-back w zero e p n = absurd (subst (λ (v : List ℕ). T (not (sameBytes v (48 ∷ [])))) (only-zero w p e) n)
-negative-back w (suc k) e p n = (
-  ap (λ (v : List ℕ). minus ∷ v) (ap pointsText (sym e) ∙ points-back w p),
-  within (omega arith) (omega (arith, points-small w p)),
-)
-
--- of a well-formed value
-pub value-back : (w : List ℕ) → T (isValue w) → (signedPoints (valueOf w) ≡ w) × Within 19999999 (valueOf w)
-unfolding isValue valueOf signedPoints up dn
-value-back [] t = absurd t
-value-back (b ∷ w) t = go (eqb b minus) refl t
-  where
-    go : (x : Bool) → eqb b minus ≡ x → T (cond x (isPoints w && not (sameBytes w (48 ∷ []))) (isPoints (b ∷ w)))
-        → let z = cond x (negℤ (pos (halfPoints w))) (pos (halfPoints (b ∷ w))) in (signedPoints z ≡ b ∷ w) × Within 19999999 z
-    go true e t =
-        let (p, n) = and-T (isPoints w) (not (sameBytes w (48 ∷ []))) t in
-        let (back, in-range) = negative-back w (halfPoints w) refl p n in
-        (back ∙ ap (λ (c : ℕ). c ∷ w) (sym (eqb→eq b minus (true-T e))), in-range)
-    go false e t = (points-back (b ∷ w) t, within (omega (arith, points-small (b ∷ w) t)) (omega arith))
 
 pub well-formed : (w : List ℕ) → T (isValue w) ↔ ((z : ℤ) × InPoints w z × Within 19999999 z)
 well-formed w = (

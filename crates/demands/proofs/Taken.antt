@@ -55,7 +55,7 @@ use Rattle.interface.proofs.AgreeNumbers.{one-says, third-kind, eleven-
 use Rattle.interface.proofs.AgreeTables.{reader-agrees, reader-numbered}
 use Rattle.interface.proofs.TurnedAway.{turned-away}
 use Rattle.interface.proofs.Requests.{request-2-1}
-use Rattle.interface.proofs.Weighed.{request-2-5}
+use Rattle.interface.proofs.Refined.{request-2-5}
 use Rattle.interface.proofs.Room.{listing-room}
 
 -- a list that fits: no sentence holds

@@ -26,14 +26,14 @@ use Rattle.clusters.specs.PairList.{
 use Rattle.clusters.specs.Indices.{pairsOf}
 use Rattle.clusters.specs.Refined.{quartet, quartets, doubledScore, refinedWeight}
 use Rattle.clusters.specs.Bench.{copies, metric}
-use Rattle.answers.specs.declared.Weighed.{Weighed}
-use Rattle.answers.specs.declared.Weighed.the-variants.{Weight, Refused}
-use Rattle.answers.specs.Weighed.{weighedNumber, weighedWeight, weighedAnswer}
-use Rattle.interface.specs.Refusals.{firstOf, mostEntries, wrongCount, wrongDistances, wrongSide, weightChecks, weightRefusal}
-use Rattle.interface.specs.Calls.{WeightInC}
+use Rattle.answers.specs.declared.Refined.{Refined}
+use Rattle.answers.specs.declared.Refined.the-variants.{Weight, Refused}
+use Rattle.answers.specs.Refined.{refinedNumber, answeredWeight, refinedAnswer}
+use Rattle.interface.specs.Refusals.{firstOf, mostEntries, wrongCount, wrongDistances, wrongSide, refinedChecks, refinedRefusal}
+use Rattle.interface.specs.Calls.{RefinedInC}
 
-abbrev outcome : ℕ → List ℤ → ℕ → Weighed
-outcome n l A = weighedAnswer (weightRefusal n l A) (refinedWeight n (score l) A)
+abbrev outcome : ℕ → List ℤ → ℕ → Refined
+outcome n l A = refinedAnswer (refinedRefusal n l A) (refinedWeight n (score l) A)
 
 -- one split from either side, one that crosses it, a side of one entry, the other side of one entry, a fifth entry; and a weight of 0
 pub record WeightExamples : Type 0 where
@@ -47,24 +47,24 @@ pub record WeightExamples : Type 0 where
 pub weight-examples : WeightExamples
 unfolding copies metric below each keep all minZ eqZ sumOf sum insert sort sumOfSmallest has members size mask complement rowStart place score
     onePoint pointLimit scoreLimit hasLength isInRange isAllowedPair scoresInRange hasUnscored areDistances mark carried isScored pairsOf quartet quartets doubledScore
-    refinedWeight firstOf mostEntries wrongCount wrongDistances wrongSide weightChecks weightRefusal weighedAnswer
+    refinedWeight firstOf mostEntries wrongCount wrongDistances wrongSide refinedChecks refinedRefusal refinedAnswer
 weight-examples = record { four-copies = refl; five-entries = refl }
 
 -- in C: 0 and the weight, which may be negative; the refusal's number and 0
-module _ {n A : ℕ} {l : List ℤ} {r w : ℤ} (given : Weighed) (is : outcome n l A ≡ given) (c : WeightInC n l A r w) where
-  in-C : (r ≡ pos (weighedNumber given)) × (w ≡ weighedWeight given)
+module _ {n A : ℕ} {l : List ℤ} {r w : ℤ} (given : Refined) (is : outcome n l A ≡ given) (c : RefinedInC n l A r w) where
+  in-C : (r ≡ pos (refinedNumber given)) × (w ≡ answeredWeight given)
   in-C =
       let e = c .outcome .answered ∙ is in
-      (c .answered ∙ ap (λ (s : Weighed). pos (weighedNumber s)) e, c .written ∙ ap weighedWeight e)
+      (c .answered ∙ ap (λ (s : Refined). pos (refinedNumber s)) e, c .written ∙ ap answeredWeight e)
 
-pub weight-in-C : {r w : ℤ} → WeightInC 4 copies 12 r w → (r ≡ pos 0) × (w ≡ pos 4)
-unfolding weighedNumber weighedWeight
+pub weight-in-C : {r w : ℤ} → RefinedInC 4 copies 12 r w → (r ≡ pos 0) × (w ≡ pos 4)
+unfolding refinedNumber answeredWeight
 weight-in-C c = in-C (Weight (pos 4)) (ap (λ l. getD l 0 (Refused 0)) (weight-examples .four-copies)) c
 
-pub negative-in-C : {r w : ℤ} → WeightInC 4 copies 6 r w → (r ≡ pos 0) × (w ≡ negℤ (pos 4))
-unfolding weighedNumber weighedWeight
+pub negative-in-C : {r w : ℤ} → RefinedInC 4 copies 6 r w → (r ≡ pos 0) × (w ≡ negℤ (pos 4))
+unfolding refinedNumber answeredWeight
 negative-in-C c = in-C (Weight (negℤ (pos 4))) (ap (λ l. getD l 2 (Refused 0)) (weight-examples .four-copies)) c
 
-pub refused-in-C : {r w : ℤ} → WeightInC 4 copies 7 r w → (r ≡ pos 19) × (w ≡ pos 0)
-unfolding weighedNumber weighedWeight
+pub refused-in-C : {r w : ℤ} → RefinedInC 4 copies 7 r w → (r ≡ pos 19) × (w ≡ pos 0)
+unfolding refinedNumber answeredWeight
 refused-in-C c = in-C (Refused 19) (ap (λ l. getD l 4 (Refused 0)) (weight-examples .four-copies)) c

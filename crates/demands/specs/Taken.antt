@@ -1,5 +1,6 @@
 -- Whatever fits is taken: names and scores that a sheet can have, said by bytes, lengths and numbers, get a listing,
--- and the pair list that they give is taken by every call on it. A buffer or a slice is short only if it measures so.
+-- and the pair list that they give is taken by every call on it (those of the requests in their own files). A buffer or
+-- a slice is short only if it measures so.
 use mathlib.Core.Path.{_≡_}
 use mathlib.Core.Logic.{_⊎_, _≢_}
 use mathlib.Core.List.{List, []}
@@ -13,11 +14,10 @@ use Rattle.clusters.specs.PairList.{Similarity}
 use Rattle.clusters.specs.Linkage.{Linkage}
 use Rattle.answers.specs.declared.Answer.{Answer}
 use Rattle.answers.specs.Answers.{numberOf, countOf}
 use Rattle.interface.specs.Listing.{sheetListing}
 use Rattle.interface.specs.SheetText.{sheetText}
 use Rattle.interface.specs.Calls.{CCall, NumbersCall, LinkageCall, AnchoredCall, ReaderCall, NameInC, ScoreInC}
-use Rattle.interface.specs.Requests.{SharedAnswered, SideWeighed}
-use Rattle.interface.specs.Sentences.{Name, markNumber, HasMark, lower, Distances, TwoSides}
+use Rattle.demands.specs.Sentences.{Name, markNumber, HasMark, lower, Distances}
 
 -- names and scores that a sheet can have: 1 to 32 names, no two equal; of each pair one number for both orders, half
 -- points from −1,000,000 to 1,000,000 points or the mark's
@@ -71,7 +71,7 @@ pub record Taken : Type 0 where
       → NumbersCall kind n l lentSets lentIndices r sets indices
       → (2 * n ≤ length lentSets → 2 * n ≤ length lentIndices → numberOf r ≡ 0)
       × (length lentSets < 2 * n → numberOf r ≡ 13) × (length lentIndices < 2 * n → numberOf r ≡ 13)
-  -- the linkage calls take it if every pair is scored, the anchored call and the weight if they are distances
+  -- the linkage calls take it if every pair is scored, the anchored call if they are distances
   pub linked : {n : ℕ} {l : List ℤ} → FitsList n l → (HasMark l → ⊥)
       → {linkage : Linkage} {lent after : List ℕ} {r : Answer} → LinkageCall linkage n l lent r after
       → (n - 1 ≤ length lent → numberOf r ≡ 0) × (length lent < n - 1 → numberOf r ≡ 15)
@@ -79,11 +79,6 @@ pub record Taken : Type 0 where
       → {x : ℕ} {lent after : List ℤ} {r : Answer} → AnchoredCall n x l lent r after
       → (x < n → n * (n + 1) / 2 ≤ length lent → numberOf r ≡ 0)
       × (n ≤ x → numberOf r ≡ 15) × (length lent < n * (n + 1) / 2 → numberOf r ≡ 15)
-  pub weighed : {n : ℕ} {l : List ℤ} → FitsList n l → Distances n l
-      → {A number : ℕ} {w : ℤ} → SideWeighed n l A number w
-      → (TwoSides n A → number ≡ 0) × ((TwoSides n A → ⊥) → number ≡ 19)
-  pub shared : {n : ℕ} {l : List ℤ} → FitsList n l → {kind : ℤ} → ListKind n l kind → kind ≢ pos 3
-      → {i j number set line : ℕ} → SharedAnswered kind n l i j number set line → i < n → j < n → number ≡ 0
   -- a score is looked up in every list of the right length
   pub looked-up : {n : ℕ} {l : List ℤ} → FitsList n l → {i j : ℕ} {lent r after : ℤ} → ScoreInC n l i j lent r after
       → i < n → j < n → r ≡ pos 0

@@ -27,8 +27,8 @@ use Rattle.clusters.proofs.Groups.{in-groups}
 use Rattle.clusters.proofs.Scored.{list-scored}
 use Rattle.clusters.proofs.Crossing.{refined-never-cross}
 use Rattle.clusters.proofs.Refined.{refined-ge, split-refined, refined-either-side, refined-image, refined-least, refined-attained}
-use Rattle.answers.specs.Weighed.{weighedNumber, weighedWeight, weighedAnswer}
-use Rattle.answers.proofs.Answers.{weighed-number, weighed-nothing, weighed-found}
+use Rattle.answers.specs.Refined.{refinedNumber, answeredWeight, refinedAnswer}
+use Rattle.answers.proofs.Answers.{refined-number, refined-nothing, refined-found}
 use Rattle.interface.specs.Sheet.{entries, value, pairs}
 use Rattle.interface.specs.Refusals.{
   wrongCount,
@@ -39,8 +39,8 @@ use Rattle.interface.specs.Refusals.{
   numbersRefusal,
   sheetCallChecks,
   sheetRefusal,
-  weightChecks,
-  weightRefusal,
+  refinedChecks,
+  refinedRefusal,
 }
 use Rattle.interface.specs.Demands.{Wrote, in-lines, in-slots}
 use Rattle.interface.specs.Requests.{
@@ -58,27 +58,27 @@ use Rattle.interface.specs.Sentences.{OnSides}
 use Rattle.interface.proofs.Refusals.{gives, first-no, no-more, passes, right-length}
 use Rattle.interface.proofs.Sides.{Sides, sides, right-side, of-sides}
 use Rattle.interface.proofs.Agree.{judged}
-use Rattle.interface.proofs.AgreeTables.{weight-agrees, weight-numbered}
+use Rattle.interface.proofs.AgreeTables.{refined-agrees, refined-numbered}
 use Rattle.interface.proofs.Demands.{wrote, accepted, numbers-taken}
 
 -- what was answered, by the checks and the definition
 record Answered (n : ℕ) (l : List ℤ) (A number : ℕ) (w : ℤ) : Type 0 where
-  is-number : number ≡ weightRefusal n l A
-  is-weight : w ≡ weighedWeight (weighedAnswer (weightRefusal n l A) (refinedWeight n (score l) A))
+  is-number : number ≡ refinedRefusal n l A
+  is-weight : w ≡ answeredWeight (refinedAnswer (refinedRefusal n l A) (refinedWeight n (score l) A))
 
 pos-equal : {j k : ℕ} → pos j ≡ pos k → j ≡ k
 pos-equal e = cc
 
 answered : {n : ℕ} {l : List ℤ} {A number : ℕ} {w : ℤ} → SideWeighed n l A number w → Answered n l A number w
 answered {n} {l} {A} (by-weight-call c) = record {
-  is-number = ap weighedNumber (c .answered) ∙ weighed-number _ (weightRefusal n l A);
-  is-weight = ap weighedWeight (c .answered);
+  is-number = ap refinedNumber (c .answered) ∙ refined-number _ (refinedRefusal n l A);
+  is-weight = ap answeredWeight (c .answered);
 }
 answered {n} {l} {A} (by-weight-in-C c number e) =
     let q = c .outcome .answered in
     record {
-      is-number = pos-equal (sym e ∙ c .answered) ∙ ap weighedNumber q ∙ weighed-number _ (weightRefusal n l A);
-      is-weight = c .written ∙ ap weighedWeight q;
+      is-number = pos-equal (sym e ∙ c .answered) ∙ ap refinedNumber q ∙ refined-number _ (refinedRefusal n l A);
+      is-weight = c .written ∙ ap answeredWeight q;
     }
 
 -- two different numbers in falling order: there is one such order
@@ -137,14 +137,14 @@ unordered n A a a′ b b′ s =
 
 -- what 6, 10, 11, 16 and 12 leave, and 19
 weight-left : (n : ℕ) (l : List ℤ) (A : ℕ) → T (not (wrongCount n)) → length l ≡ rowStart n → T (not (not (scoresInRange l))) → T (not (hasUnscored l))
-    → T (not (wrongDistances (pos 3) n l)) → wrongSide n A ≡ false → weightRefusal n l A ≡ 0
-unfolding weightRefusal weightChecks hasLength
+    → T (not (wrongDistances (pos 3) n l)) → wrongSide n A ≡ false → refinedRefusal n l A ≡ 0
+unfolding refinedRefusal refinedChecks hasLength
 weight-left n l A six ten eleven sixteen twelve right =
     sym (gives (first-no (T-false six) (first-no (ap not (eq-eqb (length l) (rowStart n) ten)) (first-no (T-false eleven)
     (first-no (T-false sixteen) (first-no (T-false twelve) (first-no right no-more)))))))
 
 -- a list that the numbers call takes for kind 3, and the list of a sheet that is listed
-list-left : (n : ℕ) (l : List ℤ) (i j A : ℕ) → numbersRefusal (pos 3) n l i j ≡ 0 → wrongSide n A ≡ false → weightRefusal n l A ≡ 0
+list-left : (n : ℕ) (l : List ℤ) (i j A : ℕ) → numbersRefusal (pos 3) n l i j ≡ 0 → wrongSide n A ≡ false → refinedRefusal n l A ≡ 0
 unfolding numbersRefusal numbersChecks all wrongUnscored eqZ
 list-left n l i j A e right =
     let checks = numbersChecks (pos 3) n l i j in
@@ -152,14 +152,14 @@ list-left n l i j A e right =
     (passes checks tt e 3 (lit< tt)) (passes checks tt e 4 (lit< tt)) (passes checks tt e 5 (lit< tt)) right
 
 sheet-left : (sheet : List ℕ) (buffer : ℕ) (A : ℕ) → sheetRefusal (pos 3) sheet buffer ≡ 0 → wrongSide (entries sheet) A ≡ false
-    → weightRefusal (entries sheet) (pairs sheet) A ≡ 0
+    → refinedRefusal (entries sheet) (pairs sheet) A ≡ 0
 unfolding sheetRefusal sheetCallChecks all pairs wrongUnscored eqZ
 sheet-left sheet buffer A e right =
     let checks = sheetCallChecks (pos 3) sheet buffer in
     weight-left (entries sheet) (pairs sheet) A (passes checks tt e 5 (lit< tt)) (length-pairList (entries sheet) (value sheet))
     (passes checks tt e 9 (lit< tt)) (passes checks tt e 10 (lit< tt)) (passes checks tt e 11 (lit< tt)) right
 
-taken : {n : ℕ} {l : List ℤ} {found : List (ℕ × ℤ)} → WroteOf (pos 3) n l found → (A : ℕ) → Sides n A → weightRefusal n l A ≡ 0
+taken : {n : ℕ} {l : List ℤ} {found : List (ℕ × ℤ)} → WroteOf (pos 3) n l found → (A : ℕ) → Sides n A → refinedRefusal n l A ≡ 0
 taken (for-list {n} {l = l} c) A s = let t = numbers-taken c in list-left n l (t .setSlots) (t .indexSlots) A (t .passed) (right-side s)
 taken (for-sheet {sheet} l e) A s = let a = accepted l in sheet-left sheet (a .buffer) A (a .passed) (right-side s)
 
@@ -174,15 +174,15 @@ pub record Found (n : ℕ) (l : List ℤ) (A : ℕ) (w : ℤ) : Type 0 where
   pub weight : w ≡ refinedWeight n (score l) A
 
 pub found : {n : ℕ} {l : List ℤ} {A : ℕ} {w : ℤ} → SideWeighed n l A 0 w → Found n l A w
-unfolding weightRefusal weightChecks all
+unfolding refinedRefusal refinedChecks all
 found {n} {l} {A} c =
     let a = answered c in
-    let checks = weightChecks n l A in
-    let zero : weightRefusal n l A ≡ 0 = sym (a .is-number) in
+    let checks = refinedChecks n l A in
+    let zero : refinedRefusal n l A ≡ 0 = sym (a .is-number) in
     record {
       of-sides = sides (T-false {b = wrongSide n A} (passes checks tt zero 5 (lit< tt)));
       scored = list-scored n l (right-length n l (T-false {b = not (hasLength n l)} (passes checks tt zero 1 (lit< tt)))) (passes checks tt zero 3 (lit< tt));
-      weight = a .is-weight ∙ ap (λ (k : ℕ). weighedWeight (weighedAnswer k (refinedWeight n (score l) A))) zero ∙ weighed-found (refinedWeight n (score l) A);
+      weight = a .is-weight ∙ ap (λ (k : ℕ). answeredWeight (refinedAnswer k (refinedWeight n (score l) A))) zero ∙ refined-found (refinedWeight n (score l) A);
     }
 
 -- the other side
@@ -209,8 +209,8 @@ wrong-other n A h = go (wrongSide n (complement n A)) (wrongSide n A) refl refl
     go true false e f = sym e ∙ right-side (other-side (sides f))
     go false true e f = sym (right-side (back h (sides e))) ∙ f
 
-refusal-other : (n : ℕ) (l : List ℤ) (A : ℕ) → A < 2 ^ n → weightRefusal n l (complement n A) ≡ weightRefusal n l A
-unfolding weightRefusal weightChecks
+refusal-other : (n : ℕ) (l : List ℤ) (A : ℕ) → A < 2 ^ n → refinedRefusal n l (complement n A) ≡ refinedRefusal n l A
+unfolding refinedRefusal refinedChecks
 refusal-other n l A h = rw (wrong-other n A h)
 
 -- a line of kind 3: the weight of the side that is written
@@ -257,12 +257,12 @@ apart n A C (inr (inl s)) i j k m hi hj hk hm _ _ _ (p, q) = clash (s .all m hm 
 apart n A C (inr (inr s)) i j k m hi hj hk hm _ _ (p, q) _ = clash q (of-complement n C hk (s .all k hk (in-complement n A hk p)))
 
 pub request-2-5 : Request-2-5
-unfolding weightRefusal kindOf eqZ doubledScore
+unfolding refinedRefusal kindOf eqZ doubledScore
 request-2-5 = record {
-  judged = λ {n} {l} {A} c. judged (weight-agrees n l A) (weight-numbered n l A) (answered c .is-number);
+  judged = λ {n} {l} {A} c. judged (refined-agrees n l A) (refined-numbered n l A) (answered c .is-number);
   refused = λ {n} {l} {A} c d. let a = answered c in
-      a .is-weight ∙ weighed-nothing (refinedWeight n (score l) A) (weightRefusal n l A) (λ z. d (a .is-number ∙ z));
-  in-C = λ c. (weighedNumber (c .given), c .answered);
+      a .is-weight ∙ refined-nothing (refinedWeight n (score l) A) (refinedRefusal n l A) (λ z. d (a .is-number ∙ z));
+  in-C = λ c. (refinedNumber (c .given), c .answered);
   unordered = unordered;
   of-sides = of-sides;
   doubled = λ d q. smaller-of (d (q .a) (q .b) +ℤ d (q .a′) (q .b′)) (d (q .a) (q .b′) +ℤ d (q .a′) (q .b)) (d (q .a) (q .a′) +ℤ d (q .b) (q .b′));
@@ -276,7 +276,7 @@ request-2-5 = record {
       let a′ = answered c′ in
       let k = refusal-other n l A h in (
         a′ .is-number ∙ k ∙ sym (a .is-number),
-        a′ .is-weight ∙ ap₂ (λ (k : ℕ) w. weighedWeight (weighedAnswer k w)) k (refined-either-side n (score l) (score-symm l) A) ∙ sym (a .is-weight),
+        a′ .is-weight ∙ ap₂ (λ (k : ℕ) w. answeredWeight (refinedAnswer k w)) k (refined-either-side n (score l) (score-symm l) A) ∙ sym (a .is-weight),
       );
   reordered = λ {n} {l} {l′} {A} p c c′ r.
       found c′ .weight ∙ refined-image n p (score l) (score l′) r (score-symm l) (score-symm l′) A ∙ sym (found c .weight);

@@ -1,0 +1,17 @@
+pub mod InPoints
+pub mod Cells
+pub mod Agree
+pub mod AgreeText
+pub mod AgreeNumbers
+pub mod AgreeValues
+pub mod AgreeTables
+pub mod Sides
+pub mod Spoken
+pub mod Demands
+pub mod TurnedAway
+pub mod Unique
+pub mod Starts
+pub mod Taken
+pub mod Merging
+pub mod Written
+pub mod Least

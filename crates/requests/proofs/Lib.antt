@@ -1,0 +1,9 @@
+pub mod Shared
+pub mod SharedExample
+pub mod Unscored
+pub mod RowStarts
+pub mod Pool
+pub mod PoolExample
+pub mod Refined
+pub mod RefinedExample
+pub mod HalfPoints
