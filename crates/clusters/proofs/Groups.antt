@@ -139,6 +139,13 @@ in-groupsBy test index n g = (
     with-index : ℕ → Group
     with-index A = record { set = A; index = index A }
 
+pub line-by : (test : ℕ → Bool) (index : ℕ → ℤ) (n A : ℕ) (z : ℤ) → HasLine (groupsBy test index n) A z ↔ ((A < 2 ^ n) × T (test A) × (z ≡ index A))
+line-by test index n A z = (
+  λ (g, m, a, e). subst (λ (B : ℕ). (B < 2 ^ n) × T (test B) × (z ≡ index B)) a
+      (let (h, t, i) = in-groupsBy test index n g .0 m in (h, t, sym e ∙ i)),
+  λ (h, t, e). let g : Group = record { set = A; index = z } in (g, in-groupsBy test index n g .1 (h, t, e), refl, refl),
+)
+
 -- tests and indices that agree list the same
 pub groupsBy-same : (test test′ : ℕ → Bool) (index index′ : ℕ → ℤ) (n : ℕ) → ((A : ℕ) → test A ≡ test′ A) → ((A : ℕ) → T (test′ A) → index A ≡ index′ A)
     → groupsBy test index n ≡ groupsBy test′ index′ n
@@ -167,11 +174,8 @@ module _ (k : Kind) (n : ℕ) (s : Similarity) where
       (g, in-groups g .1 (h, t, refl), refl, refl)
 
   pub line-of : (A : ℕ) (z : ℤ) → HasLine (groups k n s) A z ↔ ((A < 2 ^ n) × T (listed k n s A) × (z ≡ index k n s A))
-  line-of A z = (
-    λ (g, m, a, e). subst (λ (B : ℕ). (B < 2 ^ n) × T (listed k n s B) × (z ≡ index k n s B)) a
-        (let (h, t, i) = in-groups g .0 m in (h, t, sym e ∙ i)),
-    λ (h, t, e). let (g, m, a, i) = set-line (in-groupSets A .1 (h, t)) in (g, m, a, i ∙ sym e),
-  )
+  unfolding groups
+  line-of A z = line-by (listed k n s) (index k n s) n A z
 
 -- the written order
 pub before-apart : (n : ℕ) {A B : ℕ} → Before n A B → A ≢ B

@@ -1,13 +1,13 @@
 -- A table of checks beside a table in words: the same numbers, and as long as no check before it holds, each check holds exactly if its
--- sentence does. And what is then answered, here or in C.
+-- sentence does. And what is then answered.
 use mathlib.Core.Path.{_≡_, refl, sym, ap, _∙_}
 use mathlib.Core.Bool.{Bool, true, false, not, _&&_, _||_}
-use mathlib.Core.Logic.{_⊎_, inl, inr, _↔_}
+use mathlib.Core.Logic.{_⊎_, inl, inr, _≢_, _↔_}
 use mathlib.Core.List.{List, [], _∷_, _++_}
 use Prim.Native.Nat.{ℕ, zero, suc, _<_, _≤_}
 use native.Mathlib.Omega.{arith}
 use lib.Dec.{T, T-not, not-T, eqb, eqb→eq, leb, ltb, leb→le, le→leb}
-use lib.IntN.{ℤ, pos, negℤ}
+use lib.IntN.{ℤ}
 use lib.Signed.{_≤ℤ_, leZ, leZ-yes}
 use borrow.Author.Tests.{lt-ltb, ltb-true}
 use Rattle.lists.specs.Lists.{_∈_, all}
@@ -16,12 +16,11 @@ use Rattle.lists.proofs.Lists.{all-in, in-all, some-fails}
 use Rattle.integers.specs.Integers.{eqZ}
 use Rattle.integers.proofs.Linear.{eqZ-yes, yes-eqZ}
 use Rattle.answers.specs.declared.Answer.{Answer}
-use Rattle.answers.specs.declared.Answer.the-variants.{Count, Refused}
-use Rattle.answers.specs.Answers.{numberOf}
+use Rattle.answers.specs.Answers.{numberOf, countOf, answer, slots}
+use Rattle.answers.proofs.Answers.{its-number, count-refused, slots-refused}
 use Rattle.interface.specs.Refusals.{Check, firstOf, none}
-use Rattle.interface.specs.Calls.{InC, cNumber}
-use Rattle.interface.proofs.Refusals.{numbered}
-use Rattle.interface.specs.Tables.{Table, GivenFirst, NoneGiven, Judged, JudgedInC}
+use Rattle.demands.specs.Tables.{Table, GivenFirst, NoneGiven, Judged}
+use Rattle.demands.specs.TurnedAway.{JudgedBy}
 
 -- a test and what it tests
 pub record Says (b : Bool) (A : Type 0) : Type 0 where
@@ -96,11 +95,14 @@ module _ {A : Type 0} {p : A → Bool} {P : A → Type 0} (f : (x : A) → Says 
     from = λ (x, m, g). not-T (all p l) (λ t. g (f x .to (all-in p l t m)));
   }
 
--- the two tables
+pub above : {k : ℕ} → k ≢ 0 → 0 < k
+above f = omega arith
+
+-- the two tables: the same numbers, none of which is 0
 pub data Agree : List Check → Table → Type 1 where
   done : Agree [] []
   next : {k : ℕ} {b : Bool} {S : Type 0} {checks : List Check} {table : Table} → Says b S → (T (not b) → Agree checks table)
-      → Agree ((k, b) ∷ checks) ((k, S) ∷ table)
+      → Agree ((suc k, b) ∷ checks) ((suc k, S) ∷ table)
 
 pub agree-append : {l m : List Check} {t u : Table} → Agree l t → (T (none l) → Agree m u) → Agree (l ++ m) (t ++ u)
 unfolding all
@@ -113,57 +115,63 @@ unfolding firstOf
 agree-first done k h = (λ e. absurd (omega arith), λ x. absurd x)
 agree-first (next {k = j} {b = true} {S} {checks} {table} s rest) k h = (λ e. inl (e, s .to tt), back)
   where
-    back : ((j ≡ k) × S) ⊎ ((S → ⊥) × GivenFirst table k) → j ≡ k
+    back : ((suc j ≡ k) × S) ⊎ ((S → ⊥) × GivenFirst table k) → suc j ≡ k
     back (inl (e, _)) = e
     back (inr (f, _)) = absurd (f (s .to tt))
 agree-first (next {k = j} {b = false} {S} {checks} {table} s rest) k h =
     let ih = agree-first (rest tt) k h in
     (λ e. inr (λ x. s .from x, ih .0 e), back ih)
   where
-    back : (firstOf checks ≡ k) ↔ GivenFirst table k → ((j ≡ k) × S) ⊎ ((S → ⊥) × GivenFirst table k) → firstOf checks ≡ k
+    back : (firstOf checks ≡ k) ↔ GivenFirst table k → ((suc j ≡ k) × S) ⊎ ((S → ⊥) × GivenFirst table k) → firstOf checks ≡ k
     back ih (inl (_, x)) = absurd (s .from x)
     back ih (inr (_, x)) = ih .1 x
 
-pub agree-none : {l : List Check} {t : Table} → Agree l t → T (numbered l) → (firstOf l ≡ 0) ↔ NoneGiven t
-unfolding firstOf all
-agree-none done n = (λ e. tt, λ x. refl)
-agree-none (next {k = zero} {b = true} s rest) n = absurd n
-agree-none (next {k = suc j} {b = true} s rest) n = (λ e. absurd (omega arith), λ (f, _). absurd (f (s .to tt)))
-agree-none (next {k = j} {b = false} {S} {checks} {table} s rest) n =
-    let ih = agree-none (rest tt) (and-T (not (eqb j 0)) (numbered checks) n .1) in
+pub agree-none : {l : List Check} {t : Table} → Agree l t → (firstOf l ≡ 0) ↔ NoneGiven t
+unfolding firstOf
+agree-none done = (λ e. tt, λ x. refl)
+agree-none (next {b = true} s rest) = (λ e. absurd (omega arith), λ (f, _). absurd (f (s .to tt)))
+agree-none (next {b = false} {S} {checks} {table} s rest) =
+    let ih = agree-none (rest tt) in
     (λ e. (λ x. s .from x, ih .0 e), λ (_, x). ih .1 x)
 
--- a number that a table of checks gives
-pub judged : {l : List Check} {t : Table} {number : ℕ} → Agree l t → T (numbered l) → number ≡ firstOf l → Judged t number
-judged a n e = record {
+-- a number that a table of checks gives, and what a refusal leaves
+pub judged : {l : List Check} {t : Table} {number : ℕ} {Nothing : Type 0} → Agree l t → number ≡ firstOf l → (number ≢ 0 → Nothing) → Judged t number Nothing
+judged a e nothing = record {
   refused = λ k h. let f = agree-first a k h in (λ q. f .0 (sym e ∙ q), λ x. e ∙ f .1 x);
-  taken = let f = agree-none a n in (λ q. f .0 (sym e ∙ q), λ x. e ∙ f .1 x);
+  taken = let f = agree-none a in (λ q. f .0 (sym e ∙ q), λ x. e ∙ f .1 x);
+  nothing = nothing;
 }
 
--- an answer and its number in C
-pub refused-number : (a : Answer) (k : ℕ) → 0 < k → (cNumber a ≡ negℤ (pos k)) ↔ (numberOf a ≡ k)
-unfolding cNumber numberOf
-refused-number a zero h = absurd (omega arith)
-refused-number (Count c) (suc k) h = (λ e. let z : _≡_ {A = ℕ} 0 1 = cc in absurd (omega arith), λ e. absurd (omega arith))
-refused-number (Refused zero) (suc k) h = (λ e. let z : _≡_ {A = ℕ} 0 1 = cc in absurd (omega arith), λ e. absurd (omega arith))
-refused-number (Refused (suc j)) (suc k) h = (λ e. let z : j ≡ k = cc in ap suc z, λ e. ap (λ (i : ℕ). negℤ (pos i)) e)
+-- a call whose checks give the number of its answer, and which writes a result to one slice
+pub judged-by : {l : List Check} {t : Table} {A : Type 0} {r : Answer} {lent after : List A} → Agree l t → (c : ℕ) (result : List A)
+    → r ≡ answer (firstOf l) c → after ≡ slots (firstOf l) result lent → JudgedBy t r lent after
+judged-by {l} {lent = lent} a c result e w = judged a (its-number (firstOf l) c e) λ f.
+    let h : 0 < firstOf l = above (λ z. f (its-number (firstOf l) c e ∙ z)) in
+    (w ∙ slots-refused (firstOf l) result lent h, ap countOf e ∙ count-refused (firstOf l) c h)
 
-pub counted-number : (a : Answer) → ((count : ℕ) × (cNumber a ≡ pos count)) ↔ (numberOf a ≡ 0)
-unfolding cNumber numberOf
-counted-number (Count c) = (λ _. refl, λ _. (c, refl))
-counted-number (Refused zero) = (λ _. refl, λ _. (0, refl))
-counted-number (Refused (suc j)) = (λ (c, e). let z : _≡_ {A = ℕ} 0 1 = cc in absurd (omega arith), λ e. absurd (omega arith))
+-- tables in words, one behind the other
+pub none-both : (t u : Table) → NoneGiven t → NoneGiven u → NoneGiven (t ++ u)
+none-both [] u x y = y
+none-both ((k, S) ∷ t) u (f, x) y = (f, none-both t u x y)
 
-pub judged-in-C : {Outcome : Answer → Type 0} {r : ℤ} {table : Table} → InC Outcome r → ((a : Answer) → Outcome a → Judged table (numberOf a)) → JudgedInC table r
-judged-in-C c f =
-    let j = f (c .given) (c .outcome) in
-    record {
-      refused = λ k h.
-          let g = refused-number (c .given) k h in
-          let i = j .refused k h in
-          (λ e. i .0 (g .0 (sym (c .number) ∙ e)), λ x. c .number ∙ g .1 (i .1 x));
-      taken =
-          let g = counted-number (c .given) in
-          let i = j .taken in
-          (λ (n, e). i .0 (g .0 (n, sym (c .number) ∙ e)), λ x. let (n, e) = g .1 (i .1 x) in (n, c .number ∙ e));
-    }
+pub given-behind : (t u : Table) (k : ℕ) → NoneGiven t → GivenFirst u k → GivenFirst (t ++ u) k
+given-behind [] u k x y = y
+given-behind ((j, S) ∷ t) u k (f, x) y = inr (f, given-behind t u k x y)
+
+-- the sentence that stands under a number, the first of them; no number is given: it does not hold
+abbrev pub Either : Bool → Type 0 → Type 0 → Type 0
+Either true S R = S
+Either false S R = R
+
+unfoldable pub Under : ℕ → Table → Type 0
+Under k [] = ⊥
+Under k ((number, S) ∷ table) = Either (eqb number k) S (Under k table)
+
+pub denied-under : (k : ℕ) (table : Table) → NoneGiven table → Under k table → ⊥
+unfolding Under
+denied-under k [] x s = s
+denied-under k ((number, S) ∷ table) (f, x) s = go (eqb number k) s (denied-under k table x)
+  where
+    go : (b : Bool) → Either b S (Under k table) → (Under k table → ⊥) → ⊥
+    go true s ih = f s
+    go false s ih = ih s

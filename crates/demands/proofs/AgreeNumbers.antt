@@ -1,4 +1,4 @@
--- Of kinds, pair lists, slices, anchors, names and sides: 1, 10 to 13, 15, 16, 17 and 19 beside their sentences.
+-- Of kinds, pair lists, slices and anchors: 1, 10 to 13, 15 and 16 beside their sentences.
 use mathlib.Core.Path.{_≡_, sym, _∙_, subst}
 use mathlib.Core.Bool.{Bool, not, _||_}
 use mathlib.Core.Logic.{_⊎_, inl, inr, ⊎-elim, _≢_, _↔_}
@@ -11,7 +11,7 @@ use lib.Signed.{_≤ℤ_, leZ}
 use lib.ListN.{length}
 use Rattle.lists.specs.Lists.{_∈_, below, all}
 use Rattle.lists.proofs.Lists.{below-lt, lt-below}
-use Rattle.lists.proofs.Tests.{or-T, T-or-left, T-or-right, T-false, false-T}
+use Rattle.lists.proofs.Tests.{or-T, T-or-left, T-or-right}
 use Rattle.integers.specs.Integers.{eqZ}
 use Rattle.integers.specs.Range.{Within}
 use Rattle.pairs.specs.Pairs.{mark, carried}
@@ -20,10 +20,8 @@ use Rattle.clusters.specs.Farris.{isAnchored}
 use Rattle.clusters.proofs.Farris.{anchored-iff}
 use Rattle.clusters.proofs.PairList.{score-row}
 use Rattle.clusters.proofs.Scored.{range-within, within-range, allowed-cases, within-allowed, unscored-there}
-use Rattle.interface.specs.Sheet.{names}
 use Rattle.interface.specs.Refusals.{
   wrongKind,
-  wrongGroupKind,
   wrongUnscored,
   wrongDistances,
   fewSlots,
@@ -31,16 +29,11 @@ use Rattle.interface.specs.Refusals.{
   shortSlice,
   notAnchored,
   wrongEntries,
-  namesDiffer,
-  wrongSide,
 }
 use Rattle.interface.proofs.Accepted.{mark-allowed}
 use Rattle.interface.proofs.Anchored.{judged}
-use Rattle.interface.proofs.Sides.{sides, right-side, two-sides, of-two-sides}
-use Rattle.interface.proofs.Places.{same-names, names-same}
-use Rattle.interface.specs.Sentences.{
+use Rattle.demands.specs.Sentences.{
   NoKind,
-  NoGroupKind,
   OtherLength,
   BeyondMillion,
   HasMark,
@@ -51,10 +44,8 @@ use Rattle.interface.specs.Sentences.{
   DistanceList,
   OfNoDistances,
   NoEntries,
-  SameNames,
-  TwoSides,
 }
-use Rattle.interface.proofs.Agree.{Says, says, or-says, and-says, not-says, denied, decided, like, eq-says, le-says, lt-says, eqZ-says, leZ-says, all-says, some-says}
+use Rattle.demands.proofs.Agree.{Says, says, or-says, and-says, not-says, decided, like, eq-says, le-says, lt-says, eqZ-says, leZ-says, all-says, some-says}
 
 -- 1
 pub one-says : (kind : ℤ) → Says (wrongKind kind) (NoKind kind)
@@ -68,18 +59,6 @@ third-kind e = (
   λ f. let z : _≡_ {A = ℕ} 3 1 = cc in absurd (omega arith),
   λ f. let z : _≡_ {A = ℕ} 3 2 = cc in absurd (omega arith),
 )
-
-pub one-groups-says : (kind : ℤ) → Says (wrongGroupKind kind) (NoGroupKind kind)
-unfolding wrongGroupKind
-one-groups-says kind = like (or-says (one-says kind) (eqZ-says kind (pos 3))) fore (λ (a, b). rear a b (decided (eqZ-says kind (pos 3))))
-  where
-    fore : NoKind kind ⊎ (kind ≡ pos 3) → NoGroupKind kind
-    fore (inl (a, b, _)) = (a, b)
-    fore (inr e) = third-kind e
-
-    rear : kind ≢ pos 1 → kind ≢ pos 2 → (kind ≡ pos 3) ⊎ (kind ≢ pos 3) → NoKind kind ⊎ (kind ≡ pos 3)
-    rear a b (inl e) = inr e
-    rear a b (inr c) = inl (a, b, c)
 
 -- 10
 pub ten-says : (n : ℕ) (l : List ℤ) → Says (not (hasLength n l)) (OtherLength n l)
@@ -197,17 +176,3 @@ back-says n x l slots long = record { to = λ t. fore (or-T front (notAnchored n
         let under : n ≤ x → ⊥ = λ h. f (inl h) in
         let (d, size, range, distances, e) = anchored-iff n x l (omega arith) long .0 t in
         g d (distances-list n d .1 (size, range, distances)) (sym e)))
-
--- 17
-pub names-say : (first second : List ℕ) → Says (not (namesDiffer (names first) (names second))) (SameNames first second)
-names-say first second = record {
-  to = λ t. let (f, g) = same-names (names first) (names second) (T-false {b = namesDiffer (names first) (names second)} t) in record { there = f; back = g };
-  from = λ m. false-T (names-same (names first) (names second) (m .there) (m .back));
-}
-
-pub seventeen-says : (first second : List ℕ) → Says (namesDiffer (names first) (names second)) (SameNames first second → ⊥)
-seventeen-says first second = denied (names-say first second)
-
--- 19
-pub nineteen-says : (n A : ℕ) → Says (wrongSide n A) (TwoSides n A → ⊥)
-nineteen-says n A = denied (record { to = λ t. two-sides (sides (T-false {b = wrongSide n A} t)); from = λ x. false-T (right-side (of-two-sides x)) })

@@ -28,11 +28,11 @@ use Rattle.interface.specs.Sheet.{
   isAmong,
   hasEqual,
 }
 use Rattle.interface.specs.Refusals.{mostBytes, wrongLength, isAllowed, wrongByte, wrongNames, equalNames, mostEntries, wrongCount, wrongLines, isRow, wrongValues}
 use Rattle.interface.proofs.Pieces.{some-piece, longer-length, free, cut-last, cut-first}
 use Rattle.interface.proofs.Names.{among-in, in-among}
-use Rattle.interface.proofs.Cells.{cell-says, says-cell}
-use Rattle.interface.specs.Sentences.{
+use Rattle.demands.proofs.Cells.{cell-says, says-cell}
+use Rattle.demands.specs.Sentences.{
   Upper,
   Digit,
   Name,
@@ -51,7 +51,7 @@ use Rattle.interface.specs.Sentences.{
   NotSoManyLines,
   IllFormed,
 }
-use Rattle.interface.proofs.Agree.{Says, or-says, and-says, not-says, like, eq-says, le-says, lt-says, all-says, some-says}
+use Rattle.demands.proofs.Agree.{Says, or-says, and-says, not-says, like, eq-says, le-says, lt-says, all-says, some-says}
 
 -- pieces
 pieces-longer : {c b : ℕ} {t : List ℕ} {ws : List (List ℕ)} → c ≢ b → Pieces c t ws → Pieces c (b ∷ t) (longer b ws)

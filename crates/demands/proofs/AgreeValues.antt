@@ -18,13 +18,13 @@ use Rattle.pairs.proofs.Pairs.{marked, number-carried}
 use Rattle.clusters.specs.PairList.{rowStart, hasUnscored, areDistances}
 use Rattle.clusters.proofs.PairList.{of-pairList, pairList-at}
 use Rattle.clusters.proofs.Scored.{unscored-there}
 use Rattle.interface.specs.Sheet.{isLoneMinus, pairSaid, entries, value, mirrored, pairs}
 use Rattle.interface.specs.Refusals.{wrongValues, wrongUnscored, wrongDistances}
-use Rattle.interface.specs.Sentences.{InPoints, CellSays, points, lone-minus, wordAt, MirroredDiffer, Unmeasured, NoDistance, lower, NoDistances}
+use Rattle.demands.specs.Sentences.{InPoints, CellSays, points, lone-minus, wordAt, MirroredDiffer, Unmeasured, NoDistance, lower, NoDistances}
 use Rattle.interface.proofs.Accepted.{mirrored-same, unscored-left}
-use Rattle.interface.proofs.Cells.{said-points, one-cell, cell, listed-value}
-use Rattle.interface.proofs.Agree.{Says, says, and-says, not-says, like, eqZ-says, all-says, some-says}
-use Rattle.interface.proofs.AgreeNumbers.{third-kind, no-distances-say}
+use Rattle.demands.proofs.Cells.{said-points, one-cell, cell, listed-value}
+use Rattle.demands.proofs.Agree.{Says, says, and-says, not-says, like, eqZ-says, all-says, some-says}
+use Rattle.demands.proofs.AgreeNumbers.{third-kind, no-distances-say}
 
 -- a score is not the mark
 no-score : {z : ℤ} → Unscored ≡ Scored z → ⊥

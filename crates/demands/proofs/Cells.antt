@@ -23,13 +23,13 @@ use Rattle.pairs.proofs.Pairs.{unmarked}
 use Rattle.clusters.specs.PairList.{score, scoreLimit, onePoint, pointLimit, isAllowedPair, scoresInRange}
 use Rattle.clusters.proofs.PairList.{in-pairList, of-pairList, score-mirrored}
 use Rattle.clusters.proofs.Scored.{allowed-within, within-range}
 use Rattle.interface.specs.Sheet.{isLoneMinus, isValue, isCell, valueOf, pairSaid, entries, words, value, mirrored, pairs}
 use Rattle.interface.specs.Refusals.{none, wrongValues, isRow, readerChecks}
-use Rattle.interface.specs.Sentences.{InPoints, CellSays, points, lone-minus, wordAt, PointsOut}
-use Rattle.interface.proofs.Refusals.{first-none, passes}
+use Rattle.demands.specs.Sentences.{InPoints, CellSays, points, lone-minus, wordAt, PointsOut}
+use Rattle.interface.proofs.Refusals.{first-none, under, passes}
 use Rattle.interface.proofs.Accepted.{not-not, mirrored-same}
-use Rattle.interface.proofs.Values.{signed-lone}
-use Rattle.interface.proofs.InPoints.{says-written, says-value, written-says, value-back, well-formed}
+use Rattle.interface.proofs.Values.{signed-lone, value-back, lone-word, said-value}
+use Rattle.demands.proofs.InPoints.{says-written, says-value, written-says, well-formed}
 
 -- a value is not the mark's number: 7 digits are too few
 pub value-scored : {z : ℤ} → Within 19999999 z → z ≢ mark
@@ -106,12 +106,12 @@ module _ (s : List ℕ) where
 
   module _ (t : T (none (readerChecks s))) where
     pub formed : T (not (wrongValues s))
-    unfolding readerChecks all
-    formed = passes (readerChecks s) tt (first-none (readerChecks s) tt .1 t) 6 (lit< tt)
+    unfolding readerChecks under all
+    formed = passes 8 (readerChecks s) tt (first-none (readerChecks s) tt .1 t)
 
     pub same : T (mirrored (entries s) (value s))
-    unfolding readerChecks all
-    same = not-not (mirrored (entries s) (value s)) (passes (readerChecks s) tt (first-none (readerChecks s) tt .1 t) 7 (lit< tt))
+    unfolding readerChecks under all
+    same = not-not (mirrored (entries s) (value s)) (passes 9 (readerChecks s) tt (first-none (readerChecks s) tt .1 t))
 
     pub cells : (i j : ℕ) → i < entries s → j < entries s → CellSays (wordAt s i j) (carried (value s i j))
     cells = cell formed

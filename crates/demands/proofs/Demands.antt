@@ -7,13 +7,13 @@ use Prim.Native.Nat.{ℕ, zero, suc, _-_, _^_, _<_, _≤_}
 use native.Mathlib.Nat.{pow-le-pow-right}
 use native.Mathlib.Omega.{arith}
 use lib.IntN.{ℤ, pos, negℤ}
-use lib.Signed.{_≤ℤ_}
+use lib.Signed.{_≤ℤ_, leZ, leZ-yes}
 use lib.Dec.{T, lit<}
 use lib.ListN.{length, take, drop, replicate, length-map}
 use lib.Seq.{take-append-seam, drop-append-seam}
-use Rattle.lists.specs.Lists.{_∈_, _lists_, all}
+use Rattle.lists.specs.Lists.{_∈_}
 use Rattle.lists.proofs.Lists.{of-map}
-use Rattle.lists.proofs.Tests.{T-false}
+use Rattle.lists.proofs.Tests.{T-false, and-T, T-and}
 use Rattle.integers.specs.Integers.{eqZ}
 use Rattle.integers.proofs.Linear.{zarith, up, dn}
 use Rattle.sets.specs.Sets.{size, complement}
@@ -24,10 +24,11 @@ use Rattle.clusters.specs.Farris.{farris, unfarris, anchoredScores, distancesBa
 use Rattle.sets.specs.Sets.{_∪_}
 use Rattle.clusters.specs.Linkage.{Linkage, singles, Tree, mergedBlocks, blocks}
 use Rattle.clusters.proofs.Exists.{tree-length}
-use Rattle.clusters.specs.Groups.{Kind, strong, clean, splits, kindOf, index, groupSets, groups, treeLinkage, TreeScores}
+use Rattle.clusters.specs.Groups.{Kind, Group, HasLine, strong, clean, splits, kindOf, speaksOf, positive, groupSets, groups, treeLinkage, TreeScores}
 use Rattle.clusters.proofs.Farris.{separation-either-side}
 use Rattle.clusters.proofs.PairList.{score-symm, length-pairList}
-use Rattle.clusters.proofs.Groups.{in-groups, in-groupSets, groups-rise, rising-distinct, of-listed, listed-index, is-listed, groups-sets}
+use Rattle.clusters.proofs.Groups.{in-groups, line-by, group-set, groups-rise, rising-distinct, listed-index, groups-sets}
+use Rattle.clusters.proofs.Doubled.{indexWithin, positiveWithin, groupsWithin, groups-within}
 use Rattle.clusters.proofs.Scored.{AllAllowed}
 use Rattle.clusters.proofs.Fillings.{least-is, scored-fills}
 use Rattle.clusters.proofs.Theorems.{group-in-tree, groups-nested, groups-bound}
@@ -36,18 +37,20 @@ use Rattle.answers.specs.declared.Answer.{Answer}
 use Rattle.answers.specs.declared.Answer.the-variants.{Count, Refused}
 use Rattle.answers.specs.Answers.{numberOf, countOf, answer, slots, filled}
 use Rattle.answers.proofs.Answers.{number-answer, count-answer, slots-refused, slots-written}
 use Rattle.interface.specs.Sheet.{entries, pairs}
-use Rattle.interface.specs.Listing.{Line, lineOf, listing, groupsFound, pairsListing, sheetListing, listingRead}
-use Rattle.interface.specs.Refusals.{Check, firstOf, mostEntries, sheetCallChecks, sheetRefusal, numbersRefusal, linkageRefusal, anchoredRefusal, backRefusal}
-use Rattle.interface.specs.Calls.{cNumber, InC, CCall, NumbersCall, setsFound, indicesFound, groupsOf, LinkageCall, AnchoredCall, BackCall}
-use Rattle.interface.specs.Demands.{
+use Rattle.interface.specs.Listing.{Line, lineOf, groupOf, listing, groupsFound, pairsListing, sheetListing, listingRead}
+use Rattle.interface.specs.Refusals.{mostEntries, sheetCallChecks, sheetRefusal, numbersRefusal, linkageRefusal, anchoredRefusal, backRefusal}
+use Rattle.interface.specs.Calls.{cNumber, CCall, NumbersCall, setsFound, indicesFound, groupsIn, LinkageCall, AnchoredCall, BackCall}
+use Rattle.interface.proofs.Refusals.{few-count}
+use Rattle.interface.proofs.Lines.{Readable, listing-read}
+use Rattle.interface.proofs.Outcomes.{refused-number, counted-number, taken, dropped, not-refused, counted}
+use Rattle.interface.proofs.Slots.{length-groupsIn, group-at, groups-slots}
+use Rattle.interface.proofs.Accepted.{Passed, passed-allowed, passed-scored, sheet-passed, numbers-passed, linkage-scored}
+use Rattle.interface.proofs.Anchored.{length-anchored, way-back}
+use Rattle.demands.specs.Demands.{
   Demand1,
   Listed,
-  by-C-call,
   by-sheet-call,
-  Counted,
-  by-numbers-call,
-  by-numbers-in-C,
   Wrote,
   in-lines,
   in-slots,
@@ -60,136 +63,67 @@ use Rattle.interface.specs.Demands.{
   Complete,
   Demand3,
 }
-use Rattle.interface.specs.Tables.{Table, GivenFirst, NoneGiven}
-use Rattle.interface.proofs.Refusals.{numbered, passes, few-count}
-use Rattle.interface.proofs.Lines.{Readable, listing-read}
-use Rattle.interface.proofs.Slots.{groups-slots, group-at}
-use Rattle.interface.proofs.Accepted.{Passed, passed-allowed, passed-scored, sheet-passed, numbers-passed, linkage-scored}
-use Rattle.interface.proofs.Anchored.{length-anchored, way-back}
-use Rattle.interface.proofs.Agree.{Agree, agree-first, agree-none, refused-number}
-use Rattle.interface.proofs.AgreeTables.{sheet-agrees, sheet-numbered}
-use Rattle.interface.proofs.Spoken.{spoken-says}
-
--- what a number in C says of the answer: a length, if nothing is refused; minus the number of the refusal
-pub c-count : (k c count : ℕ) → cNumber (answer k c) ≡ pos count → (k ≡ 0) × (c ≡ count)
-unfolding cNumber answer
-c-count zero c count e = (refl, cc)
-c-count (suc k) c count e = let z : _≡_ {A = ℕ} 0 1 = cc in absurd (omega arith)
-
-pub c-refused : (k c j : ℕ) → 0 < j → (cNumber (answer k c) ≡ negℤ (pos j)) ↔ (k ≡ j)
-c-refused k c j h =
-    let f = refused-number (answer k c) j h in
-    let e = number-answer k c in
-    (λ q. sym e ∙ f .0 q, λ z. f .1 (e ∙ z))
-
-c-listed : (k c : ℕ) → k ≡ 0 → cNumber (answer k c) ≡ pos c
-unfolding cNumber answer
-c-listed k c z = rw z
-
--- the slots of a call that is not refused
-module _ {A : Type 0} {k : ℕ} (z : k ≡ 0) (result lent : List A) {after : List A} (w : after ≡ slots k result lent) where
-  pub after-is : after ≡ result ++ drop (length result) lent
-  after-is = w ∙ ap (λ (j : ℕ). slots j result lent) z ∙ slots-written result lent
-
-  pub taken : {count : ℕ} → length result ≡ count → take count after ≡ result
-  taken e = rw (sym e, after-is) (take-append-seam result (drop (length result) lent))
-
-  dropped : {count : ℕ} → length result ≡ count → drop count after ≡ drop count lent
-  dropped e = rw (sym e, after-is) (drop-append-seam result (drop (length result) lent))
-
--- an answer that is no refusal
-module _ {r : Answer} (k c : ℕ) (e : r ≡ answer k c) (none : numberOf r ≡ 0) where
-  pub not-refused : k ≡ 0
-  not-refused = sym (ap numberOf e ∙ number-answer k c) ∙ none
-
-  pub counted : countOf r ≡ c
-  counted = ap countOf (e ∙ ap (λ (j : ℕ). answer j c) not-refused) ∙ count-answer c
-
--- the number in C of an answer whose checks give k
-module _ {Outcome : Answer → Type 0} {r : ℤ} (c : InC Outcome r) (k m : ℕ) (e : c .given ≡ answer k m) where
-  pub answered : r ≡ cNumber (answer k m)
-  answered = c .number ∙ ap cNumber e
-
-  pub not-refused-in-C : {count : ℕ} → r ≡ pos count → (numberOf (c .given) ≡ 0) × (countOf (c .given) ≡ count)
-  unfolding numberOf countOf answer
-  not-refused-in-C {count} q =
-      let (z, is) = c-count k m count (sym answered ∙ q) in
-      let a = e ∙ ap (λ (j : ℕ). answer j m) z in
-      (ap numberOf a, ap countOf a ∙ is)
-
--- a call in C whose checks are a table, and which writes a text
-module _ {Outcome : Answer → Type 0} {r : ℤ} (c : InC Outcome r) (checks : List Check) (text lent : List ℕ) {after : List ℕ}
-    (e : c .given ≡ answer (firstOf checks) (length text)) (w : after ≡ slots (firstOf checks) text lent) where
-  abbrev k : ℕ
-  k = firstOf checks
-
-  number : r ≡ cNumber (answer k (length text))
-  number = answered c k (length text) e
-
-  -- minus a number is answered exactly if its line holds and none before it does; nothing is then written
-  pub text-number : (j : ℕ) → 0 < j → (r ≡ negℤ (pos j)) ↔ (firstOf checks ≡ j)
-  text-number j h = let f = c-refused k (length text) j h in (λ q. f .0 (sym number ∙ q), λ z. number ∙ f .1 z)
-
-  pub text-refusal : {table : Table} → Agree checks table → (j : ℕ) → 0 < j → (r ≡ negℤ (pos j)) ↔ GivenFirst table j
-  text-refusal a j h = Iff·trans (text-number j h) (agree-first a j h)
-
-  pub text-refused : (j : ℕ) → 0 < j → r ≡ negℤ (pos j) → after ≡ lent
-  text-refused j h q = let is = text-number j h .0 q in w ∙ slots-refused k text lent (omega arith)
-
-  -- the text's length is answered exactly if no line holds; the text is then written, and nothing else
-  pub text-listed : {table : Table} → Agree checks table → T (numbered checks) → (r ≡ pos (length text)) ↔ NoneGiven table
-  text-listed a t = (
-    λ q. agree-none a t .0 (c-count k (length text) (length text) (sym number ∙ q) .0),
-    λ u. number ∙ c-listed k (length text) (agree-none a t .1 u),
-  )
-
-  pub text-count : (count : ℕ) → r ≡ pos count → (firstOf checks ≡ 0) × (length text ≡ count)
-  text-count count q = c-count k (length text) count (sym number ∙ q)
-
-  pub text-written : (count : ℕ) → r ≡ pos count → (take count after ≡ text) × (drop count after ≡ drop count lent)
-  text-written count q = let (z, is) = text-count count q in (taken z text lent w is, dropped z text lent w is)
-
-  -- there is no third
-  pub text-either : ((j : ℕ) × (0 < j) × (r ≡ negℤ (pos j))) ⊎ (r ≡ pos (length text))
-  text-either = go k refl
-    where
-      go : (j : ℕ) → k ≡ j → ((j : ℕ) × (0 < j) × (r ≡ negℤ (pos j))) ⊎ (r ≡ pos (length text))
-      go zero z = inr (number ∙ c-listed k (length text) z)
-      go (suc j) z = inl (suc j, omega arith, text-number (suc j) (omega arith) .1 z)
+use Rattle.demands.specs.Tables.{sheetTable}
+use Rattle.demands.proofs.Agree.{Agree, agree-first, agree-none}
+use Rattle.demands.proofs.AgreeTables.{sheet-agrees}
+use Rattle.demands.proofs.Spoken.{spoken-says}
 
 -- demand 1
 pub demand-1 : (kind : ℤ) (sheet lent : List ℕ) (r : ℤ) (after : List ℕ) → CCall kind sheet lent r after → Demand1 kind sheet lent r after
 unfolding sheetRefusal
-demand-1 kind sheet lent r after c =
-    let checks = sheetCallChecks kind sheet (length lent) in
-    let text = sheetListing kind sheet in
-    let e = c .outcome .answered in
-    let w = c .outcome .written in
-    let agree = sheet-agrees kind sheet (length lent) in
-    record {
-      refusal = text-refusal c checks text lent e w agree;
-      refused = text-refused c checks text lent e w;
-      listed = text-listed c checks text lent e w agree (sheet-numbered kind sheet (length lent));
-      written = text-written c checks text lent e w;
-      either = text-either c checks text lent e w;
-    }
+demand-1 kind sheet lent r after c = record {
+  refusal = λ k h. let f = agree-first agree k h in (λ q. f .0 (minus k h .0 q), λ x. minus k h .1 (f .1 x));
+  refused = λ k h q. c .outcome .written ∙ slots-refused number text lent (above (minus k h .0 q) h);
+  listed =
+      let f = agree-none agree in
+      (λ q. f .0 (plain (length text) .0 q .0), λ x. plain (length text) .1 (f .1 x, refl));
+  written = λ count q. let (z, long) = plain count .0 q in (taken z text lent (c .outcome .written) long, dropped z text lent (c .outcome .written) long);
+  either = go number refl;
+}
+  where
+    number : ℕ
+    number = sheetRefusal kind sheet (length lent)
 
--- bytes that either call listed are the sheet's listing, and no check refused
+    text : List ℕ
+    text = sheetListing kind sheet
+
+    agree : Agree (sheetCallChecks kind sheet (length lent)) (sheetTable kind sheet (length lent))
+    agree = sheet-agrees kind sheet (length lent)
+
+    is : r ≡ cNumber (answer number (length text))
+    is = c .number ∙ ap cNumber (c .outcome .answered)
+
+    minus : (k : ℕ) → 0 < k → (r ≡ negℤ (pos k)) ↔ (number ≡ k)
+    minus k h =
+        let f = refused-number (answer number (length text)) k h in
+        let e = number-answer number (length text) in
+        (λ q. sym e ∙ f .0 (sym is ∙ q), λ z. is ∙ f .1 (e ∙ z))
+
+    plain : (count : ℕ) → (r ≡ pos count) ↔ ((number ≡ 0) × (length text ≡ count))
+    plain count =
+        let f = counted-number (answer number (length text)) count in (
+          λ q.
+              let (z, e) = f .0 (sym is ∙ q) in
+              let none = not-refused number (length text) refl z in
+              (none, sym (counted number (length text) refl z) ∙ e),
+          λ (z, e). is ∙ f .1 (number-answer number (length text) ∙ z, counted number (length text) refl (number-answer number (length text) ∙ z) ∙ e),
+        )
+
+    above : {j k : ℕ} → j ≡ k → 0 < k → 0 < j
+    above e h = omega arith
+
+    go : (j : ℕ) → number ≡ j → ((k : ℕ) × (0 < k) × (r ≡ negℤ (pos k))) ⊎ (r ≡ pos (length text))
+    go zero z = inr (plain (length text) .1 (z, refl))
+    go (suc j) z = inl (suc j, omega arith, minus (suc j) (omega arith) .1 z)
+
+-- bytes that a call listed are the sheet's listing, and no check refused
 pub record Accepted (kind : ℤ) (sheet bytes : List ℕ) : Type 0 where
   pub buffer : ℕ
   pub passed : sheetRefusal kind sheet buffer ≡ 0
   pub are : bytes ≡ sheetListing kind sheet
 
 pub accepted : {kind : ℤ} {sheet bytes : List ℕ} → Listed kind sheet bytes → Accepted kind sheet bytes
-accepted {kind} {sheet} (by-C-call {lent} {after} {r} c count e) =
-    let k = sheetRefusal kind sheet (length lent) in
-    let text = sheetListing kind sheet in
-    record {
-      buffer = length lent;
-      passed = c-count k (length text) count (sym (answered c k (length text) (c .outcome .answered)) ∙ e) .0;
-      are = demand-1 kind sheet lent r after c .written count e .0;
-    }
-accepted {kind} {sheet} (by-sheet-call {lent} {after} {r} c z) =
+accepted {kind} {sheet} (by-sheet-call {lent} c z) =
     let k = sheetRefusal kind sheet (length lent) in
     let text = sheetListing kind sheet in
     let none = not-refused k (length text) (c .answered) z in
@@ -199,10 +133,9 @@ accepted {kind} {sheet} (by-sheet-call {lent} {after} {r} c z) =
       are = taken none text lent (c .written) (sym (counted k (length text) (c .answered) z));
     }
 
--- check 6 of a sheet that is listed
-few-entries : (kind : ℤ) (sheet : List ℕ) (buffer : ℕ) → sheetRefusal kind sheet buffer ≡ 0 → entries sheet ≤ mostEntries
-unfolding sheetRefusal sheetCallChecks all
-few-entries kind sheet buffer e = few-count (entries sheet) (T-false (passes (sheetCallChecks kind sheet buffer) tt e 5 (lit< tt)))
+-- what the checks left of a sheet that is listed
+sheet-left : {kind : ℤ} {sheet bytes : List ℕ} → Listed kind sheet bytes → Passed kind (entries sheet) (pairs sheet)
+sheet-left {kind} {sheet} l = let a = accepted l in sheet-passed kind sheet (a .buffer) (a .passed)
 
 -- 8 hexadecimal digits have room for every set of entries
 digits-room : (n : ℕ) → n ≤ mostEntries → 2 ^ n ≤ 16 ^ 8
@@ -220,11 +153,10 @@ module _ {kind : ℤ} {sheet bytes : List ℕ} (l : Listed kind sheet bytes) whe
       let n = entries sheet in
       let s = score (pairs sheet) in
       let (g, mg, e) = of-map (lineOf n) (groups (kindOf kind) n s) m in
-      let (low, t, is) = in-groups (kindOf kind) n s (g .0) (g .1) .0 mg in
-      let a = accepted l in
+      let (low, t, is) = in-groups (kindOf kind) n s g .0 mg in
       subst (λ (y : Line). Readable y) (sym e) (record {
-        fits = omega (arith, digits-room n (few-entries kind sheet (a .buffer) (a .passed)));
-        natural = omega (zarith, listed-index (kindOf kind) n s (g .0) t);
+        fits = omega (arith, digits-room n (few-count n (sheet-left l .count)));
+        natural = omega (zarith, listed-index (kindOf kind) n s (g .set) t);
       })
 
   pub lines-are : bytes ≡ listing lines
@@ -241,131 +173,116 @@ module _ {kind : ℤ} {sheet bytes : List ℕ} (l : Listed kind sheet bytes) whe
       let (g, _, e) = of-map (lineOf n) (groupsFound kind n (pairs sheet)) m in
       ap (λ (y : Line). y .size) e ∙ sym (ap (λ (y : Line). size n (y .set)) e)
 
-  lines-groups : map (λ x. (x .set, x .index)) lines ≡ groups (kindOf kind) (entries sheet) (score (pairs sheet))
-  unfolding lines groupsFound lineOf
+  lines-groups : map groupOf lines ≡ groups (kindOf kind) (entries sheet) (score (pairs sheet))
+  unfolding lines groupsFound lineOf groupOf
   lines-groups =
       let n = entries sheet in
       let found = groups (kindOf kind) n (score (pairs sheet)) in
-      map-map {C = ℕ × ℤ} (λ x. (x .set, x .index)) (lineOf n) found ∙ map-id found
+      map-map groupOf (lineOf n) found ∙ map-id found
 
 -- the slots of a numbers call that is not refused
 module _ {kind : ℤ} {n : ℕ} {l : List ℤ} {lentSets : List ℕ} {lentIndices : List ℤ} {r : Answer} {sets : List ℕ} {indices : List ℤ}
     (c : NumbersCall kind n l lentSets lentIndices r sets indices) (z : numberOf r ≡ 0) where
-  abbrev found : List (ℕ × ℤ)
+  abbrev found : List Group
   found = groupsFound kind n l
+
+  numbers-left : Passed kind n l
+  numbers-left = numbers-passed kind n l (length lentSets) (length lentIndices)
+      (not-refused (numbersRefusal kind n l (length lentSets) (length lentIndices)) (length found) (c .answered) z)
 
   count-found : countOf r ≡ length found
   count-found = counted (numbersRefusal kind n l (length lentSets) (length lentIndices)) (length found) (c .answered) z
 
-  slots-found : groupsOf (countOf r) sets indices ≡ found
+  slots-found : groupsIn (countOf r) sets indices ≡ found
   unfolding setsFound indicesFound filled
   slots-found =
       let k = numbersRefusal kind n l (length lentSets) (length lentIndices) in
       let none = not-refused k (length found) (c .answered) z in
       let s = c .setsWritten ∙ ap (λ (j : ℕ). filled 0 j (setsFound kind n l) lentSets) none in
       let i = c .indicesWritten ∙ ap (λ (j : ℕ). filled (pos 0) j (indicesFound kind n l) lentIndices) none in
-      ap₂ (λ (s : List ℕ) (i : List ℤ). groupsOf (countOf r) s i) s i
-      ∙ ap (λ (j : ℕ). groupsOf j (filled 0 0 (setsFound kind n l) lentSets) (filled (pos 0) 0 (indicesFound kind n l) lentIndices)) count-found
+      ap₂ (λ (s : List ℕ) (i : List ℤ). groupsIn (countOf r) s i) s i
+      ∙ ap (λ (j : ℕ). groupsIn j (filled 0 0 (setsFound kind n l) lentSets) (filled (pos 0) 0 (indicesFound kind n l) lentIndices)) count-found
       ∙ groups-slots found
       (replicate (length lentSets - length (setsFound kind n l)) 0)
       (replicate (length lentIndices - length (indicesFound kind n l)) (pos 0))
 
-slots-counted : {kind : ℤ} {n count : ℕ} {l indices : List ℤ} {sets : List ℕ} → Counted kind n l count sets indices
-    → (groupsOf count sets indices ≡ groupsFound kind n l) × (count ≡ length (groupsFound kind n l))
-slots-counted (by-numbers-call c z) = (slots-found c z, count-found c z)
-slots-counted {kind} {n} {l = l} {indices = indices} {sets = sets} (by-numbers-in-C {lentSets} {lentIndices = lentIndices} c count e) =
-    let k = numbersRefusal kind n l (length lentSets) (length lentIndices) in
-    let (z, is) = not-refused-in-C c k (length (groupsFound kind n l)) (c .outcome .answered) e in
-    (sym (ap (λ (j : ℕ). groupsOf j sets indices) is) ∙ slots-found (c .outcome) z, sym is ∙ count-found (c .outcome) z)
-
--- what a call wrote is the groups
-pub wrote : {kind : ℤ} {n : ℕ} {s : Similarity} {found : List (ℕ × ℤ)} → Wrote kind n s found → (found ≡ groups (kindOf kind) n s) × Symmetric s
+-- what a call wrote is the groups of a list that passes
+pub wrote : {kind : ℤ} {n : ℕ} {l : List ℤ} {found : List Group} → Wrote kind n l found → found ≡ groups (kindOf kind) n (score l)
 unfolding groupsFound
-wrote (in-lines {sheet} {ls = ls} l e) =
+wrote (in-lines {ls = ls} l e) =
     let same = Option·some-injective ls (lines l) (sym e ∙ lines-read l) in
-    (ap (map {B = ℕ × ℤ} (λ x. (x .set, x .index))) same ∙ lines-groups l, score-symm (pairs sheet))
-wrote (in-slots {l = l} c) = (slots-counted c .0, score-symm l)
+    ap (map groupOf) same ∙ lines-groups l
+wrote (in-slots c z) = slots-found c z
 
--- the numbers call did not refuse; so what a call wrote is of a list that passes 11 and 16
-pub record Taken (kind : ℤ) (n : ℕ) (l : List ℤ) : Type 0 where
-  pub setSlots : ℕ
-  pub indexSlots : ℕ
-  pub passed : numbersRefusal kind n l setSlots indexSlots ≡ 0
+pub wrote-passed : {kind : ℤ} {n : ℕ} {l : List ℤ} {found : List Group} → Wrote kind n l found → Passed kind n l
+wrote-passed (in-lines l e) = sheet-left l
+wrote-passed (in-slots c z) = numbers-left c z
 
-pub numbers-taken : {kind : ℤ} {n count : ℕ} {l indices : List ℤ} {sets : List ℕ} → Counted kind n l count sets indices → Taken kind n l
-numbers-taken {kind} {n} {l = l} (by-numbers-call {lentSets} {lentIndices = lentIndices} c z) = record {
-  setSlots = length lentSets;
-  indexSlots = length lentIndices;
-  passed = not-refused (numbersRefusal kind n l (length lentSets) (length lentIndices)) (length (groupsFound kind n l)) (c .answered) z;
-}
-numbers-taken {kind} {n} {l = l} (by-numbers-in-C {lentSets} {lentIndices = lentIndices} c count e) =
-    let k = numbersRefusal kind n l (length lentSets) (length lentIndices) in
-    let (z, _) = not-refused-in-C c k (length (groupsFound kind n l)) (c .outcome .answered) e in
-    record {
-      setSlots = length lentSets;
-      indexSlots = length lentIndices;
-      passed = not-refused k (length (groupsFound kind n l)) (c .outcome .answered) z;
-    }
+pub wrote-allowed : {kind : ℤ} {n : ℕ} {l : List ℤ} {found : List Group} → Wrote kind n l found → AllAllowed scoreLimit n (score l)
+wrote-allowed w = passed-allowed (wrote-passed w)
 
-numbers-accepted : {kind : ℤ} {n count : ℕ} {l indices : List ℤ} {sets : List ℕ} → Counted kind n l count sets indices → Passed kind n l
-numbers-accepted {kind} {n} {l = l} c = let t = numbers-taken c in numbers-passed kind n l (t .setSlots) (t .indexSlots) (t .passed)
+pub wrote-scored : {kind : ℤ} {n : ℕ} {l : List ℤ} {found : List Group} → kind ≢ pos 1 → Wrote kind n l found → AllScored n (score l)
+wrote-scored d w = passed-scored (wrote-passed w) d
 
-pub wrote-allowed : {kind : ℤ} {n : ℕ} {s : Similarity} {found : List (ℕ × ℤ)} → Wrote kind n s found → AllAllowed scoreLimit n s
-wrote-allowed {kind} (in-lines {sheet} l e) = let a = accepted l in passed-allowed (sheet-passed kind sheet (a .buffer) (a .passed))
-wrote-allowed (in-slots c) = passed-allowed (numbers-accepted c)
+-- what computes the index of a set gives its index, and what is listed is what is of positive index
+pub index-is : (limit : ℕ) (k : Kind) (n : ℕ) (s : Similarity) → Symmetric s → (A : ℕ) (z : ℤ) → IndexIs limit k n s A z ↔ (z ≡ indexWithin limit k n s A)
+unfolding indexWithin
+index-is limit strong n s symm A z = least-is limit n s symm A z
+index-is limit clean n s symm A z = (λ e. e, λ e. e)
+index-is limit splits n s symm A z = (λ e. e, λ e. e)
 
-pub wrote-scored : {kind : ℤ} {n : ℕ} {s : Similarity} {found : List (ℕ × ℤ)} → kind ≢ pos 1 → Wrote kind n s found → AllScored n s
-wrote-scored {kind} d (in-lines {sheet} l e) = let a = accepted l in passed-scored (sheet-passed kind sheet (a .buffer) (a .passed)) d
-wrote-scored d (in-slots c) = passed-scored (numbers-accepted c) d
-
--- what computes the index of a set gives its index
-index-is : (k : Kind) (n : ℕ) (s : Similarity) → Symmetric s → (A : ℕ) (z : ℤ) → IndexIs k n s A z ↔ (z ≡ index k n s A)
-unfolding index
-index-is strong n s symm A z = least-is scoreLimit n s symm A z
-index-is clean n s symm A z = (λ e. e, λ e. e)
-index-is splits n s symm A z = (λ e. e, λ e. e)
+pub line-positive : (limit : ℕ) (k : Kind) (n : ℕ) (s : Similarity) → Symmetric s → (A : ℕ) (z : ℤ)
+    → HasLine (groupsWithin limit k n s) A z ↔ Positive limit k n s A z
+unfolding groupsWithin positiveWithin positive
+line-positive limit k n s symm A z =
+    let is = index-is limit k n s symm A z in
+    let line = line-by (positiveWithin limit k n s) (indexWithin limit k n s) n A z in
+    let spoken = speaksOf k n A in
+    let one = leZ (pos 1) (indexWithin limit k n s A) in (
+      λ m.
+          let (h, t, e) = line .0 m in
+          let (p, i) = and-T spoken one t in
+          record {
+            fits = h;
+            spoken = spoken-says k n A .to p;
+            index-is = is .1 e;
+            positive = subst (λ y. pos 1 ≤ℤ y) (sym e) (leZ-yes i);
+          },
+      λ p.
+          let e = is .0 (p .index-is) in
+          let i : pos 1 ≤ℤ indexWithin limit k n s A = subst (λ y. pos 1 ≤ℤ y) e (p .positive) in
+          line .1 (p .fits, T-and spoken one (spoken-says k n A .from (p .spoken)) (i .le), e),
+    )
 
 -- demands 2 and 3 of the groups
 module _ (kind : ℤ) (n : ℕ) (s : Similarity) (symm : Symmetric s) where
-  abbrev these : List (ℕ × ℤ)
+  abbrev these : List Group
   these = groups (kindOf kind) n s
+
+  exact : (A : ℕ) (z : ℤ) → HasLine these A z ↔ Positive scoreLimit (kindOf kind) n s A z
+  exact A z = subst (λ (g : List Group). HasLine g A z ↔ Positive scoreLimit (kindOf kind) n s A z) (sym (groups-within (kindOf kind) n s))
+      (line-positive scoreLimit (kindOf kind) n s symm A z)
+
+  of-group : (g : Group) → g ∈ these → Positive scoreLimit (kindOf kind) n s (g .set) (g .index)
+  of-group g m = exact (g .set) (g .index) .0 (g, m, refl, refl)
 
   indices-right : Indices kind n s these
   unfolding kindOf eqZ
   indices-right = record { strong-index = right (pos 1); clean-index = right (pos 2); separation-index = right (pos 3) }
     where
-      right : (j : ℤ) → kind ≡ j → (A : ℕ) (z : ℤ) → these lists (A, z) → IndexIs (kindOf j) n s A z
-      right j e A z m = subst (λ (i : ℤ). IndexIs (kindOf i) n s A z) e (index-is (kindOf kind) n s symm A z .1 (in-groups (kindOf kind) n s A z .0 m .2))
+      right : (j : ℤ) → kind ≡ j → (g : Group) → g ∈ these → IndexIs scoreLimit (kindOf j) n s (g .set) (g .index)
+      right j e g m = subst (λ (i : ℤ). IndexIs scoreLimit (kindOf i) n s (g .set) (g .index)) e (of-group g m .index-is)
 
-  member : (A : ℕ) (z : ℤ) → these lists (A, z) → A ∈ groupSets (kindOf kind) n s
-  member A z m = let (h, t, _) = in-groups (kindOf kind) n s A z .0 m in in-groupSets (kindOf kind) n s A .1 (h, t)
-
-  in-tree : (j : ℤ) → kind ≡ j → (A : ℕ) (z : ℤ) → these lists (A, z) → (f : Similarity) → TreeScores (kindOf j) n s f
-      → (ms : List (ℕ × ℕ)) → Tree (treeLinkage (kindOf j)) n f ms → A ∈ blocks n ms
-  in-tree j e A z m f h ms t = group-in-tree (kindOf kind) n s symm A (member A z m) f
+  in-tree : (j : ℤ) → kind ≡ j → (g : Group) → g ∈ these → (f : Similarity) → TreeScores (kindOf j) n s f
+      → (ms : List (ℕ × ℕ)) → Tree (treeLinkage (kindOf j)) n f ms → g .set ∈ blocks n ms
+  in-tree j e g m f h ms t = group-in-tree (kindOf kind) n s symm (g .set) (group-set (kindOf kind) n s m) f
       (subst (λ (i : ℤ). TreeScores (kindOf i) n s f) (sym e) h) ms
       (subst (λ (i : ℤ). Tree (treeLinkage (kindOf i)) n f ms) (sym e) t)
 
-  exact : (A : ℕ) (z : ℤ) → (these lists (A, z)) ↔ Positive (kindOf kind) n s A z
-  exact A z =
-      let is = index-is (kindOf kind) n s symm A z in (
-        λ m.
-            let (h, t, e) = in-groups (kindOf kind) n s A z .0 m in
-            record {
-              fits = h;
-              spoken = spoken-says (kindOf kind) n A .to (of-listed (kindOf kind) n s A t .0);
-              index-is = is .1 e;
-              positive = subst (λ y. pos 1 ≤ℤ y) (sym e) (listed-index (kindOf kind) n s A t);
-            },
-        λ p.
-            let e = is .0 (p .index-is) in
-            in-groups (kindOf kind) n s A z .1 (p .fits, is-listed (kindOf kind) n s A (spoken-says (kindOf kind) n A .from (p .spoken)) (subst (λ y. pos 1 ≤ℤ y) e (p .positive)), e),
-      )
-
   -- of kind 3
-  split-exact : kind ≡ pos 3 → (A : ℕ) (z : ℤ) → (these lists (A, z)) ↔ Positive splits n s A z
+  split-exact : kind ≡ pos 3 → (A : ℕ) (z : ℤ) → HasLine these A z ↔ Positive scoreLimit splits n s A z
   unfolding kindOf eqZ
-  split-exact e A z = subst (λ (j : ℤ). (these lists (A, z)) ↔ Positive (kindOf j) n s A z) e (exact A z)
+  split-exact e A z = subst (λ (j : ℤ). HasLine these A z ↔ Positive scoreLimit (kindOf j) n s A z) e (exact A z)
 
   complete : Complete kind n s these
   unfolding kindOf eqZ treeLinkage
@@ -375,12 +292,12 @@ module _ (kind : ℤ) (n : ℕ) (s : Similarity) (symm : Symmetric s) where
     rising = rw (groups-sets (kindOf kind) n s) (groups-rise (kindOf kind) n s);
     few = groups-bound (kindOf kind) n s symm;
     strong-in-trees = in-tree (pos 1);
-    clean-in-trees = λ e A z m. in-tree (pos 2) e A z m s refl;
-    splits-in-trees = λ e A z m. in-tree (pos 3) e A z m (farris s 0) refl;
-    nested = λ A B y z a b. groups-nested (kindOf kind) n s symm A B (member A y a) (member B z b);
-    one-split = λ e A z m.
-        let p = split-exact e A z .0 m in
-        (p .spoken .1, p .index-is, p .index-is ∙ sym (separation-either-side n s symm A));
+    clean-in-trees = λ e g m. in-tree (pos 2) e g m s refl;
+    splits-in-trees = λ e g m. in-tree (pos 3) e g m (farris s 0) refl;
+    nested = λ g h a b. groups-nested (kindOf kind) n s symm (g .set) (h .set) (group-set (kindOf kind) n s a) (group-set (kindOf kind) n s b);
+    one-split = λ e g m.
+        let p = split-exact e (g .set) (g .index) .0 (g, m, refl, refl) in
+        (p .spoken .1, p .index-is, p .index-is ∙ sym (separation-either-side n s symm (g .set)));
     either-side = λ e A low p z is h. (
       λ f. split-exact e A z .1 (record { fits = low; spoken = (p, f); index-is = is; positive = h }),
       λ f.
@@ -415,22 +332,10 @@ module _ {n x : ℕ} {distances lent after : List ℤ} {r : Answer} (a : Anchore
       let long : length (distancesBack n S) ≡ countOf r′ = length-pairList n (unfarris (score S)) ∙ sym count′ in
       (z′, count′ ∙ sym count, taken first′ (distancesBack n S) lent′ (b .written) long ∙ ap (distancesBack n) scores ∙ same)
 
--- an answer that is no refusal is its count in C
-pub answer-in-C : (a : Answer) → numberOf a ≡ 0 → cNumber a ≡ pos (countOf a)
-unfolding numberOf countOf cNumber
-answer-in-C (Count c) z = refl
-answer-in-C (Refused k) z = ap (λ (j : ℕ). negℤ (pos j)) z
-
 pub demand-2 : Demand2
 demand-2 = record {
-  indices = λ {kind} {n} {s} w. let (e, symm) = wrote w in subst (λ (g : List (ℕ × ℤ)). Indices kind n s g) (sym e) (indices-right kind n s symm);
-  back = λ a z b room. let (z′, _, e) = back-again a z b room in (z′, e);
-  back-in-C = λ {n} {x} {count} {distances} {lent} {after} a q {lent′} {after′} b room.
-      let (z, is) = not-refused-in-C a (anchoredRefusal n x distances (length lent)) (rowStart n) (a .outcome .answered) q in
-      let there = subst (λ (j : ℕ). BackCall n x (take j after) lent′ (b .given) after′) (sym is) (b .outcome) in
-      let (z′, same, e) = back-again (a .outcome) z there (omega arith) in
-      let count′ : countOf (b .given) ≡ count = same ∙ is in
-      (b .number ∙ answer-in-C (b .given) z′ ∙ ap pos count′, sym (ap (λ (j : ℕ). take j after′) count′) ∙ e);
+  indices = λ {kind} {n} {l} w. subst (λ (g : List Group). Indices kind n (score l) g) (sym (wrote w)) (indices-right kind n (score l) (score-symm l));
+  back = λ a z b room. back-again a z b room;
 }
 
 -- what a linkage call writes: as many blocks as a tree merges, in the order of its merges
@@ -464,8 +369,8 @@ linked : {linkage : Linkage} {n : ℕ} {l : List ℤ} {lent after : List ℕ} {r
 unfolding blocks
 linked {n = n} c none = let m = merged-slots c none in (ap (λ (bs : List ℕ). singles n ++ bs) (m .slots), m .tree)
 
-wrote-all : {kind : ℤ} {n : ℕ} {s : Similarity} {found : List (ℕ × ℤ)} → Wrote kind n s found → Complete kind n s found
-wrote-all {kind} {n} {s} w = let (e, symm) = wrote w in subst (λ (g : List (ℕ × ℤ)). Complete kind n s g) (sym e) (complete kind n s symm)
+wrote-all : {kind : ℤ} {n : ℕ} {l : List ℤ} {found : List Group} → Wrote kind n l found → Complete kind n (score l) found
+wrote-all {kind} {n} {l} w = subst (λ (g : List Group). Complete kind n (score l) g) (sym (wrote w)) (complete kind n (score l) (score-symm l))
 
 -- a list of which a linkage call wrote blocks has every pair scored, so it is its own filling
 linked-fills : {linkage : Linkage} {n : ℕ} {l : List ℤ} {lent after : List ℕ} {r : Answer} → LinkageCall linkage n l lent r after → numberOf r ≡ 0
@@ -478,19 +383,18 @@ linked-fills {n = n} {l} {lent} c none =
 pub demand-3 : (kind : ℤ) → Demand3 kind
 demand-3 kind = record {
   lines = λ l. (lines l, lines-read l, line-size l);
-  slots = λ {n} {count} {l} {indices} {sets} c.
-      let (e, is) = slots-counted c in
-      let long = ap length e ∙ sym is in
-      (long, λ k h. group-at count sets indices k (omega (arith, long)));
+  slots = λ {n} {l} {lentIndices} {indices} {lentSets} {sets} {r} c z. (
+    length-groupsIn (countOf r) sets indices,
+    λ k h none. let at = group-at (countOf r) sets indices k none h in (ap (λ (g : Group). g .set) at, ap (λ (g : Group). g .index) at),
+  );
   complete = wrote-all;
-  strong-linked = λ e {n} {l} c none w A z m. let (b, t) = linked c none in
-      subst (λ (bs : List ℕ). A ∈ bs) (sym b) (wrote-all w .strong-in-trees e A z m (score l) (linked-fills c none) (c .merges) t);
-  filled-linked = λ e {n} {l} c none fills w A z m. let (b, t) = linked c none in
-      subst (λ (bs : List ℕ). A ∈ bs) (sym b) (wrote-all w .strong-in-trees e A z m (score l) fills (c .merges) t);
-  clean-linked = λ e c none w A z m. let (b, t) = linked c none in
-      subst (λ (bs : List ℕ). A ∈ bs) (sym b) (wrote-all w .clean-in-trees e A z m (c .merges) t);
-  reordered = λ {n} {s} {s′} w w′ p m.
-      let (e, symm) = wrote w in
-      let (e′, symm′) = wrote w′ in
-      subst₂ (λ (g g′ : List (ℕ × ℤ)). SameGroups (kindOf kind) n p g g′) (sym e) (sym e′) (groups-image (kindOf kind) n p s s′ m symm symm′);
+  strong-linked = λ e {n} {l} c none w g m. let (b, t) = linked c none in
+      subst (λ (bs : List ℕ). g .set ∈ bs) (sym b) (wrote-all w .strong-in-trees e g m (score l) (linked-fills c none) (c .merges) t);
+  filled-linked = λ e {n} {l} {filling} c none fills w g m. let (b, t) = linked c none in
+      subst (λ (bs : List ℕ). g .set ∈ bs) (sym b) (wrote-all w .strong-in-trees e g m (score filling) fills (c .merges) t);
+  clean-linked = λ e c none w g m. let (b, t) = linked c none in
+      subst (λ (bs : List ℕ). g .set ∈ bs) (sym b) (wrote-all w .clean-in-trees e g m (c .merges) t);
+  reordered = λ {n} {l} {l′} w w′ p m.
+      subst₂ (λ (g g′ : List Group). SameGroups (kindOf kind) n p g g′) (sym (wrote w)) (sym (wrote w′))
+      (groups-image (kindOf kind) n p (score l) (score l′) m (score-symm l) (score-symm l′));
 }

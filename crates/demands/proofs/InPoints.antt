@@ -29,12 +29,12 @@ use Rattle.interface.specs.Sheet.{
   valueOf,
   sameBytes,
 }
 use Rattle.interface.specs.Listing.{digit, decimalFrom, decimal, pointsText, signedPoints, isDecimal, isIndex}
-use Rattle.interface.specs.Sentences.{DecimalSays, one-digit, one-more, InPoints, whole, half, minus-whole, minus-half}
+use Rattle.demands.specs.Sentences.{DecimalSays, one-digit, one-more, InPoints, whole, half, minus-whole, minus-half}
 use Rattle.interface.proofs.Digits.{ten, decimal-more, decimal-least}
 use Rattle.interface.proofs.Numerals.{low-digit, decimal-low, decimal-back}
 use Rattle.interface.proofs.Points.{half-number, index-back}
-use Rattle.interface.proofs.Values.{numeral-parts, read-signed, value-form}
+use Rattle.interface.proofs.Values.{numeral-parts, read-signed, value-form, even-text, value-back, odd-text}
 
 -- the digits of a number say it
 low-says : (n : ℕ) → n < 10 → DecimalSays (decimal n) n

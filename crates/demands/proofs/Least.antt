@@ -4,28 +4,27 @@ use mathlib.Core.Logic.{_⊎_, inl, inr, _≢_}
 use mathlib.Core.List.{List}
 use Prim.Native.Nat.{ℕ, _≤_, _<_}
 use native.Mathlib.Omega.{arith}
+use native.Mathlib.Decide.{decLt}
 use lib.IntN.{ℤ, pos, _+ℤ_, _-ℤ_}
 use lib.Signed.{_≤ℤ_}
-use Rattle.lists.specs.Lists.{_lists_}
+use Rattle.lists.specs.Lists.{_∈_}
 use Rattle.integers.specs.Integers.{eqZ, maxZ}
 use Rattle.integers.proofs.Linear.{zarith, +at, -at}
 use Rattle.integers.proofs.Least.{max-left, max-right, max-is}
 use Rattle.sets.specs.Sets.{_∋_, size}
-use Rattle.clusters.specs.PairList.{Similarity, scoreLimit}
+use Rattle.clusters.specs.PairList.{Similarity, score, scoreLimit}
 use Rattle.clusters.specs.Indices.{strongIndex, weight, cleanIndex, separationIndex}
-use Rattle.clusters.specs.Groups.{strong, clean, kindOf, index}
+use Rattle.clusters.specs.Groups.{Group, strong, kindOf, index}
 use Rattle.clusters.specs.Triples.{Triple, tripleWeight, TripleOf}
 use Rattle.clusters.proofs.Groups.{leastSize, speaks-size, of-listed, in-groups}
 use Rattle.clusters.proofs.Strong.{strong-least, strong-attained, separation-least, separation-attained}
 use Rattle.clusters.proofs.Triples.{clean-least, clean-attained}
 use Rattle.clusters.proofs.Untouched.{untouched-index}
 use Rattle.clusters.proofs.Unscored.{listed-untouched}
-use Rattle.interface.specs.Demands.{Wrote}
-use Rattle.interface.specs.Least.{Inside, StrongLeast, UnorderedTriple, CleanLeast, SeparationLeast, LeastIndices}
-use Rattle.interface.proofs.Demands.{wrote-allowed, demand-3}
-use Rattle.interface.proofs.Unscored.{strong-wrote}
-use Rattle.interface.proofs.Spoken.{sizes}
-use Rattle.interface.proofs.Refined.{falling, either-order}
+use Rattle.demands.specs.Demands.{Wrote}
+use Rattle.demands.specs.Least.{SamePair, Inside, StrongLeast, UnorderedTriple, CleanLeast, SeparationLeast, LeastIndices}
+use Rattle.demands.proofs.Demands.{wrote, wrote-allowed, demand-3}
+use Rattle.demands.proofs.Spoken.{sizes}
 
 -- each index, of a set that its kind speaks of
 strong-is : (n : ℕ) (s : Similarity) (A : ℕ) → 1 ≤ size n A → size n A < n → StrongLeast n s A (strongIndex n s A)
@@ -79,27 +78,28 @@ one-separation {y = y} {z} l m = equal y z
     (subst (λ x. y ≤ℤ x) (sym (m .attained)) (l .least (m .a) (m .a′) (m .b) (m .b′) (m .these)))
     (subst (λ x. z ≤ℤ x) (sym (l .attained)) (m .least (l .a) (l .a′) (l .b) (l .b′) (l .these)))
 
--- a line of each kind
-strong-line : {n : ℕ} {s : Similarity} {found : List (ℕ × ℤ)} → Wrote (pos 1) n s found → (A : ℕ) (z : ℤ) → found lists (A, z) → StrongLeast n s A z
-unfolding index leastSize
-strong-line {n} {s} w A z m =
-    let (_, t, e) = in-groups strong n s A z .0 (subst (λ (g : List (ℕ × ℤ)). g lists (A, z)) (strong-wrote w) m) in
-    let (some, proper) = speaks-size strong n A (of-listed strong n s A t .0) in
-    let as-lent = untouched-index scoreLimit n s A (listed-untouched n s (wrote-allowed w) A t) in
-    subst (StrongLeast n s A) (sym (e ∙ as-lent)) (strong-is n s A some proper)
+-- a group of each kind
+strong-group : {n : ℕ} {l : List ℤ} {found : List Group} → Wrote (pos 1) n l found → (g : Group) → g ∈ found → StrongLeast n (score l) (g .set) (g .index)
+unfolding index leastSize kindOf eqZ
+strong-group {n} {l} w g m =
+    let s = score l in
+    let (_, t, e) = in-groups strong n s g .0 (subst (λ (found : List Group). g ∈ found) (wrote w) m) in
+    let (some, proper) = speaks-size strong n (g .set) (of-listed strong n s (g .set) t .0) in
+    let as-lent = untouched-index scoreLimit n s (g .set) (listed-untouched n s (wrote-allowed w) (g .set) t) in
+    subst (StrongLeast n s (g .set)) (sym (e ∙ as-lent)) (strong-is n s (g .set) some proper)
 
-clean-line : {n : ℕ} {s : Similarity} {found : List (ℕ × ℤ)} → Wrote (pos 2) n s found → (A : ℕ) (z : ℤ) → found lists (A, z) → CleanLeast n s A z
+clean-group : {n : ℕ} {l : List ℤ} {found : List Group} → Wrote (pos 2) n l found → (g : Group) → g ∈ found → CleanLeast n (score l) (g .set) (g .index)
 unfolding kindOf eqZ
-clean-line {n} {s} w A z m =
-    let p = demand-3 (pos 2) .complete w .exactly A z .0 m in
-    subst (CleanLeast n s A) (sym (p .index-is)) (clean-is n s A (sizes (p .spoken .0) .1))
+clean-group {n} {l} w g m =
+    let p = demand-3 (pos 2) .complete w .exactly (g .set) (g .index) .0 (g, m, refl, refl) in
+    subst (CleanLeast n (score l) (g .set)) (sym (p .index-is)) (clean-is n (score l) (g .set) (sizes (p .spoken .0) .1))
 
-split-line : {n : ℕ} {s : Similarity} {found : List (ℕ × ℤ)} → Wrote (pos 3) n s found → (A : ℕ) (z : ℤ) → found lists (A, z) → SeparationLeast n s A z
+split-group : {n : ℕ} {l : List ℤ} {found : List Group} → Wrote (pos 3) n l found → (g : Group) → g ∈ found → SeparationLeast n (score l) (g .set) (g .index)
 unfolding kindOf eqZ leastSize
-split-line {n} {s} w A z m =
-    let p = demand-3 (pos 3) .complete w .exactly A z .0 m in
+split-group {n} {l} w g m =
+    let p = demand-3 (pos 3) .complete w .exactly (g .set) (g .index) .0 (g, m, refl, refl) in
     let (some, proper) = sizes (p .spoken .0) in
-    subst (SeparationLeast n s A) (sym (p .index-is)) (separation-is n s A some proper)
+    subst (SeparationLeast n (score l) (g .set)) (sym (p .index-is)) (separation-is n (score l) (g .set) some proper)
 
 -- what is less by the larger of two
 less-larger : (u v w : ℤ) → let z = u -ℤ maxZ v w in ((z +ℤ v) ≤ℤ u) × ((z +ℤ w) ≤ℤ u) × ((z ≡ u -ℤ v) ⊎ (z ≡ u -ℤ w))
@@ -112,6 +112,34 @@ less-larger u v w = (
     go : (maxZ v w ≡ v) ⊎ (maxZ v w ≡ w) → (u -ℤ maxZ v w ≡ u -ℤ v) ⊎ (u -ℤ maxZ v w ≡ u -ℤ w)
     go (inl e) = inl (ap (λ y. u -ℤ y) e)
     go (inr e) = inr (ap (λ y. u -ℤ y) e)
+
+-- two different numbers in falling order: there is one such order
+pub record Falling (i j : ℕ) : Type 0 where
+  pub high : ℕ
+  pub low : ℕ
+  pub falls : low < high
+  pub same : SamePair high low i j
+  pub only : (x y : ℕ) → y < x → SamePair x y i j → (x ≡ high) × (y ≡ low)
+
+pub falling : (i j : ℕ) → i ≢ j → Falling i j
+falling i j d = go (decLt j i)
+  where
+    go : Dec (j < i) → Falling i j
+    go (yes l) = record { high = i; low = j; falls = l; same = inl (refl, refl); only = one }
+      where
+        one : (x y : ℕ) → y < x → SamePair x y i j → (x ≡ i) × (y ≡ j)
+        one x y h (inl e) = e
+        one x y h (inr (p, q)) = absurd (omega arith)
+    go (no l) = record { high = j; low = i; falls = omega arith; same = inr (refl, refl); only = other }
+      where
+        other : (x y : ℕ) → y < x → SamePair x y i j → (x ≡ j) × (y ≡ i)
+        other x y h (inl (p, q)) = absurd (omega arith)
+        other x y h (inr e) = e
+
+-- what holds of two entries holds of them in either order
+pub either-order : (P : ℕ → Type 0) (x y i j : ℕ) → SamePair x y i j → P i → P j → P x × P y
+either-order P x y i j (inl (e, f)) p q = (subst P (sym e) p, subst P (sym f) q)
+either-order P x y i j (inr (e, f)) p q = (subst P (sym e) q, subst P (sym f) p)
 
 unordered : (n A a b c : ℕ) → Inside n A a b c → a ≢ b
     → (t : Triple) × UnorderedTriple n A t a b c × ((u : Triple) → UnorderedTriple n A u a b c → u ≡ t)
@@ -148,10 +176,10 @@ least-indices = record {
   separation-index = λ n d A p z.
       let (some, proper) = sizes p in
       (λ e. subst (SeparationLeast n d A) (sym e) (separation-is n d A some proper), λ l. one-separation l (separation-is n d A some proper));
-  strong = strong-line;
+  strong = strong-group;
   weight = λ s t. less-larger (s (t .a) (t .b)) (s (t .a) (t .c)) (s (t .b) (t .c));
   unordered = unordered;
   of-entries = of-entries;
-  clean = clean-line;
-  separation = split-line;
+  clean = clean-group;
+  separation = split-group;
 }

@@ -5,7 +5,6 @@ pub mod AgreeText
 pub mod AgreeNumbers
 pub mod AgreeValues
 pub mod AgreeTables
-pub mod Sides
 pub mod Spoken
 pub mod Demands
 pub mod TurnedAway

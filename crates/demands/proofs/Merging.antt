@@ -43,15 +43,15 @@ use Rattle.clusters.proofs.Links.{in-between, of-between, sum-between}
 use Rattle.clusters.proofs.Exists.{length-merged, count-singles}
 use Rattle.answers.specs.declared.Answer.{Answer}
 use Rattle.answers.specs.Answers.{numberOf, countOf}
 use Rattle.interface.specs.Sheet.{sameBytes}
 use Rattle.interface.specs.Calls.{LinkageCall}
 use Rattle.interface.proofs.Pieces.{same-bytes}
-use Rattle.interface.proofs.Demands.{merged-slots}
-use Rattle.interface.specs.Taken.{FitsList}
-use Rattle.interface.specs.Sentences.{HasMark}
-use Rattle.interface.proofs.AgreeNumbers.{in-range-says, marked-says}
-use Rattle.interface.proofs.Taken.{whatever-fits}
-use Rattle.interface.specs.Merging.{LeftBefore, NoSmaller, SlotMerges, fourScores, InOrder}
+use Rattle.demands.proofs.Demands.{merged-slots}
+use Rattle.demands.specs.Taken.{FitsList}
+use Rattle.demands.specs.Sentences.{HasMark}
+use Rattle.demands.proofs.AgreeNumbers.{in-range-says, marked-says}
+use Rattle.demands.proofs.Taken.{whatever-fits}
+use Rattle.demands.specs.Merging.{LeftBefore, NoSmaller, SlotMerges, fourScores, InOrder}
 
 -- what stands, by a list of slots
 abbrev Standing : ℕ → List ℕ → ℕ → Type 0

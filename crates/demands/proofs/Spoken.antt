@@ -5,15 +5,16 @@ use mathlib.Core.List.{List, [], _∷_, List·Memᴰ·head, List·Memᴰ·tail}
 use mathlib.Core.Path.{refl}
 use Prim.Native.Nat.{ℕ, _<_, _≤_}
 use native.Mathlib.Omega.{arith}
+use native.Mathlib.Decide.{decLt}
 use lib.Dec.{leb}
 use lib.ListN.{length}
 use Rattle.lists.specs.Lists.{_∈_, Distinct}
-use Rattle.sets.specs.Sets.{members, size}
+use Rattle.sets.specs.Sets.{members, size, _∋_}
 use Rattle.sets.proofs.Sets.{has-no, no-has, of-members, members-distinct, member-size, size-member, size-less, less-size}
 use Rattle.clusters.specs.Groups.{Kind, strong, clean, splits, proper, speaksOf}
-use Rattle.interface.specs.Demands.{Proper, Spoken}
-use Rattle.interface.proofs.Sides.{two-members}
-use Rattle.interface.proofs.Agree.{Says, and-says, like, le-says, lt-says}
+use Rattle.demands.specs.Demands.{Proper, Spoken}
+use Rattle.demands.proofs.Agree.{Says, and-says, like, le-says, lt-says}
+use Rattle.sets.proofs.Subsets.{two-size}
 
 proper-says : (n A : ℕ) → Says (leb 1 (size n A) && proper n A) (Proper n A)
 unfolding proper
@@ -32,6 +33,13 @@ two-of : (l : List ℕ) → Distinct l → 2 ≤ length l → (x y : ℕ) × (x 
 two-of [] d h = absurd (omega arith)
 two-of (x ∷ []) d h = absurd (omega arith)
 two-of (x ∷ y ∷ l) d h = (x, y, List·Memᴰ·head refl, List·Memᴰ·tail (List·Memᴰ·head refl), λ e. d .0 (List·Memᴰ·head e))
+
+pub two-members : (n A : ℕ) {i j : ℕ} → i < n → j < n → A ∋ i → A ∋ j → i ≢ j → 2 ≤ size n A
+two-members n A {i} {j} hi hj ki kj d = go (decLt i j)
+  where
+    go : Dec (i < j) → 2 ≤ size n A
+    go (yes l) = two-size n A hj l kj ki
+    go (no l) = two-size n A {i = i} {j = j} hi (omega arith) ki kj
 
 pub spoken-says : (k : Kind) (n A : ℕ) → Says (speaksOf k n A) (Spoken k n A)
 unfolding speaksOf proper size

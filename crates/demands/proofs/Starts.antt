@@ -9,12 +9,12 @@ use lib.ListN.{length, length-append, getD, take, drop}
 use lib.Seq.{take-append-add, take-append-seam, drop-append-add}
 use Rattle.lists.specs.Lists.{_∈_, keep}
 use Rattle.lists.proofs.Lists.{keep-append, getD-in}
 use Rattle.interface.specs.Sheet.{cut, lines, names, entries}
 use Rattle.interface.specs.SheetText.{joined}
 use Rattle.interface.specs.Calls.{startOf}
 use Rattle.interface.proofs.Pieces.{some-piece, joined-cut}
-use Rattle.interface.specs.Sentences.{count, Pieces, last-piece, first-piece}
-use Rattle.interface.proofs.AgreeText.{cut-pieces, none-counted}
+use Rattle.demands.specs.Sentences.{count, Pieces, last-piece, first-piece}
+use Rattle.demands.proofs.AgreeText.{cut-pieces, none-counted}
 
 -- no piece has the byte between
 piece-free : {c : ℕ} {s : List ℕ} {ws : List (List ℕ)} → Pieces c s ws → {w : List ℕ} → w ∈ ws → c ∈ w → ⊥

@@ -3,7 +3,7 @@ use mathlib.Core.Path.{_≡_, refl, sym, ap, _∙_, subst}
 use mathlib.Core.Bool.{Bool, false, cond}
 use mathlib.Core.Logic.{_⊎_, inl, inr, ⊎-elim, _≢_}
 use mathlib.Core.List.{List, [], _∷_, _++_}
-use Prim.Native.Nat.{ℕ, _+_, _*_, _/_, _<_, _≤_}
+use Prim.Native.Nat.{ℕ, _+_, _*_, _/_, _<_, _≤_, _-_}
 use native.Mathlib.Omega.{arith}
 use borrow.Author.Tests.{lt-ltb, le-ltb, ltb-true}
 use lib.Dec.{T, ltb, lit<}
@@ -40,23 +40,23 @@ use Rattle.interface.specs.Refusals.{
   sheetCallChecks,
   sheetRefusal,
   readerRefusal,
+  kindChecks,
 }
 use Rattle.interface.specs.Calls.{CCall, ReaderCall, cNumber}
-use Rattle.interface.proofs.Refusals.{first-none, none-append, first-append, first-at, passes, right-count}
+use Rattle.interface.proofs.Refusals.{first-none, none-append, first-append, first-at, passes, right-count, under}
 use Rattle.interface.proofs.Accepted.{Passed, not-not}
 use Rattle.interface.proofs.Names.{distinct-names}
 use Rattle.interface.proofs.SheetTexts.{WellFormed, sheetText-names, sheetText-entries, sheetText-pairs, sheetText-accepted}
-use Rattle.interface.proofs.Demands.{c-refused, answered, taken, counted}
-use Rattle.interface.specs.Sentences.{NoKind, NoneOrOver32, OtherLength, markNumber, BeyondMillion, HasMark, lower, NoDistances, Distances}
-use Rattle.interface.specs.Taken.{FitsSheet, FitsKind, always, if-scored, if-distances, FitsList, ListKind, every-list, scored-list, distance-list, Taken}
-use Rattle.interface.proofs.Agree.{not-says, agree-none}
-use Rattle.interface.proofs.AgreeText.{name-says, equal-says, six-says}
-use Rattle.interface.proofs.AgreeNumbers.{one-says, third-kind, eleven-says, sixteen-list-says, twelve-list-says}
-use Rattle.interface.proofs.AgreeTables.{reader-agrees, reader-numbered}
-use Rattle.interface.proofs.TurnedAway.{turned-away}
-use Rattle.interface.proofs.Requests.{request-2-1}
-use Rattle.interface.proofs.Refined.{request-2-5}
+use Rattle.demands.specs.Sentences.{NoKind, NoneOrOver32, OtherLength, markNumber, BeyondMillion, HasMark, lower, NoDistances, Distances, NoEntries, FewerThan2n, AnchorOrShort}
+use Rattle.demands.specs.Taken.{FitsSheet, FitsKind, always, if-scored, if-distances, FitsList, ListKind, every-list, scored-list, distance-list, Taken}
+use Rattle.demands.proofs.Agree.{not-says, agree-none, none-both, given-behind}
+use Rattle.demands.proofs.AgreeText.{name-says, equal-says, six-says}
+use Rattle.demands.proofs.AgreeNumbers.{one-says, third-kind, eleven-says, sixteen-list-says, twelve-list-says}
+use Rattle.demands.proofs.AgreeTables.{reader-agrees}
+use Rattle.demands.proofs.TurnedAway.{turned-away}
+use Rattle.interface.proofs.Outcomes.{refused-number, taken, counted}
 use Rattle.interface.proofs.Room.{listing-room}
+use Rattle.demands.specs.Tables.{NoneGiven, pairTable, lengthTable, distanceTable, kindTable, scoredTable, Table}
 
 -- a list that fits: no sentence holds
 module _ {n : ℕ} {l : List ℤ} (f : FitsList n l) where
@@ -76,11 +76,26 @@ no-distances d (inr (i, h, g)) = g (d .own i h)
 distances-scored : {n : ℕ} {l : List ℤ} → Distances n l → HasMark l → ⊥
 distances-scored d m = d .natural markNumber m .le
 
+-- the parts of the tables
+length-none : {n : ℕ} {l : List ℤ} → FitsList n l → NoneGiven (lengthTable n l)
+length-none f = (six f, (ten f, tt))
+
+pub pair-none : {n : ℕ} {l : List ℤ} → FitsList n l → NoneGiven (pairTable n l)
+pair-none {n} {l} f = none-both (lengthTable n l) ((11, BeyondMillion l) ∷ []) (length-none f) (eleven f, tt)
+
+pub distance-none : {n : ℕ} {l : List ℤ} → FitsList n l → Distances n l → NoneGiven (distanceTable n l)
+distance-none {n} {l} f d =
+    none-both (scoredTable n l) ((12, NoDistances n l) ∷ [])
+    (none-both (pairTable n l) ((16, HasMark l) ∷ []) (pair-none f) (distances-scored d, tt)) (no-distances d, tt)
+
 kind-fits : {n : ℕ} {l : List ℤ} {kind : ℤ} → ListKind n l kind
     → (NoKind kind → ⊥) × ((kind ≢ pos 1) × HasMark l → ⊥) × ((kind ≡ pos 3) × NoDistances n l → ⊥)
 kind-fits every-list = (λ (a, _, _). a refl, λ (a, _). a refl, λ (e, _). third-kind e .0 refl)
 kind-fits (scored-list s) = (λ (_, b, _). b refl, λ (_, m). s m, λ (e, _). third-kind e .1 refl)
 kind-fits (distance-list d) = (λ (_, _, c). c refl, λ (_, m). distances-scored d m, λ (_, x). no-distances d x)
+
+pub kind-none : {n : ℕ} {l : List ℤ} {kind : ℤ} → ListKind n l kind → (NoKind kind → ⊥) × NoneGiven (kindTable kind n l)
+kind-none k = let (one, sixteen, twelve) = kind-fits k in (one, (sixteen, (twelve, tt)))
 
 -- names and scores that fit
 module _ {ns : List (List ℕ)} {s : Similarity} (f : FitsSheet ns s) where
@@ -128,6 +143,10 @@ module _ {ns : List (List ℕ)} {s : Similarity} (f : FitsSheet ns s) where
   unfolding sheetChecks
   read-through = none-append (readerChecks text) (check11 (pairs text) ∷ []) .0 accepted .0
 
+  read-passed : firstOf (readerChecks (sheetText ns s)) ≡ 0
+  unfolding readerChecks all
+  read-passed = first-none (readerChecks text) tt .1 read-through
+
   -- only 14 is left
   refusal-is : {kind : ℤ} → FitsKind (length ns) s kind → (buffer : ℕ)
       → sheetRefusal kind (sheetText ns s) buffer ≡ cond (ltb buffer (length (sheetListing kind (sheetText ns s)))) 14 0
@@ -146,8 +165,7 @@ module _ {ns : List (List ℕ)} {s : Similarity} (f : FitsSheet ns s) where
       → let long = length (sheetListing kind (sheetText ns s)) in r ≡ cNumber (answer (cond (ltb (length lent) long) 14 0) long)
   in-C {kind} k {lent} c =
       let long = length (sheetListing kind text) in
-      answered c (sheetRefusal kind text (length lent)) long (c .outcome .answered)
-      ∙ ap (λ (j : ℕ). cNumber (answer j long)) (refusal-is k (length lent))
+      c .number ∙ ap cNumber (c .outcome .answered) ∙ ap (λ (j : ℕ). cNumber (answer j long)) (refusal-is k (length lent))
 
   -- the reader
   read : {lent after : List ℤ} {r : Answer} → ReaderCall (sheetText ns s) lent r after
@@ -155,7 +173,7 @@ module _ {ns : List (List ℕ)} {s : Similarity} (f : FitsSheet ns s) where
       (numberOf r ≡ 0) × (countOf r ≡ n) × FitsList n l × ((i j : ℕ) → i < n → j ≤ i → lower l i j ≡ s i j)
   unfolding readerRefusal readerChecks all rowStart
   read {lent} {after} {r} c =
-      let z : readerRefusal text ≡ 0 = first-none (readerChecks text) tt .1 read-through in
+      let z : readerRefusal text ≡ 0 = read-passed in
       let none = its-number (readerRefusal text) (entries text) (c .answered) ∙ z in
       let is : take (rowStart n) after ≡ pairList n s =
       taken z (pairs text) lent (c .written) (ap length (sheetText-pairs formed) ∙ length-pairList n s) ∙ sheetText-pairs formed in (
@@ -168,30 +186,33 @@ module _ {ns : List (List ℕ)} {s : Similarity} (f : FitsSheet ns s) where
 -- 2,048 bytes are never short
 module _ (kind : ℤ) (s : List ℕ) (buffer : ℕ) where
   abbrev before : List Check
-  before = (check1 kind ∷ readerChecks s) ++ (check11 (pairs s) ∷ check16Of kind (pairs s) ∷ check12 kind (entries s) (pairs s) ∷ [])
+  before = (check1 kind ∷ sheetChecks s) ++ kindChecks kind (entries s) (pairs s)
 
   at-fourteen : sheetRefusal kind s buffer ≡ 14 → T (none before) × T (ltb buffer (length (sheetListing kind s)))
-  unfolding sheetRefusal sheetCallChecks readerChecks all
+  unfolding sheetRefusal sheetCallChecks sheetChecks readerChecks all
   at-fourteen = first-at 14 (lit< tt) before (ltb buffer (length (sheetListing kind s))) [] tt tt .0
 
-  left : T (none before) → (entries s ≤ 32) × Passed kind (entries s) (pairs s)
-  unfolding readerChecks all pairs
+  left : T (none before) → Passed kind (entries s) (pairs s)
+  unfolding sheetChecks readerChecks under all pairs
   left t =
-      let e = first-none before tt .1 t in (
-        right-count (entries s) (T-false {b = wrongCount (entries s)} (passes before tt e 5 (lit< tt))),
-        record {
-          long = length-pairList (entries s) (value s);
-          range = not-not (scoresInRange (pairs s)) (passes before tt e 9 (lit< tt));
-          sixteen = passes before tt e 10 (lit< tt);
-        },
-      )
+      let e = first-none before tt .1 t in
+      record {
+        count = T-false {b = wrongCount (entries s)} (passes 6 before tt e);
+        long = length-pairList (entries s) (value s);
+        range = not-not (scoresInRange (pairs s)) (passes 11 before tt e);
+        sixteen = passes 16 before tt e;
+        twelve = passes 12 before tt e;
+      }
 
   roomy : 2048 ≤ buffer → sheetRefusal kind s buffer ≢ 14
   unfolding sheetListing
   roomy h e =
       let (t, short) = at-fourteen e in
-      let (few, passed) = left t in
-      omega (arith, listing-room few passed, ltb-true buffer (length (sheetListing kind s)) (T-true short))
+      let passed = left t in
+      omega (arith, listing-room (right-count (entries s) (passed .count)) passed, ltb-true buffer (length (sheetListing kind s)) (T-true short))
+
+pub neither-entry : {n i j : ℕ} → i < n → j < n → NoEntries n i j → ⊥
+neither-entry h g = ⊎-elim (λ x. omega arith) (λ x. omega arith)
 
 pub whatever-fits : Taken
 unfolding cNumber answer
@@ -202,47 +223,41 @@ whatever-fits = record {
   short = λ {ns} {s} f {kind} k {lent} c h.
       let long = length (sheetListing kind (sheetText ns s)) in
       in-C f k c ∙ ap (λ (b : Bool). cNumber (answer (cond b 14 0) long)) (lt-ltb (length lent) long h);
-  room = λ {kind} {sheet} {lent} c h e.
-      let k = sheetRefusal kind sheet (length lent) in
-      let many = length (sheetListing kind sheet) in
-      roomy kind sheet (length lent) h (c-refused k many 14 (lit< tt) .0 (sym (answered c k many (c .outcome .answered)) ∙ e));
+  room = λ {kind} {sheet} {lent} c h e. roomy kind sheet (length lent) h (sym (its-number _ _ (c .outcome .answered))
+      ∙ refused-number (c .given) 14 (lit< tt) .0 (sym (c .number) ∙ e));
   read = λ f c. read f c;
   name = λ {ns} {s} f {i} c h.
       let text = sheetText ns s in
-      let given = agree-none (reader-agrees text) (reader-numbered text) .0 (first-none (readerChecks text) (reader-numbered text) .1 (read-through f)) in
+      let given = agree-none (reader-agrees text) .0 (read-passed f) in
       let there : i < entries text = omega (arith, sheetText-entries (formed f)) in
       turned-away .name-in-C c .0 .name given there .0 ∙ ap (λ (l : List (List ℕ)). getD l i []) (sheetText-names (formed f));
-  numbers = λ f k c.
+  numbers = λ {n} {l} f {kind} k {lentSets} {sets} {lentIndices} c.
       let j = turned-away .numbers-call c in
-      let (one, sixteen, twelve) = kind-fits k in
-      let last = j .refused 13 (lit< tt) .1 in (
-        λ h g. j .taken .1 (one, (six f, (ten f, (eleven f, (sixteen, (twelve, (few h g, tt))))))),
-        λ h. last (inr (one, inr (six f, inr (ten f, inr (eleven f, inr (sixteen, inr (twelve, inl (refl, inl h)))))))),
-        λ h. last (inr (one, inr (six f, inr (ten f, inr (eleven f, inr (sixteen, inr (twelve, inl (refl, inr h)))))))),
+      let before : Table = ((1, NoKind kind) ∷ pairTable n l) ++ kindTable kind n l in
+      let none = none-both ((1, NoKind kind) ∷ pairTable n l) (kindTable kind n l) (kind-none k .0, pair-none f) (kind-none k .1) in
+      let last : Table = (13, FewerThan2n n (length lentSets) (length lentIndices)) ∷ [] in (
+        λ h g. j .taken .1 (none-both before last none (few h g, tt)),
+        λ h. j .refused 13 (lit< tt) .1 (given-behind before last 13 none (inl (refl, inl h))),
+        λ h. j .refused 13 (lit< tt) .1 (given-behind before last 13 none (inl (refl, inr h))),
       );
-  linked = λ f scored c.
-      let j = turned-away .linkage-call c in (
-        λ h. j .taken .1 (six f, (ten f, (eleven f, (scored, (λ g. omega arith, tt))))),
-        λ h. j .refused 15 (lit< tt) .1 (inr (six f, inr (ten f, inr (eleven f, inr (scored, inl (refl, h)))))),
+  linked = λ {n} {l} f scored {linkage} {lent} c.
+      let j = turned-away .linkage-call c in
+      let none = none-both (pairTable n l) ((16, HasMark l) ∷ []) (pair-none f) (scored, tt) in
+      let last : Table = (15, length lent < n - 1) ∷ [] in (
+        λ h. j .taken .1 (none-both (scoredTable n l) last none (λ g. omega arith, tt)),
+        λ h. j .refused 15 (lit< tt) .1 (given-behind (scoredTable n l) last 15 none (inl (refl, h))),
       );
-  anchored = λ f d c.
+  anchored = λ {n} {l} f d {x} {lent} c.
       let j = turned-away .anchored-call c in
-      let last = j .refused 15 (lit< tt) .1 in (
-        λ h g. j .taken .1 (six f, (ten f, (eleven f, (distances-scored d, (no-distances d, (neither h g, tt)))))),
-        λ h. last (inr (six f, inr (ten f, inr (eleven f, inr (distances-scored d, inr (no-distances d, inl (refl, inl h))))))),
-        λ h. last (inr (six f, inr (ten f, inr (eleven f, inr (distances-scored d, inr (no-distances d, inl (refl, inr h))))))),
+      let none = distance-none f d in
+      let last : Table = (15, AnchorOrShort n x (length lent)) ∷ [] in (
+        λ h g. j .taken .1 (none-both (distanceTable n l) last none (neither h g, tt)),
+        λ h. j .refused 15 (lit< tt) .1 (given-behind (distanceTable n l) last 15 none (inl (refl, inl h))),
+        λ h. j .refused 15 (lit< tt) .1 (given-behind (distanceTable n l) last 15 none (inl (refl, inr h))),
       );
-  weighed = λ f d c.
-      let j = request-2-5 .judged c in (
-        λ t. j .taken .1 (six f, (ten f, (eleven f, (distances-scored d, (no-distances d, (λ g. g t, tt)))))),
-        λ g. j .refused 19 (lit< tt) .1 (inr (six f, inr (ten f, inr (eleven f, inr (distances-scored d, inr (no-distances d, inl (refl, g))))))),
-      );
-  shared = λ f k third c hi hj.
-      let (one, sixteen, twelve) = kind-fits k in
-      request-2-1 _ .judged c .taken .1 (λ (a, b). one (a, b, third), (six f, (ten f, (eleven f, (sixteen, (twelve, (neither-entry hi hj, tt)))))));
-  looked-up = λ f c hi hj.
-      let (number, e, j) = turned-away .score-in-C c in
-      e ∙ ap pos (j .taken .1 (six f, (ten f, (neither-entry hi hj, tt))));
+  looked-up = λ {n} {l} f {i} {j} c hi hj.
+      let (number, e, judged) = turned-away .score-in-C c in
+      e ∙ ap pos (judged .taken .1 (none-both (lengthTable n l) ((15, NoEntries n i j) ∷ []) (length-none f) (neither-entry hi hj, tt)));
 }
   where
     few : {m a b : ℕ} → m ≤ a → m ≤ b → (a < m) ⊎ (b < m) → ⊥
@@ -250,6 +265,3 @@ whatever-fits = record {
 
     neither : {n x slots m : ℕ} → x < n → m ≤ slots → (n ≤ x) ⊎ (slots < m) → ⊥
     neither h g = ⊎-elim (λ x. omega arith) (λ x. omega arith)
-
-    neither-entry : {n i j : ℕ} → i < n → j < n → (n ≤ i) ⊎ (n ≤ j) → ⊥
-    neither-entry h g = ⊎-elim (λ x. omega arith) (λ x. omega arith)

@@ -5,7 +5,8 @@ use mathlib.Core.Logic.{_≢_}
 use mathlib.Core.List.{List, [], _∷_}
 use Prim.Native.Nat.{ℕ, _<_}
 use native.Mathlib.Omega.{arith}
-use lib.IntN.{pos, negℤ}
+use borrow.Author.Tests.{ne-eqb}
+use lib.IntN.{pos, negℤ, ℤ}
 use lib.ListN.{length, getD, take, drop}
 use Rattle.lists.proofs.Tests.{T-true, T-false}
 use Rattle.pairs.specs.declared.Carried.{Carried}
@@ -13,10 +14,10 @@ use Rattle.pairs.specs.declared.Pair.{Pair}
 use Rattle.pairs.specs.declared.Carried.the-variants.{Scored, Unscored}
 use Rattle.answers.specs.declared.Answer.{Answer}
 use Rattle.answers.specs.declared.ValueRead.{ValueRead}
-use Rattle.answers.specs.Answers.{numberOf, countOf, answer}
-use Rattle.answers.proofs.Answers.{number-answer}
+use Rattle.answers.specs.Answers.{numberOf, countOf, answer, filled}
+use Rattle.answers.proofs.Answers.{number-answer, its-number, count-refused}
 use Rattle.interface.specs.Sheet.{isLoneMinus, isCell, valueOf, pairSaid, cut, names, entries}
 use Rattle.interface.specs.Refusals.{
   firstOf,
   readerChecks,
   scoreChecks,
@@ -28,17 +29,17 @@ use Rattle.interface.specs.Refusals.{
   readerRefusal,
   scoreRefusal,
 }
-use Rattle.interface.specs.Calls.{cNumber, hasName, nameOf, nameStart, startOf, behind, pieceAt, ValueCall}
-use Rattle.interface.specs.Sentences.{CellSays, points, lone-minus, count, Pieces}
-use Rattle.interface.specs.Tables.{NoneGiven, readerTable}
-use Rattle.interface.specs.TurnedAway.{NameHanded, ValueHanded, TurnedAway}
+use Rattle.interface.specs.Calls.{cNumber, hasName, nameOf, nameStart, startOf, behind, pieceAt, ValueCall, setsFound, indicesFound}
+use Rattle.demands.specs.Sentences.{CellSays, points, lone-minus, count, Pieces}
+use Rattle.demands.specs.Tables.{NoneGiven, readerTable}
+use Rattle.demands.specs.TurnedAway.{NameHanded, ValueHanded, TurnedAway, NumberInC}
 use Rattle.interface.proofs.Pieces.{some-piece}
 use Rattle.interface.proofs.Values.{signed-lone}
-use Rattle.interface.proofs.InPoints.{says-written, says-value}
-use Rattle.interface.proofs.Cells.{says-cell}
-use Rattle.interface.proofs.Agree.{Says, and-says, not-says, like, eq-says, lt-says, agree-none, judged, judged-in-C, refused-number}
-use Rattle.interface.proofs.AgreeText.{cut-pieces, pieces-cut, parted, formed-says}
-use Rattle.interface.proofs.AgreeTables.{
+use Rattle.demands.proofs.InPoints.{says-written, says-value}
+use Rattle.demands.proofs.Cells.{says-cell}
+use Rattle.demands.proofs.Agree.{Says, and-says, not-says, like, eq-says, lt-says, agree-none, above, judged, judged-by}
+use Rattle.demands.proofs.AgreeText.{cut-pieces, pieces-cut, parted, formed-says}
+use Rattle.demands.proofs.AgreeTables.{
   reader-agrees,
   sheet-agrees,
   numbers-agree,
@@ -46,22 +47,16 @@ use Rattle.interface.proofs.AgreeTables.{
   anchored-agrees,
   back-agrees,
   score-agrees,
-  reader-numbered,
-  sheet-numbered,
-  numbers-numbered,
-  linkage-numbered,
-  anchored-numbered,
-  back-numbered,
-  score-numbered,
 }
-use Rattle.interface.proofs.Demands.{answer-in-C}
-use Rattle.interface.proofs.Starts.{name-there, spaces-before, no-feed-before}
+use Rattle.interface.proofs.Outcomes.{refused-number, counted-number}
+use Rattle.demands.proofs.Starts.{name-there, spaces-before, no-feed-before}
+use Rattle.interface.specs.Listing.{groupsFound}
 
 -- a name
 named : (sheet : List ℕ) (i : ℕ) → Says (hasName sheet i) (NoneGiven (readerTable sheet) × (i < entries sheet))
 unfolding hasName readerRefusal
 named sheet i =
-    let f = agree-none (reader-agrees sheet) (reader-numbered sheet) in
+    let f = agree-none (reader-agrees sheet) in
     and-says (like (eq-says (firstOf (readerChecks sheet)) 0) (f .0) (f .1)) (lt-says i (entries sheet))
 
 handed : (sheet : List ℕ) (i : ℕ) {part : List ℕ} {start : ℕ} → part ≡ nameOf sheet i → start ≡ nameStart sheet i → NameHanded sheet i part start
@@ -109,29 +104,43 @@ handed-value {line} {at} {r} c = record {
     whole (w ∷ ws) h = refl
 
 -- an answer's number in C
-number-in-C : (a : Answer) → (numberOf a ≡ 0 → cNumber a ≡ pos (countOf a)) × (numberOf a ≢ 0 → cNumber a ≡ negℤ (pos (numberOf a)))
-number-in-C a = (answer-in-C a, λ f. refused-number a (numberOf a) (omega arith) .1 refl)
+pub in-C : (a : Answer) {r : ℤ} → r ≡ cNumber a → NumberInC (numberOf a) (countOf a) r
+in-C a e = record {
+  counted = λ c. let f = counted-number a c in (λ q. f .0 (sym e ∙ q), λ z. e ∙ f .1 z);
+  refused = λ k h. let f = refused-number a k h in (λ q. f .0 (sym e ∙ q), λ z. e ∙ f .1 z);
+}
+
+-- a slice that a call fills with 0: refused, nothing is written
+unfilled : {A : Type 0} (nil : A) (k : ℕ) (result lent : List A) {after : List A} → after ≡ filled nil k result lent → k ≢ 0 → after ≡ lent
+unfolding filled
+unfilled nil k result lent w f = w ∙ rw (ne-eqb k 0 f)
 
 pub turned-away : TurnedAway
 unfolding behind sheetRefusal readerRefusal numbersRefusal linkageRefusal anchoredRefusal backRefusal scoreRefusal
 turned-away = record {
   parted = parted;
   one-way = λ p q. sym (pieces-cut p) ∙ pieces-cut q;
-  sheet-call = λ {kind} {sheet} {lent} c.
-      judged (sheet-agrees kind sheet (length lent)) (sheet-numbered kind sheet (length lent)) (number _ _ (c .answered));
-  reader = λ {sheet} c. judged (reader-agrees sheet) (reader-numbered sheet) (number _ _ (c .answered));
+  sheet-call = λ {kind} {sheet} {lent} c. judged-by (sheet-agrees kind sheet (length lent)) _ _ (c .answered) (c .written);
+  reader = λ {sheet} c. judged-by (reader-agrees sheet) _ _ (c .answered) (c .written);
   numbers-call = λ {kind} {n} {l} {lentIndices} {indices} {lentSets} c.
-      judged (numbers-agree kind n l (length lentSets) (length lentIndices)) (numbers-numbered kind n l (length lentSets) (length lentIndices)) (number _ _ (c .answered));
-  linkage-call = λ {linkage} {n} {l} {lent} c. judged (linkage-agrees n l (length lent)) (linkage-numbered n l (length lent)) (number _ _ (c .answered));
-  anchored-call = λ {n} {x} {l} {lent} c. judged (anchored-agrees n x l (length lent)) (anchored-numbered n x l (length lent)) (number _ _ (c .answered));
-  back-call = λ {n} {x} {l} {lent} c. judged (back-agrees n x l (length lent)) (back-numbered n x l (length lent)) (number _ _ (c .answered));
-  in-C = λ c. let (none, some) = number-in-C (c .given) in (c .given, c .outcome, λ z. c .number ∙ none z, λ f. c .number ∙ some f);
-  judged-in-C = λ c f. judged-in-C c f;
-  score-in-C = λ {n} {l} {i} {j} c. (firstOf (scoreChecks n l i j), c .answered, judged (score-agrees n l i j) (score-numbered n l i j) refl);
+      let k = numbersRefusal kind n l (length lentSets) (length lentIndices) in
+      let many = length (groupsFound kind n l) in
+      judged (numbers-agree kind n l (length lentSets) (length lentIndices)) (its-number k many (c .answered)) λ f.
+      let g : k ≢ 0 = λ z. f (its-number k many (c .answered) ∙ z) in (
+        unfilled 0 k (setsFound kind n l) lentSets (c .setsWritten) g,
+        unfilled (pos 0) k (indicesFound kind n l) lentIndices (c .indicesWritten) g,
+        ap countOf (c .answered) ∙ count-refused k many (above g),
+      );
+  linkage-call = λ {linkage} {n} {l} {lent} c. judged-by (linkage-agrees n l (length lent)) _ _ (c .answered) (c .written);
+  anchored-call = λ {n} {x} {l} {lent} c. judged-by (anchored-agrees n x l (length lent)) _ _ (c .answered) (c .written);
+  back-call = λ {n} {x} {l} {lent} c. judged-by (back-agrees n x l (length lent)) _ _ (c .answered) (c .written);
+  in-C = λ c. (c .given, c .outcome, in-C (c .given) (c .number));
+  score-in-C = λ {n} {l} {i} {j} c. (
+    firstOf (scoreChecks n l i j),
+    c .answered,
+    judged (score-agrees n l i j) refl (λ f. c .written ∙ rw (ne-eqb (firstOf (scoreChecks n l i j)) 0 f)),
+  );
   name-call = λ {sheet} {part} {at} {place} {i} c. (nameStart sheet i, handed sheet i (c .bytes) refl, c .lies);
   name-in-C = λ {sheet} {i} c. (handed sheet i (c .bytes) (c .lies), ap length (c .bytes) ∙ sym (c .answered));
   value-call = handed-value;
 }
-  where
-    number : {r : Answer} (k c : ℕ) → r ≡ answer k c → numberOf r ≡ k
-    number k c e = ap numberOf e ∙ number-answer k c

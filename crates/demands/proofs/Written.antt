@@ -9,7 +9,7 @@ use native.Mathlib.Omega.{arith}
 use borrow.Author.Tests.{ne-eqb}
 use lib.Dec.{T, lit<}
 use lib.IntN.{ℤ, pos, _+ℤ_, _-ℤ_}
-use lib.ListN.{length, length-append, length-map, length-replicate, getD, drop, replicate, List·getD-eq-default}
+use lib.ListN.{length, length-append, length-map, length-replicate, getD, drop, replicate, List·getD-eq-default, List·getD-append}
 use lib.Seq.{drop-append-seam}
 use Rattle.lists.specs.Lists.{_∈_, below, each, all}
 use Rattle.lists.proofs.Lists.{lt-below, all-in}
@@ -20,54 +20,50 @@ use Rattle.integers.proofs.Linear.{zarith, +at, -at}
 use Rattle.integers.proofs.Halves.{half-twice, even-half}
 use Rattle.pairs.specs.Pairs.{mark, carried, pairOf}
 use Rattle.pairs.proofs.Pairs.{marked, unmarked}
-use Rattle.clusters.specs.PairList.{rowStart, score, place, hasLength, inRange, areDistances}
-use Rattle.clusters.specs.Groups.{kindOf}
-use Rattle.clusters.specs.Farris.{distancesBack, unfarris, farris, isAnchored}
-use Rattle.clusters.proofs.PairList.{length-pairList, score-symm, score-row}
+use Rattle.clusters.specs.PairList.{Similarity, pairList, rowStart, score, place, hasLength, inRange, areDistances}
+use Rattle.clusters.specs.Groups.{Group, kindOf}
+use Rattle.clusters.specs.Farris.{distancesBack, unfarris, farris, isAnchored, anchoredScores}
+use Rattle.clusters.proofs.PairList.{row-lt, pairList-at, length-pairList, score-symm, score-row}
 use Rattle.clusters.proofs.Theorems.{groups-most}
 use Rattle.answers.specs.declared.Answer.{Answer}
 use Rattle.answers.specs.Answers.{numberOf, countOf, answer, slots, filled}
 use Rattle.answers.proofs.Answers.{its-number, count-refused, slots-refused}
 use Rattle.interface.specs.Sheet.{entries, value, pairs, lineFeed}
 use Rattle.interface.specs.Listing.{groupsFound, Line, digit, digits, hexadecimal, decimal, signedPoints, lineText, firstText, firstLine, listing, listingRead}
 use Rattle.interface.specs.Refusals.{numbersRefusal, scoreRefusal, mostEntries, wrongAnchor, shortSlice, notAnchored, backChecks, backRefusal}
 use Rattle.interface.specs.Calls.{setsFound, indicesFound, BackCall, isPair, scoreAmong, pairAmong}
-use Rattle.interface.specs.Demands.{Listed}
-use Rattle.interface.specs.Requests.{by-anchored-call, by-back-call}
-use Rattle.interface.specs.Sentences.{OtherLength, NoEntries}
-use Rattle.interface.specs.Written.{Kept, HexSays, no-digit, one-more-digit, LineSays, LinesSay, no-line, one-line, ListingSays, Carries, Written}
+use Rattle.demands.specs.Demands.{Listed}
+use Rattle.demands.specs.Sentences.{OtherLength, NoEntries, lower, FewerThan2n}
+use Rattle.demands.specs.Tables.{NoneGiven, numbersTable}
+use Rattle.demands.specs.Written.{Beyond, HexSays, no-digit, one-more-digit, LineSays, LinesSay, no-line, one-line, ListingSays, Carries, Written}
 use Rattle.interface.proofs.Anchored.{length-anchored}
-use Rattle.interface.proofs.Demands.{after-is, not-refused, counted, lines, lines-are, readable, lines-read, merged-slots}
-use Rattle.interface.proofs.TurnedAway.{turned-away}
-use Rattle.interface.proofs.Refusals.{passes}
+use Rattle.demands.proofs.Demands.{lines, lines-are, readable, lines-read, merged-slots}
+use Rattle.demands.proofs.TurnedAway.{turned-away}
+use Rattle.interface.proofs.Refusals.{under, passes}
+use Rattle.interface.proofs.Outcomes.{after-is, dropped, not-refused, counted}
 use Rattle.interface.proofs.Digits.{ten, length-digits}
 use Rattle.interface.proofs.Numerals.{low-digit, high-digit}
-use Rattle.interface.proofs.InPoints.{written-says, decimal-said}
-use Rattle.interface.proofs.RowStarts.{request-2-3}
+use Rattle.demands.proofs.InPoints.{written-says, decimal-said}
 use Rattle.interface.proofs.Accepted.{not-not}
-use Rattle.interface.proofs.Agree.{Says, and-says, not-says, eq-says, le-says, lt-says}
+use Rattle.demands.proofs.Agree.{Under, denied-under, Says, and-says, not-says, eq-says, le-says, lt-says}
 
-above : {k : ℕ} → k ≢ 0 → 0 < k
-above f = omega arith
+-- a call whose checks give k, which answers c and writes a result: nothing beyond it is touched
+beyond : {A : Type 0} {r : Answer} (k c : ℕ) (result lent : List A) {after : List A} → r ≡ answer k c → after ≡ slots k result lent
+    → (z : numberOf r ≡ 0) → {m : ℕ} → length result ≡ m → Beyond m lent after
+beyond k c result lent e w z long = dropped (not-refused k c e z) result lent w long
 
--- a call whose checks give k, which answers c and writes a result
-module _ {A : Type 0} {r : Answer} (k c : ℕ) (result lent : List A) {after : List A} (e : r ≡ answer k c) (w : after ≡ slots k result lent) where
-  kept : {m : ℕ} → (numberOf r ≡ 0 → length result ≡ m) → Kept (numberOf r) (countOf r) m lent after
-  kept {m} long = record {
-    refused = λ f. let h : 0 < k = above (λ z. f (its-number k c e ∙ z)) in (w ∙ slots-refused k result lent h, ap countOf e ∙ count-refused k c h);
-    beyond = λ z.
-        ap (λ (j : ℕ). drop j after) (sym (long z))
-        ∙ ap (drop (length result)) (after-is (not-refused k c e z) result lent w)
-        ∙ drop-append-seam result (drop (length result) lent)
-        ∙ ap (λ (j : ℕ). drop j lent) (long z);
-  }
+-- a call that writes the pair list of s and is not refused
+pub at-row : (n : ℕ) (s : Similarity) (lent : List ℤ) (k c : ℕ) {r : Answer} {after : List ℤ} → r ≡ answer k c → numberOf r ≡ 0
+    → after ≡ slots k (pairList n s) lent → (i j : ℕ) → i < n → j ≤ i → lower after i j ≡ s i j
+unfolding rowStart
+at-row n s lent k c e none w i j h below =
+    ap (λ l. getD l (rowStart i + j) (pos 0)) (after-is (not-refused k c e none) (pairList n s) lent w)
+    ∙ List·getD-append (pairList n s) (drop (length (pairList n s)) lent) (pos 0) (rowStart i + j)
+    (omega (arith, length-pairList n s, row-lt n i j h below))
+    ∙ pairList-at n s i j h below
 
 -- a slice that is filled with 0
 module _ {A : Type 0} (nil : A) (k : ℕ) (result lent : List A) {after : List A} (w : after ≡ filled nil k result lent) where
-  unfilled : k ≢ 0 → after ≡ lent
-  unfolding filled
-  unfilled f = w ∙ rw (ne-eqb k 0 f)
-
   module _ (z : k ≡ 0) (room : length result ≤ length lent) where
     full : after ≡ result ++ replicate (length lent - length result) nil
     unfolding filled
@@ -135,10 +131,10 @@ whole-half p q s h k e f =
 -- the way back: the numbers halved are even
 module _ {n x : ℕ} {l lent after : List ℤ} {r : Answer} (c : BackCall n x l lent r after) (z : numberOf r ≡ 0) where
   is-anchored : T (isAnchored n x l)
-  unfolding backRefusal backChecks notAnchored all
+  unfolding backRefusal backChecks notAnchored under all
   is-anchored =
       let e = not-refused (backRefusal n x l (length lent)) (rowStart n) (c .answered) z in
-      let t = passes (backChecks n x l (length lent)) tt e 2 (lit< tt) in
+      let t = passes 15 (backChecks n x l (length lent)) tt e in
       let (_, q) = or-none (wrongAnchor n x || shortSlice (length lent) (rowStart n)) (not (isAnchored n x l)) (T-false t) in
       not-not (isAnchored n x l) (subst (λ b. T (not b)) (sym q) tt)
 
@@ -164,36 +160,32 @@ carries : (z : ℤ) → Carries (pairOf z) z
 unfolding pairOf mark
 carries z = record { marked = marked; scored = unmarked }
 
+-- what 13 leaves
+enough : (kind : ℤ) (n : ℕ) (l : List ℤ) (sets indices : ℕ) → NoneGiven (numbersTable kind n l sets indices) → FewerThan2n n sets indices → ⊥
+unfolding Under
+enough kind n l sets indices x = denied-under 13 (numbersTable kind n l sets indices) x
+
 pub written : Written
-unfolding pairs rowStart setsFound indicesFound groupsFound distancesBack place score farris pairAmong scoreAmong pairOf carried eqZ mark
+unfolding pairs rowStart setsFound indicesFound groupsFound anchoredScores distancesBack place score farris pairAmong scoreAmong pairOf carried eqZ mark
 written = record {
-  sheet = λ c. kept _ _ _ _ (c .answered) (c .written) (λ z. sym (counted _ _ (c .answered) z));
-  pool = λ c. kept _ _ _ _ (c .answered) (c .written) (λ z. sym (counted _ _ (c .answered) z));
-  linkage = λ c. kept _ _ _ _ (c .answered) (c .written) (λ z. merged-slots c z .long);
-  anchored = λ {n} {x} {l} c. kept _ _ _ _ (c .answered) (c .written) (λ z. length-anchored n x l ∙ sym (counted _ _ (c .answered) z));
-  back = λ {n} {x} {l} c. kept _ _ _ _ (c .answered) (c .written) (λ z. length-pairList n (unfarris (score l)) ∙ sym (counted _ _ (c .answered) z));
-  reader = λ {sheet} c. (
-    kept _ _ _ _ (c .answered) (c .written) (λ z. length-pairList (entries sheet) (value sheet) ∙ ap rowStart (sym (counted _ _ (c .answered) z))),
-    counted _ _ (c .answered),
+  sheet = λ c z. beyond _ _ _ _ (c .answered) (c .written) z (sym (counted _ _ (c .answered) z));
+  linkage = λ c z. beyond _ _ _ _ (c .answered) (c .written) z (merged-slots c z .long);
+  anchored = λ {n} {x} {l} c z. beyond _ _ _ _ (c .answered) (c .written) z (length-anchored n x l ∙ sym (counted _ _ (c .answered) z));
+  back = λ {n} {x} {l} c z. beyond _ _ _ _ (c .answered) (c .written) z (length-pairList n (unfarris (score l)) ∙ sym (counted _ _ (c .answered) z));
+  reader = λ {sheet} c z. (
+    counted _ _ (c .answered) z,
+    beyond _ _ _ _ (c .answered) (c .written) z (length-pairList (entries sheet) (value sheet) ∙ ap rowStart (sym (counted _ _ (c .answered) z))),
   );
-  numbers-refused = λ {kind} {n} {l} {lentIndices} {indices} {lentSets} {sets} {r} c f.
-      let k = numbersRefusal kind n l (length lentSets) (length lentIndices) in
-      let many = length (groupsFound kind n l) in
-      let g : k ≢ 0 = λ z. f (its-number k many (c .answered) ∙ z) in (
-        unfilled 0 k (setsFound kind n l) lentSets (c .setsWritten) g,
-        unfilled (pos 0) k (indicesFound kind n l) lentIndices (c .indicesWritten) g,
-        ap countOf (c .answered) ∙ count-refused k many (above g),
-      );
-  numbers-filled = λ {kind} {n} {l} {lentIndices} {indices} {lentSets} {sets} {r} c z.
+  numbers = λ {kind} {n} {l} {lentIndices} {indices} {lentSets} {sets} {r} c z.
       let k = numbersRefusal kind n l (length lentSets) (length lentIndices) in
       let found = groupsFound kind n l in
       let many = length found in
       let zero-is = not-refused k many (c .answered) z in
       let count = counted k many (c .answered) z in
-      let (_, (_, (_, (_, (_, (_, (few, _))))))) = turned-away .numbers-call c .taken .0 z in
+      let few = enough kind n l (length lentSets) (length lentIndices) (turned-away .numbers-call c .taken .0 z) in
       let most = groups-most (kindOf kind) n (score l) (score-symm l) in
-      let s : length (setsFound kind n l) ≡ many = length-map found (λ (A, z). A) in
-      let i : length (indicesFound kind n l) ≡ many = length-map found (λ (A, z). z) in
+      let s : length (setsFound kind n l) ≡ many = length-map found (λ (g : Group). g .set) in
+      let i : length (indicesFound kind n l) ≡ many = length-map found (λ (g : Group). g .index) in
       let hs : length (setsFound kind n l) ≤ length lentSets = room (λ h. few (inl h)) (omega arith) in
       let hi : length (indicesFound kind n l) ≤ length lentIndices = room (λ h. few (inr h)) (omega arith) in (
         filled-long 0 k (setsFound kind n l) lentSets (c .setsWritten) zero-is hs,
@@ -203,11 +195,10 @@ written = record {
           filled-nil (pos 0) k (indicesFound kind n l) lentIndices (c .indicesWritten) zero-is hi j (omega arith),
         ),
       );
-  score = λ {n} {l} {i} {j} c f. c .written ∙ rw (ne-eqb (scoreRefusal n l i j) 0 (λ z. f (c .answered ∙ ap pos z)));
   listing = λ x. says-lines x;
-  anchored-scores = λ {n} {x} {l} c z i j h k. request-2-3 .written (by-anchored-call c z) i j h k;
-  distances-back = λ {n} {x} {l} c z i j h k.
-      let e = request-2-3 .written (by-back-call c z) i j h k in
+  anchored-scores = λ {n} {x} {l} {lent} c z i j h k. at-row n (farris (score l) x) lent _ _ (c .answered) z (c .written) i j h k;
+  distances-back = λ {n} {x} {l} {lent} c z i j h k.
+      let e = at-row n (unfarris (score l)) lent _ _ (c .answered) z (c .written) i j h k in
       ap (λ y. y +ℤ y) e ∙ doubled-back c z i j h (omega arith)
       ∙ ap₂ (λ y w. y -ℤ (w +ℤ w)) (ap₂ _+ℤ_ (score-row l i i (omega arith)) (score-row l j j (omega arith))) (score-row l i j k);
   looked-up = λ n l a b h long ha hb.

@@ -87,10 +87,8 @@ kindTable kind n l = (16, (kind ≢ pos 1) × HasMark l) ∷ (12, (kind ≡ pos 
 abbrev pub sheetTable : (kind : ℤ) → List ℕ → (buffer : ℕ) → Table
 sheetTable kind sheet buffer =
     ((1, NoKind kind) ∷ scoresTable sheet)
-    ++ ((16, (kind ≢ pos 1) × Unmeasured sheet)
-    ∷ (12, (kind ≡ pos 3) × NoDistance sheet)
-    ∷ (14, ShortFor (sheetListing kind sheet) buffer)
-    ∷ [])
+    ++ ((16, (kind ≢ pos 1) × Unmeasured sheet) ∷ (12, (kind ≡ pos 3) × NoDistance sheet) ∷ [])
+    ++ ((14, ShortFor (sheetListing kind sheet) buffer) ∷ [])
 
 -- "the numbers call 1, 6, 10 to 13"
 abbrev pub numbersTable : (kind : ℤ) (n : ℕ) → List ℤ → (sets indices : ℕ) → Table

@@ -34,6 +34,8 @@ use Rattle.interface.specs.Refusals.{
   sharedChecks,
   wrongGroupKind,
   wrongEntries,
+  wrongCount,
+  wrongDistances,
 }
 use Rattle.interface.proofs.Refusals.{under, passes, right-length, right-entries}
 
@@ -61,11 +63,13 @@ unfolding wrongUnscored
 unscored-left kind l d t =
     subst (λ b. T (not (not b && hasUnscored l))) (T-false {b = eqZ kind (pos 1)} (not-T (eqZ kind (pos 1)) (λ h. d (eqZ-yes kind (pos 1) h)))) t
 
--- of n entries: every score is in range, and if the kind is not 1, every pair is scored
+-- of n entries: what 6 and 10 leave; every score is in range; if the kind is not 1, every pair is scored, and what 12 leaves
 pub record Passed (kind : ℤ) (n : ℕ) (l : List ℤ) : Type 0 where
+  pub count : wrongCount n ≡ false
   pub long : length l ≡ rowStart n
   pub range : T (scoresInRange l)
   pub sixteen : T (not (wrongUnscored kind l))
+  pub twelve : T (not (wrongDistances kind n l))
 
 module _ {kind : ℤ} {n : ℕ} {l : List ℤ} (p : Passed kind n l) where
   pub passed-allowed : AllAllowed scoreLimit n (score l)
@@ -77,9 +81,11 @@ module _ {kind : ℤ} {n : ℕ} {l : List ℤ} (p : Passed kind n l) where
 pub sheet-passed : (kind : ℤ) (s : List ℕ) (buffer : ℕ) → sheetRefusal kind s buffer ≡ 0 → Passed kind (entries s) (pairs s)
 unfolding sheetRefusal sheetCallChecks sheetChecks readerChecks under all pairs
 sheet-passed kind s buffer e = record {
+  count = T-false {b = wrongCount (entries s)} (passes 6 (sheetCallChecks kind s buffer) tt e);
   long = length-pairList (entries s) (value s);
   range = not-not (scoresInRange (pairs s)) (passes 11 (sheetCallChecks kind s buffer) tt e);
   sixteen = passes 16 (sheetCallChecks kind s buffer) tt e;
+  twelve = passes 12 (sheetCallChecks kind s buffer) tt e;
 }
 
 pub numbers-passed : (kind : ℤ) (n : ℕ) (l : List ℤ) (sets indices : ℕ) → numbersRefusal kind n l sets indices ≡ 0 → Passed kind n l
@@ -87,9 +93,11 @@ unfolding numbersRefusal numbersChecks under all
 numbers-passed kind n l sets indices e =
     let checks = numbersChecks kind n l sets indices in
     record {
+      count = T-false {b = wrongCount n} (passes 6 checks tt e);
       long = right-length n l (T-false {b = not (hasLength n l)} (passes 10 checks tt e));
       range = not-not (scoresInRange l) (passes 11 checks tt e);
       sixteen = passes 16 checks tt e;
+      twelve = passes 12 checks tt e;
     }
 
 -- a linkage call takes scores only

@@ -18,26 +18,26 @@ use Rattle.clusters.specs.Doubled.{twice, doubledGroup}
 use Rattle.clusters.proofs.Doubled.{same-range-doubled, weight-doubled}
 use Rattle.answers.specs.Answers.{answer, slots}
 use Rattle.answers.proofs.Answers.{slots-refused}
 use Rattle.interface.specs.Sheet.{point, wholePart, fraction, halfText, hasHalf, numberFrom, halfPoints, entries, value, pairs, sameBytes}
 use Rattle.interface.specs.Listing.{Line, signedPoints, isSet, isDecimal, isIndex, isLine, lineRead, lineWords, listingRead, sheetListing}
 use Rattle.interface.specs.Refusals.{Check, firstOf, none, check11, sheetCallChecks, sheetRefusal, readerChecks, readerRefusal, sheetChecks}
 use Rattle.interface.specs.Calls.{cNumber, CCall}
-use Rattle.interface.specs.WholePoints.{wholeListing, wholeChecks, wholeRefusal, WholeCall}
-use Rattle.interface.specs.Sentences.{InPoints, CellSays, wordAt}
-use Rattle.interface.specs.Demands.{Listed}
-use Rattle.interface.specs.Requests.{by-reader, by-reader-in-C, Pooled, Request-2-6}
+use Rattle.requests.specs.WholePoints.{wholeListing, wholeChecks, wholeRefusal, WholeCall}
+use Rattle.demands.specs.Sentences.{InPoints, CellSays, wordAt}
+use Rattle.demands.specs.Demands.{Listed}
+use Rattle.requests.specs.Shared.{by-reader, by-reader-in-C, Pooled, Request-2-6}
 use Rattle.interface.proofs.Refusals.{first-none, none-append, passes}
 use Rattle.interface.proofs.Points.{index-back}
-use Rattle.interface.proofs.Unique.{is-read, lines-form}
-use Rattle.interface.proofs.Demands.{answered, not-refused, counted, not-refused-in-C, accepted, wrote, wrote-allowed, wrote-scored}
-use Rattle.interface.proofs.RowStarts.{request-2-3}
-use Rattle.interface.proofs.Pool.{request-2-4}
+use Rattle.demands.proofs.Unique.{is-read, lines-form}
+use Rattle.demands.proofs.Demands.{answered, not-refused, counted, not-refused-in-C, accepted, wrote, wrote-allowed, wrote-scored}
+use Rattle.requests.proofs.RowStarts.{request-2-3}
+use Rattle.requests.proofs.Pool.{request-2-4}
 use Rattle.interface.proofs.Refined.{found}
-use Rattle.interface.proofs.InPoints.{says-value, written-says, one-text}
-use Rattle.interface.proofs.Cells.{cell-at, cells, listed-score}
-use Rattle.interface.proofs.Agree.{agree-none}
-use Rattle.interface.proofs.AgreeTables.{reader-agrees, reader-numbered, scores-agree, scores-numbered}
-use Rattle.interface.proofs.WholePoints.{
+use Rattle.demands.proofs.InPoints.{says-value, written-says, one-text}
+use Rattle.demands.proofs.Cells.{cell-at, cells, listed-score}
+use Rattle.demands.proofs.Agree.{agree-none}
+use Rattle.demands.proofs.AgreeTables.{reader-agrees, reader-numbered, scores-agree, scores-numbered}
+use Rattle.requests.proofs.WholePoints.{
   Halveless,
   no-half-whole,
   half-end,

@@ -27,22 +27,22 @@ use Rattle.clusters.proofs.Pooled.{both-scored, either-unscored, pooled-turned,
 use Rattle.answers.specs.declared.Answer.{Answer}
 use Rattle.answers.specs.Answers.{numberOf, answer}
 use Rattle.answers.proofs.Answers.{number-answer}
 use Rattle.interface.specs.Sheet.{names, entries, value, pairs}
 use Rattle.interface.specs.Pool.{placeOn, poolScores, poolPairs, poolText}
 use Rattle.interface.specs.Refusals.{Check, firstOf, none, namesDiffer, check17, check18, check14, readerChecks, sheetChecks, poolChecks, poolRefusal}
 use Rattle.interface.specs.Calls.{cNumber, InC, PoolCall}
-use Rattle.interface.specs.Sentences.{SameName, SameNames}
-use Rattle.interface.specs.Tables.{Judged, poolTable}
-use Rattle.interface.specs.Demands.{Wrote}
-use Rattle.interface.specs.Requests.{Pooled, by-pool-call, by-pool-in-C, SameSet, Request-2-4}
+use Rattle.demands.specs.Sentences.{SameName, SameNames}
+use Rattle.demands.specs.Tables.{Judged, poolTable}
+use Rattle.demands.specs.Demands.{Wrote}
+use Rattle.requests.specs.Shared.{Pooled, by-pool-call, by-pool-in-C, SameSet, Request-2-4}
 use Rattle.interface.proofs.Refusals.{first-none, none-append, first-append, first-at, passes, some-count}
 use Rattle.interface.proofs.Accepted.{not-not}
 use Rattle.interface.proofs.Places.{renumbering}
 use Rattle.interface.proofs.PoolScores.{Sound, sound, pool-symmetric, matching, same-entries, on-second, pool-number, pool-carried}
-use Rattle.interface.proofs.Agree.{agree-none, judged, judged-in-C}
-use Rattle.interface.proofs.AgreeNumbers.{names-say}
-use Rattle.interface.proofs.AgreeTables.{scores-agree, pool-agrees, scores-numbered, pool-numbered}
+use Rattle.demands.proofs.Agree.{agree-none, judged, judged-in-C}
+use Rattle.demands.proofs.AgreeNumbers.{names-say}
+use Rattle.demands.proofs.AgreeTables.{scores-agree, pool-agrees, scores-numbered, pool-numbered}
 use Rattle.interface.proofs.SheetTexts.{
   WellFormed,
   sheetText-cong,
   sheetText-names,
@@ -51,9 +51,9 @@ use Rattle.interface.proofs.SheetTexts.{
   sheetText-most,
   sheetText-accepted,
 }
-use Rattle.interface.proofs.Demands.{answered, taken, not-refused, counted, wrote-allowed, demand-3}
-use Rattle.interface.proofs.Demands.{text-number, text-refused, text-count, text-written, text-either}
-use Rattle.interface.proofs.Unscored.{strong-wrote}
+use Rattle.demands.proofs.Demands.{answered, taken, not-refused, counted, wrote-allowed, demand-3}
+use Rattle.demands.proofs.Demands.{text-number, text-refused, text-count, text-written, text-either}
+use Rattle.requests.proofs.Unscored.{strong-wrote}
 
 -- the table
 module _ (first second : List ℕ) where

@@ -69,10 +69,10 @@ use Rattle.interface.specs.Refusals.{
   poolChecks,
   poolRefusal,
 }
 use Rattle.interface.specs.Calls.{cNumber, InC, PoolCall}
-use Rattle.interface.proofs.Demands.{answered, text-number}
-use Rattle.interface.proofs.Pool.{pool-buffer, request-2-4}
+use Rattle.demands.proofs.Demands.{answered, text-number}
+use Rattle.requests.proofs.Pool.{pool-buffer, request-2-4}
 use Rattle.interface.proofs.Example.{Case, many, refused}
 
 -- two sheets and their pool
 pub record Pool : Type 0 where

@@ -42,8 +42,8 @@ use Rattle.interface.specs.Refusals.{
   refinedChecks,
   refinedRefusal,
 }
-use Rattle.interface.specs.Demands.{Wrote, in-lines, in-slots}
-use Rattle.interface.specs.Requests.{
+use Rattle.demands.specs.Demands.{Wrote, in-lines, in-slots}
+use Rattle.requests.specs.Shared.{
   SideWeighed,
   by-weight-call,
   by-weight-in-C,
@@ -54,12 +54,12 @@ use Rattle.interface.specs.Requests.{
   for-sheet,
   Request-2-5,
 }
-use Rattle.interface.specs.Sentences.{OnSides}
+use Rattle.demands.specs.Sentences.{OnSides}
 use Rattle.interface.proofs.Refusals.{gives, first-no, no-more, passes, right-length}
 use Rattle.interface.proofs.Sides.{Sides, sides, right-side, of-sides}
-use Rattle.interface.proofs.Agree.{judged}
-use Rattle.interface.proofs.AgreeTables.{refined-agrees, refined-numbered}
-use Rattle.interface.proofs.Demands.{wrote, accepted, numbers-taken}
+use Rattle.demands.proofs.Agree.{judged}
+use Rattle.demands.proofs.AgreeTables.{refined-agrees, refined-numbered}
+use Rattle.demands.proofs.Demands.{wrote, accepted, numbers-taken}
 
 -- what was answered, by the checks and the definition
 record Answered (n : ℕ) (l : List ℤ) (A number : ℕ) (w : ℤ) : Type 0 where
@@ -80,34 +80,6 @@ answered {n} {l} {A} (by-weight-in-C c number e) =
       is-number = pos-equal (sym e ∙ c .answered) ∙ ap refinedNumber q ∙ refined-number _ (refinedRefusal n l A);
       is-weight = c .written ∙ ap answeredWeight q;
     }
-
--- two different numbers in falling order: there is one such order
-pub record Falling (i j : ℕ) : Type 0 where
-  pub high : ℕ
-  pub low : ℕ
-  pub falls : low < high
-  pub same : SamePair high low i j
-  pub only : (x y : ℕ) → y < x → SamePair x y i j → (x ≡ high) × (y ≡ low)
-
-pub falling : (i j : ℕ) → i ≢ j → Falling i j
-falling i j d = go (decLt j i)
-  where
-    go : Dec (j < i) → Falling i j
-    go (yes l) = record { high = i; low = j; falls = l; same = inl (refl, refl); only = one }
-      where
-        one : (x y : ℕ) → y < x → SamePair x y i j → (x ≡ i) × (y ≡ j)
-        one x y h (inl e) = e
-        one x y h (inr (p, q)) = absurd (omega arith)
-    go (no l) = record { high = j; low = i; falls = omega arith; same = inr (refl, refl); only = other }
-      where
-        other : (x y : ℕ) → y < x → SamePair x y i j → (x ≡ j) × (y ≡ i)
-        other x y h (inl (p, q)) = absurd (omega arith)
-        other x y h (inr e) = e
-
--- what holds of two entries holds of them in either order
-pub either-order : (P : ℕ → Type 0) (x y i j : ℕ) → SamePair x y i j → P i → P j → P x × P y
-either-order P x y i j (inl (e, f)) p q = (subst P (sym e) p, subst P (sym f) q)
-either-order P x y i j (inr (e, f)) p q = (subst P (sym e) q, subst P (sym f) p)
 
 -- so different entries of either side are one quartet
 unordered : (n A a a′ b b′ : ℕ) → OnSides n A a a′ b b′ → (q : Quartet) × Unordered n A q a a′ b b′ × ((r : Quartet) → Unordered n A r a a′ b b′ → r ≡ q)

@@ -14,11 +14,11 @@ use Rattle.clusters.specs.Farris.{farris, unfarris, anchoredScores, distancesBa
 use Rattle.clusters.proofs.PairList.{length-pairList, row-lt, pairList-at, score-symm, score-row}
 use Rattle.answers.specs.declared.Answer.{Answer}
 use Rattle.answers.specs.Answers.{numberOf, answer, slots}
 use Rattle.interface.specs.Sheet.{entries, value, pairs}
 use Rattle.interface.specs.Refusals.{scoreRefusal}
 use Rattle.interface.specs.Calls.{ScoreInC}
-use Rattle.interface.specs.Requests.{WrotePairs, by-reader, by-reader-in-C, by-anchored-call, by-anchored-in-C, by-back-call, by-back-in-C, Request-2-3}
-use Rattle.interface.proofs.Demands.{after-is, not-refused, counted, not-refused-in-C}
+use Rattle.requests.specs.Shared.{WrotePairs, by-reader, by-reader-in-C, by-anchored-call, by-anchored-in-C, by-back-call, by-back-in-C, Request-2-3}
+use Rattle.demands.proofs.Demands.{after-is, not-refused, counted, not-refused-in-C}
 
 -- a call that writes the pair list of s and is not refused
 at-row : (n : ℕ) (s : Similarity) (lent : List ℤ) (k c : ℕ) {r : Answer} {after : List ℤ} → r ≡ answer k c → numberOf r ≡ 0

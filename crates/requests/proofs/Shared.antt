@@ -21,14 +21,14 @@ use Rattle.clusters.proofs.Shared.{shared-inside, shared-only, shared-single}
 use Rattle.clusters.proofs.Images.{ofGroups, shared-image, shared-image-none}
 use Rattle.answers.specs.Shared.{sharedNumber, sharedSet, sharedLine, sharedAnswer}
 use Rattle.answers.proofs.Answers.{shared-number, shared-nothing, shared-found}
 use Rattle.interface.specs.Listing.{groupsFound}
 use Rattle.interface.specs.Refusals.{wrongKind, wrongGroupKind, wrongAnchor, wrongEntries, sharedChecks, sharedRefusal}
 use Rattle.interface.specs.Calls.{setsFound, sharedFound}
-use Rattle.interface.specs.Requests.{SharedAnswered, by-shared-call, by-shared-in-C, refused-in-C, SmallestFound, Request-2-1}
+use Rattle.requests.specs.Shared.{SharedAnswered, by-shared-call, by-shared-in-C, refused-in-C, SmallestFound, Request-2-1}
 use Rattle.interface.proofs.Refusals.{passes, right-entries}
-use Rattle.interface.proofs.Agree.{judged}
-use Rattle.interface.proofs.AgreeTables.{shared-agrees, shared-numbered}
-use Rattle.interface.proofs.Demands.{c-count, c-refused, wrote}
+use Rattle.demands.proofs.Agree.{judged}
+use Rattle.demands.proofs.AgreeTables.{shared-agrees, shared-numbered}
+use Rattle.demands.proofs.Demands.{c-count, c-refused, wrote}
 
 -- what was answered, by the checks and by what was found
 record Answered (kind : ℤ) (n : ℕ) (l : List ℤ) (i j number set line : ℕ) : Type 0 where

@@ -14,9 +14,9 @@ use Rattle.clusters.specs.Fillings.{ScoredMore}
 use Rattle.clusters.specs.Groups.{strong, kindOf, index, groups}
 use Rattle.clusters.proofs.Groups.{in-groups, in-groupSets}
 use Rattle.clusters.proofs.Unscored.{group-every-filling, scoring-keeps, scoring-one, scored-groups, touched-unlisted}
-use Rattle.interface.specs.Demands.{Wrote}
-use Rattle.interface.specs.Requests.{Request-2-2}
-use Rattle.interface.proofs.Demands.{wrote, wrote-allowed, wrote-scored}
+use Rattle.demands.specs.Demands.{Wrote}
+use Rattle.requests.specs.Shared.{Request-2-2}
+use Rattle.demands.proofs.Demands.{wrote, wrote-allowed, wrote-scored}
 
 -- what was written for kind 1 is the strong groups
 pub strong-wrote : {n : ℕ} {s : Similarity} {found : List (ℕ × ℤ)} → Wrote (pos 1) n s found → found ≡ groups strong n s

@@ -66,9 +66,9 @@ use Rattle.interface.specs.Sheet.{
   pairs,
   sameBytes,
 }
 use Rattle.interface.specs.Listing.{hexadecimal, decimal, pointsText, signedPoints, lineOf, lineText, firstLine, listing, groupsFound, pairsListing, sheetListing}
 use Rattle.interface.specs.Refusals.{isAllowed, isRow, wrongByte, wrongValues, wrongUnscored, wrongDistances}
-use Rattle.interface.specs.WholePoints.{
+use Rattle.requests.specs.WholePoints.{
   isWholeValue,
   isWholeCell,
   wholeValueOf,
@@ -81,12 +81,12 @@ use Rattle.interface.specs.WholePoints.{
   isWholeRow,
   signedDecimal,
 }
-use Rattle.interface.specs.Sentences.{wordAt}
+use Rattle.demands.specs.Sentences.{wordAt}
 use Rattle.interface.proofs.Pieces.{free, same-bytes}
 use Rattle.interface.proofs.Points.{parts, fraction-front}
 use Rattle.interface.proofs.Accepted.{unscored-left}
-use Rattle.interface.proofs.InPoints.{even-text, value-back}
-use Rattle.interface.proofs.Cells.{value-scored, lone-word, said-value, cell-at}
+use Rattle.demands.proofs.InPoints.{even-text, value-back}
+use Rattle.demands.proofs.Cells.{value-scored, lone-word, said-value, cell-at}
 
 -- a word without a point: its whole part is the word, and it has no half
 module _ (w : List ℕ) (f : fraction w ≡ []) where
