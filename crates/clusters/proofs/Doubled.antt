@@ -66,7 +66,7 @@ twice-positive z = T-same (leZ (pos 1) (z +ℤ z)) (leZ (pos 1) z)
     (λ t. let h : pos 1 ≤ℤ (z +ℤ z) = leZ-yes t in let r : pos 1 ≤ℤ z = omega (zarith, +at z z) in r .le)
     (λ t. let h : pos 1 ≤ℤ z = leZ-yes t in let r : pos 1 ≤ℤ (z +ℤ z) = omega (zarith, +at z z) in r .le)
 
-twice-same : {a b : ℤ} → twice a ≡ twice b → a ≡ b
+pub twice-same : {a b : ℤ} → twice a ≡ twice b → a ≡ b
 unfolding twice
 twice-same {a} {b} e = omega (zarith, +at a a, +at b b)
 

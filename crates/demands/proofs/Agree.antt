@@ -134,6 +134,13 @@ agree-none (next {b = false} {S} {checks} {table} s rest) =
     let ih = agree-none (rest tt) in
     (λ e. (λ x. s .from x, ih .0 e), λ (_, x). ih .1 x)
 
+-- no condition holds exactly if no sentence does
+pub agree-tests : {l : List Check} {t : Table} → Agree l t → T (none l) ↔ NoneGiven t
+unfolding all
+agree-tests done = (λ _. tt, λ _. tt)
+agree-tests (next {b = true} s rest) = (λ t. absurd t, λ (f, _). absurd (f (s .to tt)))
+agree-tests (next {b = false} s rest) = let ih = agree-tests (rest tt) in (λ t. (λ x. s .from x, ih .0 t), λ (_, x). ih .1 x)
+
 -- a number that a table of checks gives, and what a refusal leaves
 pub judged : {l : List Check} {t : Table} {number : ℕ} {Nothing : Type 0} → Agree l t → number ≡ firstOf l → (number ≢ 0 → Nothing) → Judged t number Nothing
 judged a e nothing = record {

@@ -1,7 +1,8 @@
 -- The demands, from the outcomes of the calls and the theorems about groups.
 use mathlib.Core.Path.{_≡_, refl, sym, ap, ap₂, _∙_, subst, subst₂}
+use mathlib.Core.Bool.{not}
 use mathlib.Core.Logic.{_⊎_, inl, inr, _≢_, _↔_, Iff·trans}
-use mathlib.Core.List.{List, _++_, map, map-map, map-id}
+use mathlib.Core.List.{List, [], _∷_, _++_, map, map-map, map-id}
 use mathlib.Core.Option.{some, Option·some-injective}
 use Prim.Native.Nat.{ℕ, zero, suc, _-_, _^_, _<_, _≤_}
 use native.Mathlib.Nat.{pow-le-pow-right}
@@ -11,7 +12,7 @@ use lib.Signed.{_≤ℤ_, leZ, leZ-yes}
 use lib.Dec.{T, lit<}
 use lib.ListN.{length, take, drop, replicate, length-map}
 use lib.Seq.{take-append-seam, drop-append-seam}
-use Rattle.lists.specs.Lists.{_∈_}
+use Rattle.lists.specs.Lists.{_∈_, all}
 use Rattle.lists.proofs.Lists.{of-map}
 use Rattle.lists.proofs.Tests.{T-false, and-T, T-and}
 use Rattle.integers.specs.Integers.{eqZ}
@@ -39,9 +40,9 @@ use Rattle.answers.specs.Answers.{numberOf, countOf, answer, slots, filled}
 use Rattle.answers.proofs.Answers.{number-answer, count-answer, slots-refused, slots-written}
 use Rattle.interface.specs.Sheet.{entries, pairs}
 use Rattle.interface.specs.Listing.{Line, lineOf, groupOf, listing, groupsFound, pairsListing, sheetListing, listingRead}
-use Rattle.interface.specs.Refusals.{mostEntries, sheetCallChecks, sheetRefusal, numbersRefusal, linkageRefusal, anchoredRefusal, backRefusal}
+use Rattle.interface.specs.Refusals.{mostEntries, sheetCallChecks, sheetRefusal, numbersRefusal, linkageRefusal, anchoredRefusal, backRefusal, sheetChecks, readerChecks, none, check1, kindChecks, check14, wrongKind, check11}
 use Rattle.interface.specs.Calls.{cNumber, CCall, NumbersCall, setsFound, indicesFound, groupsIn, LinkageCall, AnchoredCall, BackCall}
-use Rattle.interface.proofs.Refusals.{few-count}
+use Rattle.interface.proofs.Refusals.{few-count, numbered, first-none, none-append}
 use Rattle.interface.proofs.Lines.{Readable, listing-read}
 use Rattle.interface.proofs.Outcomes.{refused-number, counted-number, taken, dropped, not-refused, counted}
 use Rattle.interface.proofs.Slots.{length-groupsIn, group-at, groups-slots}
@@ -136,6 +137,23 @@ accepted {kind} {sheet} (by-sheet-call {lent} c z) =
 -- what the checks left of a sheet that is listed
 sheet-left : {kind : ℤ} {sheet bytes : List ℕ} → Listed kind sheet bytes → Passed kind (entries sheet) (pairs sheet)
 sheet-left {kind} {sheet} l = let a = accepted l in sheet-passed kind sheet (a .buffer) (a .passed)
+
+sheet-numbered : (kind : ℤ) (sheet : List ℕ) (buffer : ℕ) → T (numbered (sheetCallChecks kind sheet buffer))
+unfolding sheetCallChecks sheetChecks readerChecks all
+sheet-numbered kind sheet buffer = tt
+
+pub sheet-read : {kind : ℤ} {sheet bytes : List ℕ} → Listed kind sheet bytes → T (none (readerChecks sheet))
+unfolding sheetRefusal sheetCallChecks sheetChecks all
+sheet-read {kind} {sheet} l =
+    let a = accepted l in
+    let front = check1 kind ∷ sheetChecks sheet in
+    let back = kindChecks kind (entries sheet) (pairs sheet) in
+    let last = check14 (a .buffer) (sheetListing kind sheet) ∷ [] in
+    let all-passed = first-none (sheetCallChecks kind sheet (a .buffer)) (sheet-numbered kind sheet (a .buffer)) .0 (a .passed) in
+    let (most, _) = none-append (front ++ back) last .0 all-passed in
+    let (first, _) = none-append front back .0 most in
+    let (_, passed) = and-T (not (wrongKind kind)) (none (sheetChecks sheet)) first in
+    none-append (readerChecks sheet) (check11 (pairs sheet) ∷ []) .0 passed .0
 
 -- 8 hexadecimal digits have room for every set of entries
 digits-room : (n : ℕ) → n ≤ mostEntries → 2 ^ n ≤ 16 ^ 8

@@ -3,7 +3,7 @@ use mathlib.Core.Path.{_≡_, refl, sym, ap, ap₂, _∙_, subst}
 use mathlib.Core.Bool.{cond}
 use mathlib.Core.Logic.{_≢_}
 use mathlib.Core.List.{List, [], _∷_}
-use Prim.Native.Nat.{ℕ, _<_}
+use Prim.Native.Nat.{ℕ, zero, suc, _<_}
 use native.Mathlib.Omega.{arith}
 use borrow.Author.Tests.{ne-eqb}
 use lib.IntN.{pos, negℤ, ℤ}
@@ -109,6 +109,13 @@ in-C a e = record {
   counted = λ c. let f = counted-number a c in (λ q. f .0 (sym e ∙ q), λ z. e ∙ f .1 z);
   refused = λ k h. let f = refused-number a k h in (λ q. f .0 (sym e ∙ q), λ z. e ∙ f .1 z);
 }
+
+pub said-in-C : (k c : ℕ) {r : ℤ} → r ≡ cNumber (answer k c) → NumberInC k c r
+unfolding numberOf countOf answer
+said-in-C zero c e = in-C (answer zero c) e
+said-in-C (suc k) c e =
+    let said = in-C (answer (suc k) c) e in
+    record { counted = λ d. (λ q. let (z, _) = said .counted d .0 q in absurd (omega arith), λ (z, _). absurd (omega arith)); refused = said .refused }
 
 -- a slice that a call fills with 0: refused, nothing is written
 unfilled : {A : Type 0} (nil : A) (k : ℕ) (result lent : List A) {after : List A} → after ≡ filled nil k result lent → k ≢ 0 → after ≡ lent

@@ -132,6 +132,11 @@ module _ (first second : List ℕ) where
         let (sums, _) = and-T (not (not ranging)) true eighteen in
         (b, seventeen, not-not ranging sums, ltb-true buffer (length (poolText first second)) (T-true s))
 
+-- a pool that is not refused gets 14 exactly from a buffer that is too short
+pub pool-buffer : (first second : List ℕ) (buffer other : ℕ) → poolRefusal first second buffer ≡ 0
+    → poolRefusal first second other ≡ cond (ltb other (length (poolText first second))) 14 0
+pool-buffer first second buffer other e = let (t, m, r) = pool-passed first second buffer e in pool-last first second other t m r
+
 -- the pool of two that pass is a sheet of at most 10,528 bytes
 pub pool-formed : {first : List ℕ} (second : List ℕ) → Sound first → T (ranging first second) → WellFormed (names first) (poolScores first second)
 unfolding entries poolPairs

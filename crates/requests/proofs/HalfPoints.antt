@@ -1,65 +1,54 @@
 -- Request 2.6, from the outcomes of the calls, what bytes say in points, and the theorems about doubled scores.
 use mathlib.Core.Path.{_≡_, refl, sym, ap, _∙_, subst}
-use mathlib.Core.Bool.{Bool, true, false, not, cond, _&&_}
+use mathlib.Core.Bool.{_&&_}
+use mathlib.Core.Logic.{_↔_, Iff·trans}
 use mathlib.Core.List.{List, [], _∷_, _++_, map, map-map}
 use mathlib.Core.Option.{some}
-use Prim.Native.Nat.{ℕ, zero, suc, _<_}
+use Prim.Native.Nat.{ℕ, _+_, _*_, _<_}
 use native.Mathlib.Omega.{arith}
-use lib.Dec.{T, eqb, ltb, lit<}
-use lib.IntN.{ℤ, pos, _+ℤ_}
+use lib.Dec.{T, eqb}
+use lib.IntN.{ℤ, pos, negsuc, negℤ, _+ℤ_}
+use lib.Signed.{_≤ℤ_}
 use lib.ListN.{length, length-map, getD, List·getD-map}
-use Rattle.lists.specs.Lists.{_∈_, all}
-use Rattle.lists.proofs.Lists.{all-in, getD-in}
+use Rattle.lists.specs.Lists.{_∈_}
+use Rattle.lists.proofs.Lists.{all-in, getD-in, in-map, of-map}
 use Rattle.lists.proofs.Tests.{and-T}
-use Rattle.pairs.specs.Pairs.{carried}
-use Rattle.clusters.specs.PairList.{onePoint, pointLimit, scoreLimit, score}
-use Rattle.clusters.specs.Groups.{kindOf}
-use Rattle.clusters.specs.Doubled.{twice, doubledGroup}
-use Rattle.clusters.proofs.Doubled.{same-range-doubled, weight-doubled}
-use Rattle.answers.specs.Answers.{answer, slots}
-use Rattle.answers.proofs.Answers.{slots-refused}
-use Rattle.interface.specs.Sheet.{point, wholePart, fraction, halfText, hasHalf, numberFrom, halfPoints, entries, value, pairs, sameBytes}
-use Rattle.interface.specs.Listing.{Line, signedPoints, isSet, isDecimal, isIndex, isLine, lineRead, lineWords, listingRead, sheetListing}
-use Rattle.interface.specs.Refusals.{Check, firstOf, none, check11, sheetCallChecks, sheetRefusal, readerChecks, readerRefusal, sheetChecks}
-use Rattle.interface.specs.Calls.{cNumber, CCall}
-use Rattle.requests.specs.WholePoints.{wholeListing, wholeChecks, wholeRefusal, WholeCall}
-use Rattle.demands.specs.Sentences.{InPoints, CellSays, wordAt}
-use Rattle.demands.specs.Demands.{Listed}
-use Rattle.requests.specs.Shared.{by-reader, by-reader-in-C, Pooled, Request-2-6}
-use Rattle.interface.proofs.Refusals.{first-none, none-append, passes}
+use Rattle.integers.specs.Integers.{eqZ, half as halfOf}
+use Rattle.integers.specs.Range.{Within}
+use Rattle.integers.proofs.Linear.{up, dn}
+use Rattle.integers.proofs.Range.{within, up-le, dn-le}
+use Rattle.integers.proofs.Halves.{half-twice}
+use Rattle.pairs.specs.declared.Carried.{Carried}
+use Rattle.pairs.specs.declared.Carried.the-variants.{Scored, Unscored}
+use Rattle.pairs.specs.Pairs.{mark, numberFor, carried, isScored}
+use Rattle.pairs.proofs.Pairs.{unmarked}
+use Rattle.clusters.specs.PairList.{Similarity, Symmetric, onePoint, pointLimit, scoreLimit, score}
+use Rattle.clusters.specs.Groups.{Group, HasLine, strong, kindOf}
+use Rattle.clusters.specs.Doubled.{twice, doubledPair, Doubles, doubledGroup}
+use Rattle.clusters.proofs.PairList.{score-symm}
+use Rattle.clusters.proofs.Doubled.{twice-pos, twice-neg, twice-same, groupsWithin, groups-within, groups-doubled, same-range-doubled, weight-doubled}
+use Rattle.interface.specs.Sheet.{wholePart, fraction, halfText, hasHalf, numberFrom, halfPoints, entries, value, pairs, sameBytes}
+use Rattle.interface.specs.Listing.{Line, groupOf, decimal, signedPoints, isSet, isDecimal, isIndex, isLine, lineRead, lineWords, listingRead}
+use Rattle.interface.specs.Refusals.{check11, readerChecks, sheetChecks, readerRefusal}
+use Rattle.interface.proofs.Refusals.{none-append}
 use Rattle.interface.proofs.Points.{index-back}
+use Rattle.interface.proofs.Outcomes.{not-refused, counted}
+use Rattle.demands.specs.Sentences.{DecimalSays, InPoints, whole, minus-whole, half, minus-half, CellSays, points, lone-minus as says-lone, wordAt}
+use Rattle.demands.specs.Demands.{Listed, Wrote, in-lines, Positive}
 use Rattle.demands.proofs.Unique.{is-read, lines-form}
-use Rattle.demands.proofs.Demands.{answered, not-refused, counted, not-refused-in-C, accepted, wrote, wrote-allowed, wrote-scored}
-use Rattle.requests.proofs.RowStarts.{request-2-3}
+use Rattle.demands.proofs.Demands.{sheet-read, wrote, wrote-allowed, wrote-scored, line-positive}
+use Rattle.demands.proofs.InPoints.{decimal-said, says-value, written-says, one-text}
+use Rattle.demands.proofs.Cells.{value-scored, cells, listed-score}
+use Rattle.demands.proofs.Agree.{agree-none, agree-tests}
+use Rattle.demands.proofs.AgreeTables.{reader-agrees, scores-agree}
+use Rattle.requests.specs.RowStarts.{by-reader}
+use Rattle.requests.specs.Pool.{Pooled}
+use Rattle.requests.specs.HalfPoints.{WholePoints, WholeSays, natural, negative, lone-minus, AsBefore, Request-2-6}
+use Rattle.requests.proofs.RowStarts.{written-at}
 use Rattle.requests.proofs.Pool.{request-2-4}
-use Rattle.interface.proofs.Refined.{found}
-use Rattle.demands.proofs.InPoints.{says-value, written-says, one-text}
-use Rattle.demands.proofs.Cells.{cell-at, cells, listed-score}
-use Rattle.demands.proofs.Agree.{agree-none}
-use Rattle.demands.proofs.AgreeTables.{reader-agrees, reader-numbered, scores-agree, scores-numbered}
-use Rattle.requests.proofs.WholePoints.{
-  Halveless,
-  no-half-whole,
-  half-end,
-  strong-kind,
-  word-whole,
-  same-three,
-  same-eight,
-  same-nine,
-  same-eleven,
-  same-sixteen,
-  same-twelve,
-  same-listing,
-}
-
--- what the reader wrote, at the place of row i, column j
-read-none : (sheet : List ℕ) → readerRefusal sheet ≡ 0 → T (none (readerChecks sheet))
-unfolding readerRefusal readerChecks all
-read-none sheet e = first-none (readerChecks sheet) tt .0 e
-
-at-place : (sheet : List ℕ) → readerRefusal sheet ≡ 0 → (i j : ℕ) → i < entries sheet → j < entries sheet → {z : ℤ} → z ≡ value sheet i j
-    → CellSays (wordAt sheet i j) (carried z)
-at-place sheet e i j h k q = subst (λ z. CellSays (wordAt sheet i j) (carried z)) (sym q) (cells sheet (read-none sheet e) i j h k)
+use Rattle.requests.proofs.Refined.{found}
+use Rattle.integers.proofs.Linear.{up, dn}
+use Rattle.integers.specs.Range.{Within}
 
 -- the index of a line that is read back
 index-says : (ws : List (List ℕ)) → T (isLine ws) → InPoints (getD ws 2 []) (lineRead ws .index)
@@ -90,104 +79,166 @@ pool-cells : {first second bytes : List ℕ} → Pooled first second bytes → (
 unfolding sheetChecks entries
 pool-cells {bytes = bytes} p i j h k =
     let n = ap length (request-2-4 .its-names p .0) in
-    let none = first-none (sheetChecks bytes) (scores-numbered bytes) .0 (agree-none (scores-agree bytes) (scores-numbered bytes) .1 (request-2-4 .a-sheet p)) in
+    let none = agree-tests (scores-agree bytes) .1 (request-2-4 .a-sheet p) in
     cells bytes (none-append (readerChecks bytes) (check11 (pairs bytes) ∷ []) .0 none .0) i j (omega (arith, n)) (omega (arith, n))
 
--- two tables that give the same number: their conditions are equal as long as none before them holds
-record Alike (l m : List Check) : Type 0 where
-  is : firstOf l ≡ firstOf m
+strong-kind : {kind : ℤ} → kind ≡ pos 1 → kindOf kind ≡ strong
+unfolding kindOf eqZ
+strong-kind e = ap kindOf e
 
-alike : {k : ℕ} {b b′ : Bool} {l m : List Check} → b ≡ b′ → (T (not b) → Alike l m) → Alike ((k, b) ∷ l) ((k, b′) ∷ m)
-unfolding firstOf
-alike {k} {b} {b′} {l} {m} e f = record { is = go b (λ t. f t .is) ∙ ap (λ c. cond c k (firstOf m)) e }
-  where
-    go : (b : Bool) → (T (not b) → firstOf l ≡ firstOf m) → cond b k (firstOf l) ≡ cond b k (firstOf m)
-    go true f = refl
-    go false f = f tt
+-- what a pair carried in points: half of what it carries now
+halved : Carried → Carried
+halved (Scored z) = Scored (halfOf z)
+halved Unscored = Unscored
 
-same-table : (kind : ℤ) (s : List ℕ) (buffer : ℕ) → (point ∈ s → ⊥) → Alike (sheetCallChecks kind s buffer) (wholeChecks kind s buffer)
-unfolding sheetCallChecks wholeChecks
-same-table kind s buffer f =
-    alike refl λ _. alike refl λ _. alike (same-three s f) λ _. alike refl λ _. alike refl λ _. alike refl λ _. alike refl λ _.
-    alike (same-eight s f) λ formed.
-    alike (ap not (same-nine s formed words)) λ _.
-    alike (ap not (same-eleven s formed words)) λ _.
-    alike (same-sixteen s formed words kind) λ scored.
-    alike (same-twelve s formed words kind) λ _.
-    alike (ap (λ (u : List ℕ). ltb buffer (length u)) (same-listing s formed words kind scored)) λ _. record { is = refl }
-  where
-    words : Halveless s
-    words i j _ _ = word-whole s f i j
+-- a cell in whole points says half of its half points, and small numbers are no mark
+record Halved (w : List ℕ) (c d : Carried) : Type 0 where
+  says : WholeSays w d
+  is : halved c ≡ d
+  twofold : c ≡ doubledPair d
+  kept : carried (numberFor d) ≡ d
 
--- the listing of a sheet that is listed and has no half
-listed-same : (kind : ℤ) (s : List ℕ) (buffer : ℕ) → sheetRefusal kind s buffer ≡ 0 → Halveless s → sheetListing kind s ≡ wholeListing kind s
-unfolding sheetRefusal sheetCallChecks all
-listed-same kind s buffer e words =
-    let checks = sheetCallChecks kind s buffer in
-    same-listing s (passes checks tt e 7 (lit< tt)) words kind (passes checks tt e 10 (lit< tt))
+small-half : {y : ℤ} → Within 19999999 (twice y) → Within 19999999 y
+unfolding twice up dn
+small-half {y = pos n} h = within (omega (arith, up-le h)) (omega arith)
+small-half {y = negsuc n} h = within (omega arith) (omega (arith, dn-le h))
 
--- the answer and the slots of a call go by the result only if it is not refused
-same-answer : {k k′ : ℕ} {c c′ : ℕ} → k ≡ k′ → (k ≡ 0 → c ≡ c′) → cNumber (answer k c) ≡ cNumber (answer k′ c′)
-unfolding cNumber answer
-same-answer {k} {c = c} {c′} e f = go k f ∙ ap (λ (j : ℕ). cNumber (answer j c′)) e
-  where
-    go : (k : ℕ) → (k ≡ 0 → c ≡ c′) → cNumber (answer k c) ≡ cNumber (answer k c′)
-    go zero f = ap pos (f refl)
-    go (suc k) f = refl
+half-cell : {w : List ℕ} {y : ℤ} → WholeSays w (Scored y) → {z : ℤ} → z ≡ twice y → Within 19999999 z → Halved w (Scored z) (Scored y)
+unfolding halved doubledPair numberFor twice
+half-cell {y = y} says {z} e h = record {
+  says = says;
+  is = ap (λ x. Scored (halfOf x)) e ∙ ap Scored (half-twice y);
+  twofold = ap Scored e;
+  kept = unmarked (value-scored (small-half (subst (Within 19999999) e h)));
+}
 
-same-slots : {k k′ : ℕ} (result result′ lent : List ℕ) → k ≡ k′ → (k ≡ 0 → result ≡ result′) → slots k result lent ≡ slots k′ result′ lent
-same-slots {k} result result′ lent e f = go k f ∙ ap (λ (j : ℕ). slots j result′ lent) e
-  where
-    go : (k : ℕ) → (k ≡ 0 → result ≡ result′) → slots k result lent ≡ slots k result′ lent
-    go zero f = ap (λ (r : List ℕ). slots 0 r lent) (f refl)
-    go (suc k) f = slots-refused (suc k) result lent (omega arith) ∙ sym (slots-refused (suc k) result′ lent (omega arith))
+lone-cell : Halved (45 ∷ []) Unscored Unscored
+unfolding halved doubledPair numberFor carried eqZ mark
+lone-cell = record { says = lone-minus; is = refl; twofold = refl; kept = refl }
 
-whole-call : {kind r : ℤ} {sheet lent after : List ℕ} → CCall kind sheet lent r after → (point ∈ sheet → ⊥) → WholeCall kind sheet lent r after
-unfolding sheetRefusal wholeRefusal
-whole-call {kind} {r} {sheet} {lent} c f =
-    let k = sheetRefusal kind sheet (length lent) in
-    let text = sheetListing kind sheet in
-    let e = same-table kind sheet (length lent) f .is in
-    let same : k ≡ 0 → text ≡ wholeListing kind sheet = λ z. listed-same kind sheet (length lent) z (λ i j _ _. word-whole sheet f i j) in
-    record {
-      answered = answered c k (length text) (c .outcome .answered) ∙ same-answer e (λ z. ap length (same z));
-      written = c .outcome .written ∙ same-slots text (wholeListing kind sheet) lent e same;
+whole-cell : {w : List ℕ} {c : Carried} → CellSays w c → ((v : List ℕ) → w ≡ v ++ (46 ∷ 53 ∷ []) → ⊥) → (d : Carried) × Halved w c d
+whole-cell (points (whole {n = n} s) h) f = let e : n + n ≡ 2 * n = omega arith in (Scored (pos n), half-cell (natural s) (ap pos e ∙ twice-pos n) h)
+whole-cell (points (minus-whole {n = n} s p) h) f =
+    let e : n + n ≡ 2 * n = omega arith in
+    (Scored (negℤ (pos n)), half-cell (negative s p) (ap (λ (k : ℕ). negℤ (pos k)) e ∙ twice-neg n) h)
+whole-cell (points (half {w = v} s) h) f = absurd (f v refl)
+whole-cell (points (minus-half {w = v} s) h) f = absurd (f (45 ∷ v) refl)
+whole-cell says-lone f = (Unscored, lone-cell)
+
+scored-halved : (c : Carried) → T (isScored (doubledPair c)) → T (isScored c)
+unfolding isScored doubledPair
+scored-halved (Scored z) t = tt
+scored-halved Unscored t = t
+
+-- a sheet that is listed, of whole points: its values in points
+module _ {kind : ℤ} {sheet bytes : List ℕ} (l : Listed kind sheet bytes) (f : WholePoints sheet) where
+  abbrev n : ℕ
+  n = entries sheet
+
+  abbrev now : Similarity
+  now = score (pairs sheet)
+
+  before : Similarity
+  before a b = numberFor (halved (carried (now a b)))
+
+  at : (i j : ℕ) → i < entries sheet → j < entries sheet → (d : Carried) × Halved (wordAt sheet i j) (carried (score (pairs sheet) i j)) d
+  at i j h k =
+      let none = sheet-read l in
+      whole-cell (subst (λ z. CellSays (wordAt sheet i j) (carried z)) (sym (listed-score sheet none i j h k)) (cells sheet none i j h k)) (f i j h k)
+
+  before-is : (i j : ℕ) (h : i < entries sheet) (k : j < entries sheet) → carried (before i j) ≡ at i j h k .0
+  unfolding before
+  before-is i j h k = let (d, x) = at i j h k in ap (λ c. carried (numberFor c)) (x .is) ∙ x .kept
+
+  doubles : Doubles (entries sheet) before (score (pairs sheet))
+  doubles = record { pairs = λ i j h k. at i j h k .1 .twofold ∙ ap doubledPair (sym (before-is i j h k)) }
+
+  before-symm : Symmetric before
+  unfolding before
+  before-symm a b = ap (λ z. numberFor (halved (carried z))) (score-symm (pairs sheet) a b)
+
+  module _ {ls : List Line} (e : listingRead bytes ≡ some ls) where
+    -- what was found, with half its indices
+    halves : List Group
+    halves = groupsWithin pointLimit (kindOf kind) (entries sheet) before
+
+    found-doubled : map groupOf ls ≡ map doubledGroup halves
+    unfolding halves scoreLimit onePoint
+    found-doubled =
+        let w = in-lines l e in
+        wrote w ∙ groups-within (kindOf kind) n now
+        ∙ groups-doubled pointLimit (kindOf kind) n before now doubles
+        (λ d a b ha hb. scored-halved (carried (before a b))
+        (subst (λ c. T (isScored c)) (doubles .pairs a b ha hb) (wrote-scored (λ q. d (strong-kind q)) w a b ha hb)))
+
+    positive : (A : ℕ) (z : ℤ) → HasLine halves A z ↔ Positive 1000000 (kindOf kind) (entries sheet) before A z
+    unfolding halves pointLimit
+    positive A z = line-positive pointLimit (kindOf kind) n before before-symm A z
+
+    line-halved : (A : ℕ) (z : ℤ) → HasLine (map groupOf ls) A (z +ℤ z) ↔ HasLine halves A z
+    unfolding doubledGroup twice
+    line-halved A z = (
+      λ (g, m, a, i).
+          let (h, k, q) = of-map doubledGroup halves (subst (λ (found : List Group). g ∈ found) found-doubled m) in
+          (h, k, sym (ap (λ (x : Group). x .set) q) ∙ a, twice-same (sym (ap (λ (x : Group). x .index) q) ∙ i)),
+      λ (h, k, a, i). (
+        doubledGroup h,
+        subst (λ (found : List Group). doubledGroup h ∈ found) (sym found-doubled) (in-map doubledGroup k),
+        a,
+        ap (λ x. x +ℤ x) i,
+      ),
+    )
+
+    -- the index of a line is a whole number of points
+    index-whole : (x : Line) → x ∈ ls → (m : ℕ) × (x .index ≡ pos m +ℤ pos m)
+    unfolding doubledGroup twice groupOf
+    index-whole x k =
+        let (h, m, q) = of-map doubledGroup halves (subst (λ (found : List Group). groupOf x ∈ found) found-doubled (in-map groupOf k)) in
+        let (j, e) = natural-index (h .index) (positive (h .set) (h .index) .0 (h, m, refl, refl) .positive) in
+        (j, ap (λ (g : Group). g .index) q ∙ ap (λ z. z +ℤ z) e)
+      where
+        natural-index : (z : ℤ) → pos 1 ≤ℤ z → (k : ℕ) × (z ≡ pos k)
+        natural-index (pos k) h = (k, refl)
+        natural-index (negsuc k) h = absurd (h .le)
+
+    words-whole : (i : ℕ) → i < length ls → (m : ℕ) × DecimalSays (getD (getD (lineWords bytes) i []) 2 []) m
+        × (getD (map (λ l. l .index) ls) i (pos 0) ≡ pos m +ℤ pos m)
+    words-whole i h =
+        let none : Line = record { set = 0; size = 0; index = pos 0 } in
+        let (m, q) = index-whole (getD ls i none) (getD-in ls i none h) in
+        let is : getD (map (λ l. l .index) ls) i (pos 0) ≡ pos m +ℤ pos m = List·getD-map (λ (l : Line). l .index) ls i none ∙ q in
+        let same = one-text (subst (InPoints (getD (getD (lineWords bytes) i []) 2 [])) is (index-read bytes e i h)) (whole (decimal-said m)) in
+        (m, subst (λ (w : List ℕ). DecimalSays w m) (sym same) (decimal-said m), is)
+
+    as-before : AsBefore kind sheet bytes ls
+    as-before = record {
+      whole = before;
+      says = λ i j h k. subst (WholeSays (wordAt sheet i j)) (sym (before-is i j h k)) (at i j h k .1 .says);
+      twofold = doubles;
+      listed = λ A z. Iff·trans (line-halved A z) (positive A z);
+      words = words-whole;
     }
 
-whole-listed : {kind : ℤ} {sheet bytes : List ℕ} → Listed kind sheet bytes
-    → ((i j : ℕ) → i < entries sheet → j < entries sheet → (w : List ℕ) → wordAt sheet i j ≡ w ++ (46 ∷ 53 ∷ []) → ⊥) → bytes ≡ wholeListing kind sheet
-unfolding sheetRefusal sheetCallChecks all
-whole-listed {kind} {sheet} l f =
-    let a = accepted l in
-    let formed = passes (sheetCallChecks kind sheet (a .buffer)) tt (a .passed) 7 (lit< tt) in
-    a .are ∙ listed-same kind sheet (a .buffer) (a .passed) (λ i j h k. no-half-whole (wordAt sheet i j) (cell-at sheet formed i j h k) (λ t. f i j h k (wholePart (wordAt sheet i j)) (half-end (wordAt sheet i j) t)))
-
 pub request-2-6 : Request-2-6
-unfolding scoreLimit onePoint pointLimit twice
+unfolding scoreLimit onePoint pointLimit twice readerRefusal
 request-2-6 = record {
   every-number = λ z. (signedPoints z, written-says z);
   one-text = one-text;
   one-number = λ a b. sym (says-value a) ∙ says-value b;
-  cells = λ sheet g i j h k.
-      let none = first-none (readerChecks sheet) (reader-numbered sheet) .0 (agree-none (reader-agrees sheet) (reader-numbered sheet) .1 g) in
-      (cells sheet none i j h k, listed-score sheet none i j h k);
+  cells = λ sheet g i j h k. let none = agree-tests (reader-agrees sheet) .1 g in (cells sheet none i j h k, listed-score sheet none i j h k);
   read = λ {sheet} c none i j h below.
       let e = c .answered in
       let n = counted _ _ e none in
-      at-place sheet (not-refused _ _ e none) i j (omega (arith, n)) (omega (arith, n)) (request-2-3 .written (by-reader c none) i j h below);
-  read-in-C = λ {sheet} c count q i j h below.
-      let e = c .outcome .answered in
-      let (none, is) = not-refused-in-C c _ _ e q in
-      let n = counted _ _ e none in
-      at-place sheet (not-refused _ _ e none) i j (omega (arith, is, n)) (omega (arith, is, n)) (request-2-3 .written (by-reader-in-C c count q) i j h below);
+      let passed = agree-tests (reader-agrees sheet) .1 (agree-none (reader-agrees sheet) .0 (not-refused _ _ e none)) in
+      subst (λ z. CellSays (wordAt sheet i j) (carried z)) (sym (written-at (by-reader c none) i j h below))
+      (cells sheet passed i j (omega (arith, n)) (omega (arith, n)));
   range = refl;
   indices-in-points = index-read;
   pool-in-points = pool-cells;
-  whole-points = whole-call;
-  whole-values = whole-listed;
-  doubled = λ {kind} {n} {s} {t} w w′ d.
-      wrote w′ .0 ∙ same-range-doubled (kindOf kind) n s t d (λ ne. wrote-scored (λ e. ne (strong-kind e)) w) (wrote-allowed w) (wrote-allowed w′)
-      ∙ ap (map doubledGroup) (sym (wrote w .0));
+  as-before = λ l f e. as-before l f e;
+  doubled = λ {kind} {n} {l} {l′} w w′ d.
+      wrote w′ ∙ same-range-doubled (kindOf kind) n (score l) (score l′) d (λ ne. wrote-scored (λ e. ne (strong-kind e)) w) (wrote-allowed w) (wrote-allowed w′)
+      ∙ ap (map doubledGroup) (sym (wrote w));
   weight-doubled = λ {n} {l} {l′} {A} a b d.
       found b .weight ∙ weight-doubled n (score l) (score l′) d (found a .scored) A ∙ ap (λ z. z +ℤ z) (sym (found a .weight));
 }

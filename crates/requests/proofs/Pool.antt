@@ -6,91 +6,144 @@ use mathlib.Core.List.{List, [], _∷_, _++_}
 use Prim.Native.Nat.{ℕ, _^_, _≤_, _<_}
 use native.Mathlib.Omega.{arith}
 use borrow.Author.Tests.{lt-ltb, le-ltb, ltb-true}
-use lib.Dec.{T, ltb, lit<}
+use lib.Dec.{T, ltb, lit<, not-T, T-not}
 use lib.IntN.{ℤ, pos, negℤ, _+ℤ_}
 use lib.ListN.{length, getD}
 use lib.Signed.{_≤ℤ_}
 use Rattle.lists.specs.Lists.{_lists_, all}
-use Rattle.lists.proofs.Tests.{T-true, T-false, and-T, T-same}
+use Rattle.lists.proofs.Tests.{T-true, T-false, and-T, T-same, false-T}
 use Rattle.sets.specs.Sets.{has}
 use Rattle.sets.proofs.Sets.{has-yes, yes-has}
+use Rattle.pairs.specs.declared.Carried.{Carried}
+use Rattle.pairs.specs.declared.Carried.the-variants.{Scored, Unscored}
 use Rattle.pairs.specs.Pairs.{numberFor, carried}
-use Rattle.clusters.specs.PairList.{score, scoreLimit, scoresInRange}
-use Rattle.clusters.specs.Groups.{strong, kindOf, index, writtenSet}
+use Rattle.clusters.specs.PairList.{score, scoreLimit, scoresInRange, isAllowedPair, onePoint, pointLimit}
+use Rattle.clusters.specs.Groups.{strong, kindOf, index, writtenSet, Group, HasLine}
 use Rattle.clusters.specs.Reordering.{Permutation, Reordered, image}
-use Rattle.clusters.specs.Pooling.{added}
-use Rattle.clusters.proofs.PairList.{score-pairList}
-use Rattle.clusters.proofs.Groups.{of-listed, is-listed, listed-index, in-groups}
+use Rattle.clusters.specs.Pooling.{added, pooled}
+use Rattle.clusters.proofs.PairList.{score-pairList, of-pairList}
+use Rattle.clusters.proofs.Groups.{of-listed, is-listed, listed-index, in-groups, line-of}
 use Rattle.clusters.proofs.Images.{image-only}
 use Rattle.clusters.proofs.Fillings.{filled-cong}
-use Rattle.clusters.proofs.Pooled.{both-scored, either-unscored, pooled-turned, pooled-index, pooled-strong}
+use Rattle.clusters.proofs.Pooled.{both-scored, either-unscored, pooled-turned, pooled-index, pooled-strong, added-carried}
 use Rattle.answers.specs.declared.Answer.{Answer}
-use Rattle.answers.specs.Answers.{numberOf, answer}
-use Rattle.answers.proofs.Answers.{number-answer}
+use Rattle.answers.specs.Answers.{numberOf, answer, countOf}
+use Rattle.answers.proofs.Answers.{number-answer, its-number}
 use Rattle.interface.specs.Sheet.{names, entries, value, pairs}
 use Rattle.interface.specs.Pool.{placeOn, poolScores, poolPairs, poolText}
-use Rattle.interface.specs.Refusals.{Check, firstOf, none, namesDiffer, check17, check18, check14, readerChecks, sheetChecks, poolChecks, poolRefusal}
-use Rattle.interface.specs.Calls.{cNumber, InC, PoolCall}
-use Rattle.demands.specs.Sentences.{SameName, SameNames}
-use Rattle.demands.specs.Tables.{Judged, poolTable}
-use Rattle.demands.specs.Demands.{Wrote}
-use Rattle.requests.specs.Shared.{Pooled, by-pool-call, by-pool-in-C, SameSet, Request-2-4}
-use Rattle.interface.proofs.Refusals.{first-none, none-append, first-append, first-at, passes, some-count}
-use Rattle.interface.proofs.Accepted.{not-not}
-use Rattle.interface.proofs.Places.{renumbering}
-use Rattle.interface.proofs.PoolScores.{Sound, sound, pool-symmetric, matching, same-entries, on-second, pool-number, pool-carried}
-use Rattle.demands.proofs.Agree.{agree-none, judged, judged-in-C}
-use Rattle.demands.proofs.AgreeNumbers.{names-say}
-use Rattle.demands.proofs.AgreeTables.{scores-agree, pool-agrees, scores-numbered, pool-numbered}
+use Rattle.interface.specs.Refusals.{none, namesDiffer, sheetChecks, poolChecks, poolRefusal}
+use Rattle.interface.specs.Calls.{PoolCall}
+use Rattle.interface.proofs.Outcomes.{taken, dropped, not-refused, counted}
+use Rattle.interface.proofs.Places.{Matching, same-count, moved-lt, moved-name, moved-only, renumbering, same-names, names-same}
+use Rattle.interface.proofs.PoolScores.{Sound, sound, pool-symmetric, pool-allowed, both-sound, pool-passed, pool-last, pool-formed, pool-never-short}
 use Rattle.interface.proofs.SheetTexts.{
   WellFormed,
   sheetText-cong,
   sheetText-names,
   sheetText-value,
   sheetText-pairs,
-  sheetText-most,
   sheetText-accepted,
 }
-use Rattle.demands.proofs.Demands.{answered, taken, not-refused, counted, wrote-allowed, demand-3}
-use Rattle.demands.proofs.Demands.{text-number, text-refused, text-count, text-written, text-either}
+use Rattle.demands.specs.Demands.{Wrote}
+use Rattle.demands.proofs.Agree.{Says, denied, lt-says, Agree, done, next, agree-append, agree-tests, judged-by}
+use Rattle.demands.proofs.AgreeValues.{carried-says}
+use Rattle.demands.proofs.AgreeTables.{scores-agree}
+use Rattle.demands.proofs.Demands.{wrote-allowed, demand-3}
+use Rattle.requests.specs.Pool.{SameName, SameNames, SumBeyond, poolTable, Pooled, by-pool-call, SameSet, Request-2-4}
 use Rattle.requests.proofs.Unscored.{strong-wrote}
+use Rattle.clusters.proofs.Scored.{allowed-within, within-range}
+use Rattle.lists.proofs.Lists.{some-fails}
 
--- the table
-module _ (first second : List ℕ) where
-  abbrev before : List Check
-  before = sheetChecks first ++ sheetChecks second
+-- two sheets that pass their checks, with the same names
+module _ {first second : List ℕ} (a : Sound first) (b : Sound second) (m : SameNames first second) where
+  pub matching : Matching (names first) (names second)
+  matching = record { first = a .distinct; second = b .distinct; there = m .there; back = m .back }
 
-  abbrev differing : Bool
-  differing = namesDiffer (names first) (names second)
+  pub same-entries : entries first ≡ entries second
+  unfolding entries
+  same-entries = same-count matching
 
-  abbrev ranging : Bool
-  ranging = scoresInRange (poolPairs first second)
+  -- entry i of the first: the second has its name at one place
+  pub on-second : (i : ℕ) → i < entries first → SameName first second i (placeOn first second i)
+  unfolding entries placeOn
+  on-second i h = record { here = h; there = omega (arith, same-count matching, moved-lt matching i h); same = sym (moved-name matching i h) }
 
-  both-sound : T (none before) → Sound first × Sound second
-  both-sound t = let (p, q) = none-append (sheetChecks first) (sheetChecks second) .0 t in (sound first p, sound second q)
+  pub only-there : {i j : ℕ} → SameName first second i j → placeOn first second i ≡ j
+  unfolding entries placeOn
+  only-there {i} {j} q = moved-only matching i j (q .there) (q .same)
 
-  module _ (buffer : ℕ) where
-    abbrev room : Check
-    room = check14 buffer (poolText first second)
+  -- "each score is the sum. A pair unscored in either is unscored in the pool."
+  pub pool-number : {i i′ j j′ : ℕ} → SameName first second i i′ → SameName first second j j′
+      → poolScores first second i j ≡ numberFor (added (carried (value first i j)) (carried (value second i′ j′)))
+  unfolding poolScores pooled
+  pool-number {i} {i′} {j} {j′} p q = ap₂ (λ y z. numberFor (added (carried y) (carried z))) (a .scores i j (p .here) (q .here))
+      (ap₂ (score (pairs second)) (only-there p) (only-there q) ∙ b .scores i′ j′ (p .there) (q .there))
 
-    abbrev last : List Check
-    last = check17 first second ∷ check18 (poolPairs first second) ∷ room ∷ []
+  pub pool-carried : {i i′ j j′ : ℕ} → SameName first second i i′ → SameName first second j j′
+      → carried (poolScores first second i j) ≡ added (carried (value first i j)) (carried (value second i′ j′))
+  pool-carried {i} {i′} {j} {j′} p q = ap carried (pool-number p q)
+      ∙ added-carried (carried (value first i j)) (carried (value second i′ j′)) (a .allowed i j (p .here) (q .here)) (b .allowed i′ j′ (p .there) (q .there))
 
-    -- what a table that gives no number leaves
-    pool-passed : poolRefusal first second buffer ≡ 0 → T (none before) × T (not differing) × T ranging
-    unfolding poolRefusal poolChecks sheetChecks readerChecks all
-    pool-passed e =
-        let checks = poolChecks first second buffer in (
-          none-append before last .0 (first-none checks tt .0 e) .0,
-          passes checks tt e 18 (lit< tt),
-          not-not ranging (passes checks tt e 19 (lit< tt)),
-        )
+  -- 18: "a sum out of range"
+  pub sum-out : T (not (scoresInRange (poolPairs first second))) → SumBeyond first second
+  unfolding scoresInRange poolPairs added isAllowedPair scoreLimit onePoint pointLimit
+  sum-out t =
+      let (v, k, f) = some-fails (λ v. isAllowedPair scoreLimit (carried v)) (poolPairs first second) t in
+      let (i, j, h, l, e) = of-pairList (entries first) (poolScores first second) k in
+      let p = on-second i h in
+      let q = on-second j (omega arith) in
+      go i (placeOn first second i) j (placeOn first second j) p q (carried (value first i j)) (carried (value second (placeOn first second i) (placeOn first second j))) refl refl
+      (subst (λ c. T (not (isAllowedPair scoreLimit c))) (ap carried e ∙ pool-carried p q) f)
+    where
+      go : (i i′ j j′ : ℕ) → SameName first second i i′ → SameName first second j j′ → (c d : Carried) → carried (value first i j) ≡ c → carried (value second i′ j′) ≡ d
+          → T (not (isAllowedPair scoreLimit (added c d))) → SumBeyond first second
+      go i i′ j j′ p q (Scored y) (Scored z) e f t = record {
+        i = i;
+        j = j;
+        i′ = i′;
+        j′ = j′;
+        one = p;
+        other = q;
+        y = y;
+        z = z;
+        here = carried-says first (a .formed) i j (p .here) (q .here) .0 e;
+        there = carried-says second (b .formed) i′ j′ (p .there) (q .there) .0 f;
+        out = λ w. T-not (isAllowedPair scoreLimit (Scored (y +ℤ z))) t (within-range w);
+      }
+      go i i′ j j′ p q (Scored y) Unscored e f t = absurd t
+      go i i′ j j′ p q Unscored d e f t = absurd t
 
-    -- and only 14 is left to two that pass, with the same names and sums in range
-    pool-last : T (none before) → T (not differing) → T ranging → poolRefusal first second buffer ≡ cond (ltb buffer (length (poolText first second))) 14 0
-    unfolding poolRefusal poolChecks sheetChecks readerChecks all firstOf
-    pool-last t d g =
-        first-append before last tt ∙ rw (first-none before tt .1 t, T-false {b = differing} d, T-true {b = ranging} g)
+  pub out-sum : SumBeyond first second → T (not (scoresInRange (poolPairs first second)))
+  unfolding added scoreLimit onePoint pointLimit
+  out-sum o =
+      let y = carried-says first (a .formed) (o .i) (o .j) (o .one .here) (o .other .here) .1 (o .here) in
+      let z = carried-says second (b .formed) (o .i′) (o .j′) (o .one .there) (o .other .there) .1 (o .there) in
+      not-T (scoresInRange (poolPairs first second)) (λ t. o .out (allowed-within (subst (λ c. T (isAllowedPair scoreLimit c))
+      (pool-carried (o .one) (o .other) ∙ ap₂ added y z) (pool-allowed first second t (o .i) (o .j) (o .one .here) (o .other .here)))))
+
+-- its table
+names-say : (first second : List ℕ) → Says (not (namesDiffer (names first) (names second))) (SameNames first second)
+names-say first second = record {
+  to = λ t. let (f, g) = same-names (names first) (names second) (T-false {b = namesDiffer (names first) (names second)} t) in record { there = f; back = g };
+  from = λ m. false-T (names-same (names first) (names second) (m .there) (m .back));
+}
+
+seventeen-says : (first second : List ℕ) → Says (namesDiffer (names first) (names second)) (SameNames first second → ⊥)
+seventeen-says first second = denied (names-say first second)
+
+-- 18, of two sheets that pass 2 to 9 and 11 and have the same names
+eighteen-says : (first second : List ℕ) → T (none (sheetChecks first)) → T (none (sheetChecks second)) → T (not (namesDiffer (names first) (names second)))
+    → Says (not (scoresInRange (poolPairs first second))) (SumBeyond first second)
+eighteen-says first second a b m =
+    let both = names-say first second .to m in
+    record { to = sum-out (sound first a) (sound second b) both; from = out-sum (sound first a) (sound second b) both }
+
+pool-agrees : (first second : List ℕ) (buffer : ℕ) → Agree (poolChecks first second buffer) (poolTable first second buffer)
+unfolding poolChecks
+pool-agrees first second buffer = agree-append (scores-agree first) λ a. agree-append (scores-agree second) λ b.
+    next (seventeen-says first second) λ m.
+    next (eighteen-says first second a b m) λ _.
+    next (lt-says buffer (length (poolText first second))) λ _. done
 
 -- bytes that a call wrote are the pool of two sheets that pass
 record Written (first second bytes : List ℕ) : Type 0 where
@@ -101,37 +154,26 @@ record Written (first second bytes : List ℕ) : Type 0 where
   left : (buffer : ℕ) → poolRefusal first second buffer ≡ cond (ltb buffer (length (poolText first second))) 14 0
   are : bytes ≡ poolText first second
 
-accepted : (first second : List ℕ) (buffer : ℕ) {bytes : List ℕ} → poolRefusal first second buffer ≡ 0 → bytes ≡ poolText first second → Written first second bytes
-accepted first second buffer e q =
-    let (t, m, r) = pool-passed first second buffer e in
-    let (a, b) = both-sound first second t in
-    record { one = a; two = b; same = names-say first second .to m; range = r; left = λ other. pool-last first second other t m r; are = q }
-
 written : {first second bytes : List ℕ} → Pooled first second bytes → Written first second bytes
-unfolding poolRefusal
-written {first} {second} (by-pool-call {lent} {after} {r} c z) =
+written {first} {second} (by-pool-call {lent} c z) =
     let k = poolRefusal first second (length lent) in
     let text = poolText first second in
     let e = not-refused k (length text) (c .answered) z in
-    accepted first second (length lent) e (taken e text lent (c .written) (sym (counted k (length text) (c .answered) z)))
-written {first} {second} (by-pool-in-C {lent} c count e) =
-    let checks = poolChecks first second (length lent) in
-    let text = poolText first second in
-    let a = c .outcome .answered in
-    let w = c .outcome .written in
-    accepted first second (length lent) (text-count c checks text lent a w count e .0) (text-written c checks text lent a w count e .0)
+    let (t, m, r) = pool-passed first second (length lent) e in
+    let (a, b) = both-sound first second t in
+    record {
+      one = a;
+      two = b;
+      same = names-say first second .to m;
+      range = r;
+      left = λ other. pool-last first second other t m r;
+      are = taken e text lent (c .written) (sym (counted k (length text) (c .answered) z));
+    }
 
 -- what is read back of the pool
 module _ {first second bytes : List ℕ} (x : Written first second bytes) where
   formed : WellFormed (names first) (poolScores first second)
-  unfolding entries poolPairs
-  formed = record {
-    some = some-count (length (names first)) (x .one .count);
-    named = x .one .named;
-    distinct = x .one .distinct;
-    symmetric = λ i j _ _. pool-symmetric first second i j;
-    allowed = x .range;
-  }
+  formed = pool-formed second (x .one) (x .range)
 
   pool-names : names bytes ≡ names first
   unfolding poolText
@@ -140,10 +182,6 @@ module _ {first second bytes : List ℕ} (x : Written first second bytes) where
   pool-entries : entries bytes ≡ entries first
   unfolding entries
   pool-entries = ap length pool-names
-
-  pool-most : length (poolText first second) ≤ 10528
-  unfolding poolText
-  pool-most = sheetText-most formed (x .one .count)
 
   pool-sheet : T (none (sheetChecks bytes))
   unfolding poolText
@@ -180,12 +218,10 @@ module _ {first second bytes : List ℕ} (x : Written first second bytes) where
   scores-turned = pooled-turned (entries first) order (score (pairs first)) (score (pairs second))
 
   -- "a set of names strong in both is strong in the pool, with an index no smaller than the two added"
-  pool-strong : {found found′ pool : List (ℕ × ℤ)}
-      → Wrote (pos 1) (entries first) (score (pairs first)) found
-      → Wrote (pos 1) (entries second) (score (pairs second)) found′
-      → Wrote (pos 1) (entries bytes) (score (pairs bytes)) pool
-      → (A B : ℕ) → SameSet first second A B → (y z : ℤ) → found lists (A, y) → found′ lists (B, z)
-      → (v : ℤ) × (pool lists (A, v)) × ((y +ℤ z) ≤ℤ v)
+  pool-strong : {found found′ pool : List Group}
+      → Wrote (pos 1) (entries first) (pairs first) found → Wrote (pos 1) (entries second) (pairs second) found′ → Wrote (pos 1) (entries bytes) (pairs bytes) pool
+      → (A B : ℕ) → SameSet first second A B → (y z : ℤ) → HasLine found A y → HasLine found′ B z
+      → (v : ℤ) × HasLine pool A v × ((y +ℤ z) ≤ℤ v)
   unfolding order renumbering entries poolScores placeOn index
   pool-strong {found} {found′} {pool} w w′ u A B q y z l l′ =
       let n = entries first in
@@ -193,63 +229,39 @@ module _ {first second bytes : List ℕ} (x : Written first second bytes) where
       let t = score (pairs second) in
       let r = score (pairs bytes) in
       let c = same-entries (x .one) (x .two) (x .same) in
-      let w₁ = subst (λ (m : ℕ). Wrote (pos 1) m t found′) (sym c) w′ in
-      let u₁ = subst (λ (m : ℕ). Wrote (pos 1) m r pool) pool-entries u in
-      let (h, a, e) = in-groups strong n s A y .0 (subst (λ (g : List (ℕ × ℤ)). g lists (A, y)) (strong-wrote w) l) in
-      let (_, b, f) = in-groups strong n t (image n order A) z .0
-      (subst₂ (λ (g : List (ℕ × ℤ)) (C : ℕ). g lists (C, z)) (strong-wrote w₁) (set-image q) l′) in
+      let w₁ = subst (λ (m : ℕ). Wrote (pos 1) m (pairs second) found′) (sym c) w′ in
+      let u₁ = subst (λ (m : ℕ). Wrote (pos 1) m (pairs bytes) pool) pool-entries u in
+      let (h, a, e) = line-of strong n s A y .0 (subst (λ (g : List Group). HasLine g A y) (strong-wrote w) l) in
+      let (_, b, f) = line-of strong n t (image n order A) z .0
+      (subst₂ (λ (g : List Group) (C : ℕ). HasLine g C z) (strong-wrote w₁) (set-image q) l′) in
       let is : index strong n (poolScores first second) A ≡ index strong n r A = filled-cong scoreLimit n (poolScores first second) r A (λ i j hi hj. sym (pool-score i j hi hj)) in
       let p = pooled-strong n order s t (wrote-allowed w) (wrote-allowed w₁) A a b in
       let least = pooled-index n order s t (wrote-allowed w) (wrote-allowed w₁) A a b in
       let v = index strong n r A in (
         v,
-        subst (λ (g : List (ℕ × ℤ)). g lists (A, v)) (sym (strong-wrote u₁)) (in-groups strong n r A v .1
+        subst (λ (g : List Group). HasLine g A v) (sym (strong-wrote u₁)) (line-of strong n r A v .1
             (h, is-listed strong n r A (of-listed strong n s A a .0) (subst (λ i. pos 1 ≤ℤ i) is (listed-index strong n (poolScores first second) A p)), refl)),
         subst₂ (λ i k. i ≤ℤ k) (sym (ap₂ _+ℤ_ e f)) is least,
       )
 
--- a pool that is not refused gets 14 exactly from a buffer that is too short
-pub pool-buffer : (first second : List ℕ) (buffer other : ℕ) → poolRefusal first second buffer ≡ 0
-    → poolRefusal first second other ≡ cond (ltb other (length (poolText first second))) 14 0
-pool-buffer first second buffer other e = accepted first second buffer e refl .left other
-
--- a pool that is not refused has at most 10,528 bytes
-pub pool-room : (first second : List ℕ) (buffer : ℕ) → poolRefusal first second buffer ≡ 0 → length (poolText first second) ≤ 10528
-pool-room first second buffer e = pool-most (accepted first second buffer e refl)
-
 -- the answer for a buffer, beside a pool that was written
-pool-fits : {first second lent after bytes : List ℕ} {r : ℤ} → InC (λ a. PoolCall first second lent a after) r → Written first second bytes
-    → (length lent < length bytes → r ≡ negℤ (pos 14)) × (length bytes ≤ length lent → r ≡ pos (length bytes))
-unfolding cNumber answer
+pool-fits : {first second lent after bytes : List ℕ} {r : Answer} → PoolCall first second lent r after → Written first second bytes
+    → (length lent < length bytes → numberOf r ≡ 14) × (length bytes ≤ length lent → (numberOf r ≡ 0) × (countOf r ≡ length bytes))
 pool-fits {first} {second} {lent} {bytes = bytes} {r = r} c x = (
-  λ h. is {k = 14} (x .left (length lent) ∙ rw (← ap length (x .are), lt-ltb (length lent) (length bytes) h)),
-  λ h. is {k = 0} (x .left (length lent) ∙ rw (← ap length (x .are), le-ltb (length lent) (length bytes) h)),
+  λ h. number ∙ x .left (length lent) ∙ rw (← ap length (x .are), lt-ltb (length lent) (length bytes) h),
+  λ h.
+      let z : numberOf r ≡ 0 = number ∙ x .left (length lent) ∙ rw (← ap length (x .are), le-ltb (length lent) (length bytes) h) in
+      (z, counted k (length text) (c .answered) z ∙ sym (ap length (x .are))),
 )
   where
-    is : {k : ℕ} → poolRefusal first second (length lent) ≡ k → r ≡ cNumber (answer k (length bytes))
-    is e = answered c (poolRefusal first second (length lent)) (length (poolText first second)) (c .outcome .answered)
-        ∙ ap₂ (λ (k : ℕ) (t : List ℕ). cNumber (answer k (length t))) e (sym (x .are))
+    text : List ℕ
+    text = poolText first second
 
--- 14 comes after all else: of a buffer of so many bytes it is not given
-pool-never-short : (first second : List ℕ) (buffer : ℕ) → 10528 ≤ buffer → poolRefusal first second buffer ≢ 14
-unfolding poolRefusal poolChecks sheetChecks readerChecks all
-pool-never-short first second buffer h e =
-    let short = ltb buffer (length (poolText first second)) in
-    let front = check17 first second ∷ check18 (poolPairs first second) ∷ [] in
-    let (t, s) = first-at 14 (lit< tt) (before first second ++ front) short [] tt tt .0 e in
-    let (b, rest) = none-append (before first second) front .0 t in
-    let (seventeen, eighteen) = and-T (not (differing first second)) (not (not (ranging first second)) && true) rest in
-    let (sums, _) = and-T (not (not (ranging first second))) true eighteen in
-    let (one, two) = both-sound first second b in
-    let x : Written first second (poolText first second) = record {
-      one = one;
-      two = two;
-      same = names-say first second .to seventeen;
-      range = not-not (ranging first second) sums;
-      left = λ other. pool-last first second other b seventeen (not-not (ranging first second) sums);
-      are = refl;
-    } in
-    omega (arith, pool-most x, ltb-true buffer (length (poolText first second)) (T-true s))
+    k : ℕ
+    k = poolRefusal first second (length lent)
+
+    number : numberOf r ≡ poolRefusal first second (length lent)
+    number = its-number k (length text) (c .answered)
 
 -- a set of names, of sheets with the same lines of names
 set-named : {s t s′ t′ : List ℕ} {A B : ℕ} → names s ≡ names s′ → names t ≡ names t′ → SameSet s t A B → SameSet s′ t′ A B
@@ -274,20 +286,20 @@ module _ {first second bytes bytes′ : List ℕ} (x : Written first second byte
       there : (i : ℕ) → i < entries first → order x .to i < entries second
       there i h = subst (λ (n : ℕ). order x .to i < n) (same-entries (x .one) (x .two) (x .same)) (order x .to-lt i h)
 
-  pool-turned : {kind : ℤ} {found found′ : List (ℕ × ℤ)}
-      → Wrote kind (entries bytes) (score (pairs bytes)) found → Wrote kind (entries bytes′) (score (pairs bytes′)) found′
+  pool-turned : {kind : ℤ} {found found′ : List Group}
+      → Wrote kind (entries bytes) (pairs bytes) found → Wrote kind (entries bytes′) (pairs bytes′) found′
       → (A B : ℕ) → SameSet bytes bytes′ A B → (z : ℤ)
-      → (found lists (writtenSet (kindOf kind) (entries bytes) A, z)) ↔ (found′ lists (writtenSet (kindOf kind) (entries bytes′) B, z))
+      → HasLine found (writtenSet (kindOf kind) (entries bytes) A) z ↔ HasLine found′ (writtenSet (kindOf kind) (entries bytes′) B) z
   pool-turned {kind} {found} {found′} w w′ A B q z =
       let n = entries first in
       let k = kindOf kind in
       let e = pool-entries x in
       let e′ = pool-entries x′ ∙ sym (same-entries (x .one) (x .two) (x .same)) in
       let these = set-named (pool-names x) (pool-names x′) q in
-      let g = demand-3 kind .reordered (subst (λ (m : ℕ). Wrote kind m (score (pairs bytes)) found) e w)
-      (subst (λ (m : ℕ). Wrote kind m (score (pairs bytes′)) found′) e′ w′) (order x) pool-reordered A (these .here) z in
-      subst₂ (λ (m m′ : ℕ). (found lists (writtenSet k m A, z)) ↔ (found′ lists (writtenSet k m′ B, z))) (sym e) (sym e′)
-      (subst (λ (C : ℕ). (found lists (writtenSet k n A, z)) ↔ (found′ lists (writtenSet k n C, z))) (sym (set-image x these)) g)
+      let g = demand-3 kind .reordered (subst (λ (m : ℕ). Wrote kind m (pairs bytes) found) e w)
+      (subst (λ (m : ℕ). Wrote kind m (pairs bytes′) found′) e′ w′) (order x) pool-reordered A (these .here) z in
+      subst₂ (λ (m m′ : ℕ). HasLine found (writtenSet k m A) z ↔ HasLine found′ (writtenSet k m′ B) z) (sym e) (sym e′)
+      (subst (λ (C : ℕ). HasLine found (writtenSet k n A) z ↔ HasLine found′ (writtenSet k n C) z) (sym (set-image x these)) g)
 
 -- another order of the second's names
 other-order : {first second second′ bytes bytes′ : List ℕ} → Written first second bytes → Written first second′ bytes′
@@ -311,30 +323,19 @@ other-order {first} {second} {second′} x x′ f = x′ .are ∙ sheetText-cong
         (f (placeOn first second i) (placeOn first second′ i) (placeOn first second j) (placeOn first second′ j) (across i h) (across j k))
         ∙ sym (pool-number (x .one) (x .two) (x .same) (here i h) (here j k))
 
-pool-judged : {first second lent after : List ℕ} {r : Answer} → PoolCall first second lent r after → Judged (poolTable first second (length lent)) (numberOf r)
-unfolding poolRefusal
-pool-judged {first} {second} {lent} c = judged (pool-agrees first second (length lent)) (pool-numbered first second (length lent))
-    (ap numberOf (c .answered) ∙ number-answer (poolRefusal first second (length lent)) (length (poolText first second)))
-
 pub request-2-4 : Request-2-4
 unfolding poolRefusal
 request-2-4 = record {
-  judged = pool-judged;
-  judged-in-C = λ c. judged-in-C c (λ a o. pool-judged o);
-  refused = λ {first} {second} {lent} c. text-refused c (table first second lent) (poolText first second) lent (c .outcome .answered) (c .outcome .written);
-  own-bytes = λ {first} {second} {lent} c count e.
-      let checks = table first second lent in
+  judged = λ {first} {second} {lent} c. judged-by (pool-agrees first second (length lent)) _ _ (c .answered) (c .written);
+  own-bytes = λ {first} {second} {lent} c z.
       let text = poolText first second in
-      let a = c .outcome .answered in
-      let w = c .outcome .written in
-      let (bytes, rest) = text-written c checks text lent a w count e in
-      (ap length bytes ∙ text-count c checks text lent a w count e .1, rest);
-  either = λ {first} {second} {lent} c.
-      or-count (text-either c (table first second lent) (poolText first second) lent (c .outcome .answered) (c .outcome .written));
+      let none = not-refused _ _ (c .answered) z in
+      let count = sym (counted _ _ (c .answered) z) in
+      (ap length (taken none text lent (c .written) count) ∙ count, dropped none text lent (c .written) count);
   room = λ c d. pool-fits c (written d);
-  never-short = λ {first} {second} {lent} c h e. pool-never-short first second (length lent) h
-      (text-number c (table first second lent) (poolText first second) lent (c .outcome .answered) (c .outcome .written) 14 (lit< tt) .0 e);
-  a-sheet = λ {bytes = bytes} c. agree-none (scores-agree bytes) (scores-numbered bytes) .0 (first-none (sheetChecks bytes) (scores-numbered bytes) .1 (pool-sheet (written c)));
+  never-short = λ {first} {second} {lent} c h e.
+      pool-never-short first second (length lent) h (sym (its-number (poolRefusal first second (length lent)) _ (c .answered)) ∙ e);
+  a-sheet = λ {bytes = bytes} c. agree-tests (scores-agree bytes) .0 (pool-sheet (written c));
   its-names = λ c. let x = written c in (pool-names x, x .same);
   sums = λ c i i′ j j′ p q y z e f. pool-pair (written c) p q ∙ ap₂ added e f ∙ both-scored y z;
   unscored = λ c i i′ j j′ p q u. pool-pair (written c) p q ∙ either-unscored _ _ u;
@@ -342,10 +343,3 @@ request-2-4 = record {
   strong-in-both = λ c w w′ u. pool-strong (written c) w w′ u;
   turned = λ c c′ w w′. pool-turned (written c) (written c′) w w′;
 }
-  where
-    table : (first second lent : List ℕ) → List Check
-    table first second lent = poolChecks first second (length lent)
-
-    or-count : {X : Type 0} {r : ℤ} {count : ℕ} → X ⊎ (r ≡ pos count) → X ⊎ ((count : ℕ) × (r ≡ pos count))
-    or-count (inl x) = inl x
-    or-count {count = count} (inr e) = inr (count, e)

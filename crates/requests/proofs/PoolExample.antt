@@ -2,6 +2,7 @@
 use mathlib.Core.Path.{_≡_, refl, ap, ap₂, _∙_}
 use mathlib.Core.Bool.{cond}
 use mathlib.Core.List.{List, [], _∷_, _++_, map, List·Memᴰ·head, List·Memᴰ·tail}
+use native.Mathlib.Omega.{arith}
 use Prim.Native.Nat.{ℕ, _<_, _≤_}
 use borrow.Author.Tests.{le-ltb, lt-ltb}
 use lib.Dec.{T, ltb, ltb→lt, lit<}
@@ -14,7 +15,7 @@ use Rattle.pairs.specs.Pairs.{mark, numberFor, listNumber, carried}
 use Rattle.clusters.specs.PairList.{rowStart, place, score, pairList, onePoint, pointLimit, scoreLimit, isInRange, isAllowedPair, scoresInRange}
 use Rattle.clusters.specs.Pooling.{added, pooled}
 use Rattle.answers.specs.Answers.{answer, slots}
-use Rattle.answers.proofs.Answers.{slots-written}
+use Rattle.answers.proofs.Answers.{slots-written, its-number, slots-refused}
 use Rattle.interface.specs.Sheet.{
   isUpper,
   isDigit,
@@ -70,8 +71,8 @@ use Rattle.interface.specs.Refusals.{
   poolRefusal,
 }
 use Rattle.interface.specs.Calls.{cNumber, InC, PoolCall}
-use Rattle.demands.proofs.Demands.{answered, text-number}
-use Rattle.requests.proofs.Pool.{pool-buffer, request-2-4}
+use Rattle.interface.proofs.Outcomes.{refused-number}
+use Rattle.interface.proofs.PoolScores.{pool-buffer}
 use Rattle.interface.proofs.Example.{Case, many, refused}
 
 -- two sheets and their pool
@@ -162,8 +163,8 @@ refused-as : {first second lent after : List ℕ} {r : ℤ} → InC (λ a. PoolC
     → (k : ℕ) → 0 < k → poolRefusal first second (length lent) ≡ k → (r ≡ negℤ (pos k)) × (after ≡ lent)
 unfolding poolRefusal
 refused-as {first} {second} {lent} c k h e =
-    let minus = text-number c (poolChecks first second (length lent)) (poolText first second) lent (c .outcome .answered) (c .outcome .written) k h .1 e in
-    (minus, request-2-4 .refused c k h minus)
+    let minus = c .number ∙ refused-number (c .given) k h .1 (its-number _ _ (c .outcome .answered) ∙ e) in
+    (minus, c .outcome .written ∙ slots-refused (poolRefusal first second (length lent)) (poolText first second) lent (omega arith))
 
 -- each pool is written in a buffer of its length or more, of which the further bytes stay; a shorter one gets 14
 module _ (p : Pool) (m : p ∈ pools) {lent after : List ℕ} {r : ℤ} (c : InC (λ a. PoolCall (p .first) (p .second) lent a after) r) where
@@ -181,7 +182,7 @@ module _ (p : Pool) (m : p ∈ pools) {lent after : List ℕ} {r : ℤ} (c : InC
   pool-written h =
       let k = poolRefusal (p .first) (p .second) (length lent) in
       let none : k ≡ 0 = number ∙ rw (le-ltb (length lent) (length (p .text)) h) in (
-        answered c k (length (poolText (p .first) (p .second))) (c .outcome .answered)
+        c .number ∙ ap cNumber (c .outcome .answered)
             ∙ ap₂ (λ (k : ℕ) (t : List ℕ). cNumber (answer k (length t))) none is,
         c .outcome .written ∙ ap₂ (λ (k : ℕ) (t : List ℕ). slots k t lent) none is ∙ slots-written (p .text) lent,
       )

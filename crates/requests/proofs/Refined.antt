@@ -2,7 +2,7 @@
 use mathlib.Core.Path.{_≡_, refl, sym, ap, ap₂, _∙_, subst}
 use mathlib.Core.Bool.{Bool, true, false, not}
 use mathlib.Core.Logic.{_⊎_, inl, inr, _≢_}
-use mathlib.Core.List.{List}
+use mathlib.Core.List.{List, _∷_, []}
 use Prim.Native.Nat.{ℕ, _+_, _-_, _^_, _<_, _≤_}
 use native.Mathlib.Decide.{decLt}
 use native.Mathlib.Omega.{arith}
@@ -11,8 +11,8 @@ use lib.Dec.{T, lit<}
 use lib.IntN.{ℤ, pos, _+ℤ_, _-ℤ_, _*ℤ_}
 use lib.Signed.{_≤ℤ_}
 use lib.ListN.{length}
-use Rattle.lists.specs.Lists.{_lists_, all}
-use Rattle.lists.proofs.Tests.{T-false, cond-elim}
+use Rattle.lists.specs.Lists.{all}
+use Rattle.lists.proofs.Tests.{T-false, cond-elim, false-T, T-true}
 use Rattle.integers.specs.Integers.{eqZ, minZ, sumOf}
 use Rattle.integers.proofs.Linear.{zarith, +at, -at}
 use Rattle.integers.proofs.Least.{min-left, min-right, min-is}
@@ -20,66 +20,58 @@ use Rattle.sets.specs.Sets.{has, _∋_, _∌_, complement}
 use Rattle.sets.proofs.Sets.{clash, in-complement, of-complement, size-complement, complement-lt}
 use Rattle.clusters.specs.PairList.{score, rowStart, hasLength, scoresInRange, hasUnscored}
 use Rattle.clusters.specs.Fillings.{AllScored}
-use Rattle.clusters.specs.Groups.{splits, kindOf, index, groups, writtenSet}
-use Rattle.clusters.specs.Refined.{Quartet, doubledScore, refinedWeight, Compatible}
+use Rattle.clusters.specs.Groups.{Group, HasLine, splits, kindOf, index, groups, writtenSet}
+use Rattle.clusters.specs.Refined.{Quartet, doubledScore, refinedWeight, Compatible, Across, quartets}
 use Rattle.clusters.proofs.PairList.{score-symm, length-pairList}
-use Rattle.clusters.proofs.Groups.{in-groups}
+use Rattle.clusters.proofs.Groups.{line-of}
 use Rattle.clusters.proofs.Scored.{list-scored}
 use Rattle.clusters.proofs.Crossing.{refined-never-cross}
 use Rattle.clusters.proofs.Refined.{refined-ge, split-refined, refined-either-side, refined-image, refined-least, refined-attained}
+use Rattle.answers.specs.declared.Refined.{Refined}
 use Rattle.answers.specs.Refined.{refinedNumber, answeredWeight, refinedAnswer}
 use Rattle.answers.proofs.Answers.{refined-number, refined-nothing, refined-found}
-use Rattle.interface.specs.Sheet.{entries, value, pairs}
-use Rattle.interface.specs.Refusals.{
-  wrongCount,
-  wrongUnscored,
-  wrongDistances,
-  wrongSide,
-  numbersChecks,
-  numbersRefusal,
-  sheetCallChecks,
-  sheetRefusal,
-  refinedChecks,
-  refinedRefusal,
-}
-use Rattle.demands.specs.Demands.{Wrote, in-lines, in-slots}
-use Rattle.requests.specs.Shared.{
-  SideWeighed,
-  by-weight-call,
-  by-weight-in-C,
-  SamePair,
-  Unordered,
-  WroteOf,
-  for-list,
-  for-sheet,
-  Request-2-5,
-}
-use Rattle.demands.specs.Sentences.{OnSides}
-use Rattle.interface.proofs.Refusals.{gives, first-no, no-more, passes, right-length}
-use Rattle.interface.proofs.Sides.{Sides, sides, right-side, of-sides}
-use Rattle.demands.proofs.Agree.{judged}
-use Rattle.demands.proofs.AgreeTables.{refined-agrees, refined-numbered}
-use Rattle.demands.proofs.Demands.{wrote, accepted, numbers-taken}
+use Rattle.interface.specs.Refusals.{wrongUnscored, wrongDistances, wrongSide, refinedChecks, refinedRefusal}
+use Rattle.interface.specs.Calls.{RefinedCall}
+use Rattle.interface.proofs.Refusals.{gives, first-no, no-more, under, passes, right-length}
+use Rattle.interface.proofs.Accepted.{Passed}
+use Rattle.interface.proofs.Sides.{Sides, sides, right-side}
+use Rattle.demands.specs.Tables.{Table, Judged, distanceTable}
+use Rattle.demands.proofs.Agree.{Says, denied, Agree, done, next, agree-append, judged, none-both, given-behind}
+use Rattle.demands.proofs.AgreeTables.{distance-agrees}
+use Rattle.demands.proofs.Spoken.{two-members}
+use Rattle.demands.proofs.Taken.{distance-none}
+use Rattle.demands.proofs.Least.{falling, either-order}
+use Rattle.demands.proofs.Demands.{wrote, wrote-passed}
+use Rattle.requests.specs.Refined.{OnSides, TwoSides, refinedTable, Unordered, Weighs, by-refined-call, Request-2-5}
+use Rattle.lists.proofs.Lists.{length-some}
+use Rattle.clusters.proofs.Quartets.{quartets-many, in-quartets}
+use Rattle.sets.proofs.Subsets.{fits-members, members-fit}
 
--- what was answered, by the checks and the definition
-record Answered (n : ℕ) (l : List ℤ) (A number : ℕ) (w : ℤ) : Type 0 where
-  is-number : number ≡ refinedRefusal n l A
-  is-weight : w ≡ answeredWeight (refinedAnswer (refinedRefusal n l A) (refinedWeight n (score l) A))
+-- as the request says it: by entries
+of-sides : (n A : ℕ) (q : Quartet) → Across n A q → OnSides n A (q .a) (q .a′) (q .b) (q .b′)
+of-sides n A q x =
+    let (ha, la, ka, ka′) = x .one-side in
+    let (hb, lb, kb, kb′) = x .other-side in
+    record { one-side = (ha, omega arith, ka, ka′, λ e. omega arith); other-side = (hb, omega arith, kb, kb′, λ e. omega arith) }
 
-pos-equal : {j k : ℕ} → pos j ≡ pos k → j ≡ k
-pos-equal e = cc
-
-answered : {n : ℕ} {l : List ℤ} {A number : ℕ} {w : ℤ} → SideWeighed n l A number w → Answered n l A number w
-answered {n} {l} {A} (by-weight-call c) = record {
-  is-number = ap refinedNumber (c .answered) ∙ refined-number _ (refinedRefusal n l A);
-  is-weight = ap answeredWeight (c .answered);
-}
-answered {n} {l} {A} (by-weight-in-C c number e) =
-    let q = c .outcome .answered in
+two-sides : {n A : ℕ} → Sides n A → TwoSides n A
+two-sides {n} {A} s =
+    let (q, m) = length-some (quartets n A) (omega (arith, quartets-many n A (s .two) (s .rest), s .two, s .rest)) in
     record {
-      is-number = pos-equal (sym e ∙ c .answered) ∙ ap refinedNumber q ∙ refined-number _ (refinedRefusal n l A);
-      is-weight = c .written ∙ ap answeredWeight q;
+      members = fits-members n A (s .fits);
+      a = q .a;
+      a′ = q .a′;
+      b = q .b;
+      b′ = q .b′;
+      entries = of-sides n A q (in-quartets n A q .0 m);
     }
+
+of-two-sides : {n A : ℕ} → TwoSides n A → Sides n A
+of-two-sides {n} {A} t =
+    let (ha, ha′, ka, ka′, d) = t .entries .one-side in
+    let (hb, hb′, kb, kb′, e) = t .entries .other-side in
+    let others = two-members n (complement n A) hb hb′ (in-complement n A hb kb) (in-complement n A hb′ kb′) e in
+    record { fits = members-fit n A (t .members); two = two-members n A ha ha′ ka ka′ d; rest = omega (arith, others, size-complement n A) }
 
 -- so different entries of either side are one quartet
 unordered : (n A a a′ b b′ : ℕ) → OnSides n A a a′ b b′ → (q : Quartet) × Unordered n A q a a′ b b′ × ((r : Quartet) → Unordered n A r a a′ b b′ → r ≡ q)
@@ -107,37 +99,28 @@ unordered n A a a′ b b′ s =
     equal : (r q : Quartet) → (r .a ≡ q .a) × (r .a′ ≡ q .a′) → (r .b ≡ q .b) × (r .b′ ≡ q .b′) → r ≡ q
     equal r q (e, f) (g, h) = λ i. record { a = e i; a′ = f i; b = g i; b′ = h i }
 
--- what 6, 10, 11, 16 and 12 leave, and 19
-weight-left : (n : ℕ) (l : List ℤ) (A : ℕ) → T (not (wrongCount n)) → length l ≡ rowStart n → T (not (not (scoresInRange l))) → T (not (hasUnscored l))
-    → T (not (wrongDistances (pos 3) n l)) → wrongSide n A ≡ false → refinedRefusal n l A ≡ 0
-unfolding refinedRefusal refinedChecks hasLength
-weight-left n l A six ten eleven sixteen twelve right =
-    sym (gives (first-no (T-false six) (first-no (ap not (eq-eqb (length l) (rowStart n) ten)) (first-no (T-false eleven)
-    (first-no (T-false sixteen) (first-no (T-false twelve) (first-no right no-more)))))))
+-- its table
+nineteen-says : (n A : ℕ) → Says (wrongSide n A) (TwoSides n A → ⊥)
+nineteen-says n A = denied (record { to = λ t. two-sides (sides (T-false {b = wrongSide n A} t)); from = λ x. false-T (right-side (of-two-sides x)) })
 
--- a list that the numbers call takes for kind 3, and the list of a sheet that is listed
-list-left : (n : ℕ) (l : List ℤ) (i j A : ℕ) → numbersRefusal (pos 3) n l i j ≡ 0 → wrongSide n A ≡ false → refinedRefusal n l A ≡ 0
-unfolding numbersRefusal numbersChecks all wrongUnscored eqZ
-list-left n l i j A e right =
-    let checks = numbersChecks (pos 3) n l i j in
-    weight-left n l A (passes checks tt e 1 (lit< tt)) (right-length n l (T-false {b = not (hasLength n l)} (passes checks tt e 2 (lit< tt))))
-    (passes checks tt e 3 (lit< tt)) (passes checks tt e 4 (lit< tt)) (passes checks tt e 5 (lit< tt)) right
+refined-agrees : (n : ℕ) (l : List ℤ) (A : ℕ) → Agree (refinedChecks n l A) (refinedTable n l A)
+unfolding refinedChecks
+refined-agrees n l A = agree-append (distance-agrees n l) λ _. next (nineteen-says n A) λ _. done
 
-sheet-left : (sheet : List ℕ) (buffer : ℕ) (A : ℕ) → sheetRefusal (pos 3) sheet buffer ≡ 0 → wrongSide (entries sheet) A ≡ false
-    → refinedRefusal (entries sheet) (pairs sheet) A ≡ 0
-unfolding sheetRefusal sheetCallChecks all pairs wrongUnscored eqZ
-sheet-left sheet buffer A e right =
-    let checks = sheetCallChecks (pos 3) sheet buffer in
-    weight-left (entries sheet) (pairs sheet) A (passes checks tt e 5 (lit< tt)) (length-pairList (entries sheet) (value sheet))
-    (passes checks tt e 9 (lit< tt)) (passes checks tt e 10 (lit< tt)) (passes checks tt e 11 (lit< tt)) right
+number-is : {n : ℕ} {l : List ℤ} {A : ℕ} {r : Refined} → RefinedCall n l A r → refinedNumber r ≡ refinedRefusal n l A
+number-is {n} {l} {A} c = ap refinedNumber (c .answered) ∙ refined-number (refinedWeight n (score l) A) (refinedRefusal n l A)
 
-taken : {n : ℕ} {l : List ℤ} {found : List (ℕ × ℤ)} → WroteOf (pos 3) n l found → (A : ℕ) → Sides n A → refinedRefusal n l A ≡ 0
-taken (for-list {n} {l = l} c) A s = let t = numbers-taken c in list-left n l (t .setSlots) (t .indexSlots) A (t .passed) (right-side s)
-taken (for-sheet {sheet} l e) A s = let a = accepted l in sheet-left sheet (a .buffer) A (a .passed) (right-side s)
+refined-judged : {n : ℕ} {l : List ℤ} {A : ℕ} {r : Refined} → RefinedCall n l A r → Judged (refinedTable n l A) (refinedNumber r) (answeredWeight r ≡ pos 0)
+unfolding refinedRefusal
+refined-judged {n} {l} {A} c = judged (refined-agrees n l A) (number-is c) λ f.
+    ap answeredWeight (c .answered) ∙ refined-nothing (refinedWeight n (score l) A) (refinedRefusal n l A) (λ z. f (number-is c ∙ z))
 
-wrote-of : {kind : ℤ} {n : ℕ} {l : List ℤ} {found : List (ℕ × ℤ)} → WroteOf kind n l found → Wrote kind n (score l) found
-wrote-of (for-list c) = in-slots c
-wrote-of (for-sheet l e) = in-lines l e
+-- a list that a call took for kind 3: only 19 is left
+third-left : {n : ℕ} {l : List ℤ} → Passed (pos 3) n l → {A : ℕ} → Sides n A → refinedRefusal n l A ≡ 0
+unfolding refinedRefusal refinedChecks hasLength wrongUnscored eqZ
+third-left {n} {l} p s =
+    sym (gives (first-no (p .count) (first-no (ap not (eq-eqb (length l) (rowStart n) (p .long))) (first-no (ap not (T-true {b = scoresInRange l} (p .range)))
+    (first-no (T-false {b = hasUnscored l} (p .sixteen)) (first-no (T-false {b = wrongDistances (pos 3) n l} (p .twelve)) (first-no (right-side s) no-more)))))))
 
 -- an answer that is no refusal
 pub record Found (n : ℕ) (l : List ℤ) (A : ℕ) (w : ℤ) : Type 0 where
@@ -145,17 +128,21 @@ pub record Found (n : ℕ) (l : List ℤ) (A : ℕ) (w : ℤ) : Type 0 where
   pub scored : AllScored n (score l)
   pub weight : w ≡ refinedWeight n (score l) A
 
-pub found : {n : ℕ} {l : List ℤ} {A : ℕ} {w : ℤ} → SideWeighed n l A 0 w → Found n l A w
-unfolding refinedRefusal refinedChecks all
-found {n} {l} {A} c =
-    let a = answered c in
-    let checks = refinedChecks n l A in
-    let zero : refinedRefusal n l A ≡ 0 = sym (a .is-number) in
-    record {
-      of-sides = sides (T-false {b = wrongSide n A} (passes checks tt zero 5 (lit< tt)));
-      scored = list-scored n l (right-length n l (T-false {b = not (hasLength n l)} (passes checks tt zero 1 (lit< tt)))) (passes checks tt zero 3 (lit< tt));
-      weight = a .is-weight ∙ ap (λ (k : ℕ). answeredWeight (refinedAnswer k (refinedWeight n (score l) A))) zero ∙ refined-found (refinedWeight n (score l) A);
-    }
+pub found : {n : ℕ} {l : List ℤ} {A : ℕ} {w : ℤ} → Weighs n l A w → Found n l A w
+unfolding refinedRefusal refinedChecks under all
+found (by-refined-call {r} c none) =
+    found-of c none
+  where
+    found-of : {n : ℕ} {l : List ℤ} {A : ℕ} → RefinedCall n l A r → refinedNumber r ≡ 0 → Found n l A (answeredWeight r)
+    found-of {n} {l} {A} c none =
+        let checks = refinedChecks n l A in
+        let zero : refinedRefusal n l A ≡ 0 = sym (number-is c) ∙ none in
+        record {
+          of-sides = sides (T-false {b = wrongSide n A} (passes 19 checks tt zero));
+          scored = list-scored n l (right-length n l (T-false {b = not (hasLength n l)} (passes 10 checks tt zero))) (passes 16 checks tt zero);
+          weight = ap answeredWeight (c .answered) ∙ ap (λ (k : ℕ). answeredWeight (refinedAnswer k (refinedWeight n (score l) A))) zero
+              ∙ refined-found (refinedWeight n (score l) A);
+        }
 
 -- the other side
 other-side : {n A : ℕ} → Sides n A → Sides n (complement n A)
@@ -196,12 +183,12 @@ module _ (n : ℕ) (l : List ℤ) (A : ℕ) where
   unfolding writtenSet
   written-sides s = cond-elim (has A 0) (complement n A) A (Sides n) (λ _. other-side s) (λ _. s)
 
-  line-weight : Sides n A → (z : ℤ) → groups splits n (score l) lists (writtenSet splits n A, z)
+  line-weight : Sides n A → (z : ℤ) → HasLine (groups splits n (score l)) (writtenSet splits n A) z
       → ((pos (n - 3) *ℤ z) ≤ℤ refinedWeight n (score l) A) × (pos 1 ≤ℤ refinedWeight n (score l) A)
   unfolding index
   line-weight s z m =
       let B = writtenSet splits n A in
-      let (h, t, e) = in-groups splits n (score l) B z .0 m in
+      let (h, t, e) = line-of splits n (score l) B z .0 m in
       let b = written-sides s in
       subst (λ w. ((pos (n - 3) *ℤ z) ≤ℤ w) × (pos 1 ≤ℤ w)) written-weight (
         subst (λ z. (pos (n - 3) *ℤ z) ≤ℤ refinedWeight n (score l) B) (sym e) (refined-ge n (score l) B (b .two) (b .rest) (score-symm l)),
@@ -215,7 +202,7 @@ taken-back m w = omega (zarith, -at m w, +at (m -ℤ w) w)
 smaller-of : (u v w : ℤ) → let s = minZ u v -ℤ w +ℤ w in (s ≤ℤ u) × (s ≤ℤ v) × ((s ≡ u) ⊎ (s ≡ v))
 smaller-of u v w = subst (λ s. (s ≤ℤ u) × (s ≤ℤ v) × ((s ≡ u) ⊎ (s ≡ v))) (sym (taken-back (minZ u v) w)) (min-left u v, min-right u v, min-is u v)
 
-compatible : {n : ℕ} {l : List ℤ} {A C : ℕ} {w w′ : ℤ} → SideWeighed n l A 0 w → SideWeighed n l C 0 w′
+compatible : {n : ℕ} {l : List ℤ} {A C : ℕ} {w w′ : ℤ} → Weighs n l A w → Weighs n l C w′
     → pos 1 ≤ℤ w → pos 1 ≤ℤ w′ → Compatible n A C
 compatible {n} {l} {A} {C} c c′ h h′ =
     refined-never-cross n (score l) (score-symm l) A C (subst (λ w. pos 1 ≤ℤ w) (found c .weight) h) (subst (λ w. pos 1 ≤ℤ w) (found c′ .weight) h′)
@@ -229,12 +216,17 @@ apart n A C (inr (inl s)) i j k m hi hj hk hm _ _ _ (p, q) = clash (s .all m hm 
 apart n A C (inr (inr s)) i j k m hi hj hk hm _ _ (p, q) _ = clash q (of-complement n C hk (s .all k hk (in-complement n A hk p)))
 
 pub request-2-5 : Request-2-5
-unfolding refinedRefusal kindOf eqZ doubledScore
+unfolding kindOf eqZ doubledScore
 request-2-5 = record {
-  judged = λ {n} {l} {A} c. judged (refined-agrees n l A) (refined-numbered n l A) (answered c .is-number);
-  refused = λ {n} {l} {A} c d. let a = answered c in
-      a .is-weight ∙ refined-nothing (refinedWeight n (score l) A) (refinedRefusal n l A) (λ z. d (a .is-number ∙ z));
-  in-C = λ c. (refinedNumber (c .given), c .answered);
+  judged = refined-judged;
+  in-C = λ c. (c .given, c .outcome, c .answered, c .written);
+  fits = λ {n} {l} f d {A} c.
+      let j = refined-judged c in
+      let none = distance-none f d in
+      let last : Table = (19, TwoSides n A → ⊥) ∷ [] in (
+        λ t. j .taken .1 (none-both (distanceTable n l) last none (λ g. g t, tt)),
+        λ g. j .refused 19 (lit< tt) .1 (given-behind (distanceTable n l) last 19 none (inl (refl, g))),
+      );
   unordered = unordered;
   of-sides = of-sides;
   doubled = λ d q. smaller-of (d (q .a) (q .b) +ℤ d (q .a′) (q .b′)) (d (q .a) (q .b′) +ℤ d (q .a′) (q .b)) (d (q .a) (q .a′) +ℤ d (q .b) (q .b′));
@@ -244,20 +236,14 @@ request-2-5 = record {
       let (qs, chosen, e) = refined-attained n (score l) A (f .of-sides .two) (f .of-sides .rest) in
       (qs, chosen, f .weight ∙ e);
   either-side = λ {n} {l} {A} h c c′.
-      let a = answered c in
-      let a′ = answered c′ in
-      let k = refusal-other n l A h in (
-        a′ .is-number ∙ k ∙ sym (a .is-number),
-        a′ .is-weight ∙ ap₂ (λ (k : ℕ) w. answeredWeight (refinedAnswer k w)) k (refined-either-side n (score l) (score-symm l) A) ∙ sym (a .is-weight),
-      );
+      c′ .answered ∙ ap₂ refinedAnswer (refusal-other n l A h) (refined-either-side n (score l) (score-symm l) A) ∙ sym (c .answered);
   reordered = λ {n} {l} {l′} {A} p c c′ r.
       found c′ .weight ∙ refined-image n p (score l) (score l′) r (score-symm l) (score-symm l′) A ∙ sym (found c .weight);
   never-cross = λ c c′ h h′. compatible c c′ h h′;
   not-all-four = λ {n} {l} {A} {C} c c′ h h′. apart n A C (compatible c c′ h h′);
-  taken = λ {n} {l} {A} c wr fits two rest. answered c .is-number ∙ taken wr A (record { fits = fits; two = two; rest = rest });
-  of-line = λ {n} {l} {A} {number} {w} c {found = written} wr fits two rest z m.
-      let s : Sides n A = record { fits = fits; two = two; rest = rest } in
-      let f = found (subst (λ (k : ℕ). SideWeighed n l A k w) (answered c .is-number ∙ taken wr A s) c) in
-      subst (λ w. ((pos (n - 3) *ℤ z) ≤ℤ w) × (pos 1 ≤ℤ w)) (sym (f .weight))
-      (line-weight n l A s z (subst (λ (g : List (ℕ × ℤ)). g lists (writtenSet splits n A, z)) (wrote (wrote-of wr) .0) m));
+  taken = λ {n} {l} {A} c w fits two rest. number-is c ∙ third-left (wrote-passed w) (record { fits = fits; two = two; rest = rest });
+  of-line = λ {n} {l} {A} c w two rest z m.
+      let f = found c in
+      subst (λ v. ((pos (n - 3) *ℤ z) ≤ℤ v) × (pos 1 ≤ℤ v)) (sym (f .weight))
+      (line-weight n l A (f .of-sides) z (subst (λ (g : List Group). HasLine g (writtenSet splits n A) z) (wrote w) m));
 }

@@ -17,38 +17,20 @@ use Rattle.answers.specs.Answers.{numberOf, answer, slots}
 use Rattle.interface.specs.Sheet.{entries, value, pairs}
 use Rattle.interface.specs.Refusals.{scoreRefusal}
 use Rattle.interface.specs.Calls.{ScoreInC}
-use Rattle.requests.specs.Shared.{WrotePairs, by-reader, by-reader-in-C, by-anchored-call, by-anchored-in-C, by-back-call, by-back-in-C, Request-2-3}
-use Rattle.demands.proofs.Demands.{after-is, not-refused, counted, not-refused-in-C}
+use Rattle.demands.specs.Sentences.{lower}
+use Rattle.requests.specs.RowStarts.{WrotePairs, by-reader, by-anchored-call, by-back-call, Request-2-3}
+use Rattle.interface.proofs.Outcomes.{counted}
+use Rattle.demands.proofs.Written.{at-row}
 
--- a call that writes the pair list of s and is not refused
-at-row : (n : ℕ) (s : Similarity) (lent : List ℤ) (k c : ℕ) {r : Answer} {after : List ℤ} → r ≡ answer k c → numberOf r ≡ 0
-    → after ≡ slots k (pairList n s) lent → (i j : ℕ) → i < n → j ≤ i → getD after (rowStart i + j) (pos 0) ≡ s i j
-at-row n s lent k c e none w i j h below =
-    ap (λ l. getD l (rowStart i + j) (pos 0)) (after-is (not-refused k c e none) (pairList n s) lent w)
-    ∙ List·getD-append (pairList n s) (drop (length (pairList n s)) lent) (pos 0) (rowStart i + j)
-    (omega (arith, length-pairList n s, row-lt n i j h below))
-    ∙ pairList-at n s i j h below
-
-written-at : {n : ℕ} {s : Similarity} {after : List ℤ} → WrotePairs n s after
-    → (i j : ℕ) → i < n → j ≤ i → getD after (rowStart i + j) (pos 0) ≡ s i j
+pub written-at : {n : ℕ} {s : Similarity} {after : List ℤ} → WrotePairs n s after → (i j : ℕ) → i < n → j ≤ i → lower after i j ≡ s i j
 unfolding pairs anchoredScores distancesBack
 written-at (by-reader {sheet} {lent} c none) i j h =
     let e = c .answered in
     at-row (entries sheet) (value sheet) lent _ _ e none (c .written) i j (omega (arith, counted _ _ e none))
-written-at (by-reader-in-C {sheet} {lent} c n q) i j h =
-    let e = c .outcome .answered in
-    let (none, is) = not-refused-in-C c _ _ e q in
-    at-row (entries sheet) (value sheet) lent _ _ e none (c .outcome .written) i j (omega (arith, is, counted _ _ e none))
 written-at (by-anchored-call {n} {x} {l} {lent} c none) i j h =
     at-row n (farris (score l) x) lent _ _ (c .answered) none (c .written) i j h
-written-at (by-anchored-in-C {n} {x} {l} {lent} c count q) i j h =
-    let e = c .outcome .answered in
-    at-row n (farris (score l) x) lent _ _ e (not-refused-in-C c _ _ e q .0) (c .outcome .written) i j h
 written-at (by-back-call {n} {l = l} {lent = lent} c none) i j h =
     at-row n (unfarris (score l)) lent _ _ (c .answered) none (c .written) i j h
-written-at (by-back-in-C {n} {l = l} {lent = lent} c count q) i j h =
-    let e = c .outcome .answered in
-    at-row n (unfarris (score l)) lent _ _ e (not-refused-in-C c _ _ e q .0) (c .outcome .written) i j h
 
 looked : {n a b : ℕ} {l : List ℤ} {lent r after : ℤ} → ScoreInC n l a b lent r after → r ≡ pos 0 → after ≡ score l a b
 looked {n} {a} {b} {l} {lent} c q =

@@ -1,7 +1,8 @@
 -- Request 2.1, from the outcomes of the call and the theorems about groups.
 use mathlib.Core.Path.{_≡_, refl, sym, ap, ap₂, _∙_, subst, subst₂}
 use mathlib.Core.Bool.{Bool, true, false, not, cond, _||_}
-use mathlib.Core.List.{List}
+use mathlib.Core.Logic.{_⊎_, inl, inr, _≢_}
+use mathlib.Core.List.{List, _∷_, _++_, []}
 use Prim.Native.Nat.{ℕ, zero, _^_, _<_}
 use native.Mathlib.Omega.{arith}
 use lib.Dec.{T, T-not, lit<}
@@ -10,7 +11,7 @@ use Rattle.lists.specs.Lists.{_∈_, _lists_, all}
 use Rattle.lists.proofs.Tests.{T-false, false-T}
 use Rattle.integers.specs.Integers.{eqZ}
 use Rattle.clusters.specs.PairList.{Similarity, Symmetric, score}
-use Rattle.clusters.specs.Groups.{Kind, strong, clean, splits, kindOf, index, groupSets, groups}
+use Rattle.clusters.specs.Groups.{Kind, strong, clean, splits, kindOf, index, groupSets, groups, setsOf}
 use Rattle.clusters.specs.Reordering.{image}
 use Rattle.clusters.specs.Nesting.{Hit, smallestShared}
 use Rattle.clusters.proofs.PairList.{score-symm}
@@ -19,47 +20,22 @@ use Rattle.clusters.proofs.Hierarchies.{Hierarchy, groups-hierarchy}
 use Rattle.clusters.proofs.Shared.{shared-swapped, shared-of-all, shared-line, shared-none, shared-holds, shared-all}
 use Rattle.clusters.proofs.Shared.{shared-inside, shared-only, shared-single}
 use Rattle.clusters.proofs.Images.{ofGroups, shared-image, shared-image-none}
+use Rattle.answers.specs.declared.Shared.{Shared}
 use Rattle.answers.specs.Shared.{sharedNumber, sharedSet, sharedLine, sharedAnswer}
 use Rattle.answers.proofs.Answers.{shared-number, shared-nothing, shared-found}
 use Rattle.interface.specs.Listing.{groupsFound}
 use Rattle.interface.specs.Refusals.{wrongKind, wrongGroupKind, wrongAnchor, wrongEntries, sharedChecks, sharedRefusal}
-use Rattle.interface.specs.Calls.{setsFound, sharedFound}
-use Rattle.requests.specs.Shared.{SharedAnswered, by-shared-call, by-shared-in-C, refused-in-C, SmallestFound, Request-2-1}
-use Rattle.interface.proofs.Refusals.{passes, right-entries}
-use Rattle.demands.proofs.Agree.{judged}
-use Rattle.demands.proofs.AgreeTables.{shared-agrees, shared-numbered}
-use Rattle.demands.proofs.Demands.{c-count, c-refused, wrote}
-
--- what was answered, by the checks and by what was found
-record Answered (kind : ℤ) (n : ℕ) (l : List ℤ) (i j number set line : ℕ) : Type 0 where
-  is-number : number ≡ sharedRefusal kind n l i j
-  is-set : set ≡ sharedSet (sharedAnswer (sharedRefusal kind n l i j) (sharedFound kind n l i j .set) (sharedFound kind n l i j .line))
-  is-line : line ≡ sharedLine (sharedAnswer (sharedRefusal kind n l i j) (sharedFound kind n l i j .set) (sharedFound kind n l i j .line))
-
-answered : {kind : ℤ} {n : ℕ} {l : List ℤ} {i j number set line : ℕ} → SharedAnswered kind n l i j number set line → Answered kind n l i j number set line
-answered {kind} {n} {l} {i} {j} (by-shared-call c) = record {
-  is-number = ap sharedNumber (c .answered) ∙ shared-number (sharedFound kind n l i j .set) (sharedFound kind n l i j .line) (sharedRefusal kind n l i j);
-  is-set = ap sharedSet (c .answered);
-  is-line = ap sharedLine (c .answered);
-}
-answered {kind} {n} {l} {i} {j} (by-shared-in-C c line e) =
-    let q = c .outcome .answered in
-    let (z, is) = c-count (sharedNumber (c .given)) (sharedLine (c .given)) line (sym (c .answered) ∙ e) in
-    record {
-      is-number = sym z ∙ ap sharedNumber q ∙ shared-number (sharedFound kind n l i j .set) (sharedFound kind n l i j .line) (sharedRefusal kind n l i j);
-      is-set = c .written ∙ ap sharedSet q;
-      is-line = sym is ∙ ap sharedLine q;
-    }
-answered {kind} {n} {l} {i} {j} (refused-in-C c number h e) =
-    let q = c .outcome .answered in
-    let k = sharedRefusal kind n l i j in
-    let is = c-refused (sharedNumber (c .given)) (sharedLine (c .given)) number h .0 (sym (c .answered) ∙ e) in
-    let given : number ≡ k = sym is ∙ ap sharedNumber q ∙ shared-number (sharedFound kind n l i j .set) (sharedFound kind n l i j .line) k in
-    record {
-      is-number = given;
-      is-set = c .written ∙ ap sharedSet q;
-      is-line = sym (shared-nothing (sharedFound kind n l i j .set) (sharedFound kind n l i j .line) k (λ z. omega arith) .1);
-    }
+use Rattle.interface.specs.Calls.{setsFound, sharedFound, SharedCall}
+use Rattle.interface.proofs.Accepted.{shared-left}
+use Rattle.demands.specs.Sentences.{NoKind, NoEntries}
+use Rattle.demands.specs.Tables.{Table, Judged, pairTable, kindTable}
+use Rattle.demands.proofs.Agree.{Says, or-says, like, decided, eqZ-says, Agree, done, next, agree-append, judged, none-both}
+use Rattle.demands.proofs.AgreeNumbers.{one-says, third-kind, entries-say}
+use Rattle.demands.proofs.AgreeTables.{pair-agrees, kind-agrees}
+use Rattle.demands.proofs.TurnedAway.{said-in-C}
+use Rattle.demands.proofs.Taken.{pair-none, kind-none, neither-entry}
+use Rattle.demands.proofs.Demands.{wrote}
+use Rattle.requests.specs.Shared.{NoGroupKind, sharedTable, SmallestFound, Request-2-1}
 
 -- the sets gone down are the groups
 found-is : (kind : ℤ) (n : ℕ) (l : List ℤ) (i j : ℕ) → sharedFound kind n l i j ≡ smallestShared n i j (groupSets (kindOf kind) n (score l))
@@ -83,60 +59,37 @@ kind-left kind e = go (eqZ kind (pos 1)) (eqZ kind (pos 2)) (eqZ kind (pos 3)) e
     go false false true e = absurd (T-not true (false-T e) tt)
     go false false false e = absurd (T-not true (false-T e) tt)
 
--- what the checks leave, beside those of the pair list
-pub shared-left : (kind : ℤ) (n : ℕ) (l : List ℤ) (i j : ℕ) → sharedRefusal kind n l i j ≡ 0 → (wrongGroupKind kind ≡ false) × (i < n) × (j < n)
-unfolding sharedRefusal sharedChecks all
-shared-left kind n l i j e =
-    let checks = sharedChecks kind n l i j in
-    let one : T (not (wrongGroupKind kind)) = passes checks tt e 0 (lit< tt) in
-    let fifteen : T (not (wrongEntries n i j)) = passes checks tt e 6 (lit< tt) in
-    let (hi, hj) = right-entries n i j (T-false {b = wrongEntries n i j} fifteen) in
-    (T-false {b = wrongGroupKind kind} one, hi, hj)
+number-is : {kind : ℤ} {n : ℕ} {l : List ℤ} {i j : ℕ} {r : Shared} → SharedCall kind n l i j r → sharedNumber r ≡ sharedRefusal kind n l i j
+number-is {kind} {n} {l} {i} {j} c =
+    ap sharedNumber (c .answered) ∙ shared-number (sharedFound kind n l i j .set) (sharedFound kind n l i j .line) (sharedRefusal kind n l i j)
 
-found : {kind : ℤ} {n : ℕ} {l : List ℤ} {i j set line : ℕ} → SharedAnswered kind n l i j 0 set line → Found kind n l i j set line
-found {kind} {n} {l} {i} {j} {set} {line} c =
-    let a = answered c in
+found : {kind : ℤ} {n : ℕ} {l : List ℤ} {i j : ℕ} {r : Shared} → SharedCall kind n l i j r → sharedNumber r ≡ 0 → Found kind n l i j (sharedSet r) (sharedLine r)
+found {kind} {n} {l} {i} {j} {r} c none =
     let hit = sharedFound kind n l i j in
-    let zero : sharedRefusal kind n l i j ≡ 0 = sym (a .is-number) in
+    let zero : sharedRefusal kind n l i j ≡ 0 = sym (number-is c) ∙ none in
     let (one, hi, hj) = shared-left kind n l i j zero in
     let (s, t) = shared-found (hit .set) (hit .line) in
+    let is = c .answered ∙ ap (λ (k : ℕ). sharedAnswer k (hit .set) (hit .line)) zero in
     record {
       groups-kind = kind-left kind one;
       first = hi;
       second = hj;
-      hit = ap₂ {C = Hit} (λ A k. record { set = A; line = k })
-          (a .is-set ∙ ap (λ (k : ℕ). sharedSet (sharedAnswer k (hit .set) (hit .line))) zero ∙ s)
-          (a .is-line ∙ ap (λ (k : ℕ). sharedLine (sharedAnswer k (hit .set) (hit .line))) zero ∙ t)
-          ∙ found-is kind n l i j;
+      hit = ap₂ {C = Hit} (λ A k. record { set = A; line = k }) (ap sharedSet is ∙ s) (ap sharedLine is ∙ t) ∙ found-is kind n l i j;
     }
 
 -- the smallest shared group among all groups
-module _ (k : Kind) (n : ℕ) (s : Similarity) where
-  of-lines : {C : ℕ} {z : ℤ} → groups k n s lists (C, z) → C ∈ groupSets k n s
-  of-lines {C} {z} m = let (h, t, _) = in-groups k n s C z .0 m in in-groupSets k n s C .1 (h, t)
-
-  in-lines : {C : ℕ} → C ∈ groupSets k n s → groups k n s lists (C, index k n s C)
-  in-lines {C} m = let (h, t) = in-groupSets k n s C .0 m in in-groups k n s C (index k n s C) .1 (h, t, refl)
-
-  module _ (symm : Symmetric s) (i j : ℕ) (hi : i < n) (hj : j < n) where
-    l : List ℕ
-    l = groupSets k n s
-
-    h : Hierarchy n (groupSets k n s)
-    h = groups-hierarchy k n s symm
-
-    smallest-found : let hit = smallestShared n i j (groupSets k n s) in SmallestFound n i j (groups k n s) (hit .set) (hit .line)
-    unfolding l
-    smallest-found = record {
-      on-line = rw (groups-sets k n s) (shared-line n i j l);
+smallest-found : (k : Kind) (n : ℕ) (s : Similarity) → Symmetric s → (i j : ℕ) → i < n → j < n
+    → let hit = smallestShared n i j (groupSets k n s) in SmallestFound n i j (groupSets k n s) (hit .set) (hit .line)
+smallest-found k n s symm i j hi hj =
+    let l = groupSets k n s in
+    let h = groups-hierarchy k n s symm in
+    record {
+      on-line = shared-line n i j l;
       holds-both = shared-holds n i j l hi hj;
-      of-all = rw (groups-sets k n s) (shared-of-all n i j l (groups-rise k n s));
-      inside = λ C z m p q d. shared-inside n i j l h hi C (of-lines m) p q d;
-      only = λ C z m p q f. shared-only n i j l h hi C (of-lines m) p q (λ D d a b. f D (index k n s D) (in-lines d) a b);
-      no-line = (
-        λ e C z m p q. shared-none n i j l .0 e C (of-lines m) p q,
-        λ f. shared-none n i j l .1 (λ C m p q. f C (index k n s C) (in-lines m) p q),
-      );
+      of-all = shared-of-all n i j l (groups-rise k n s);
+      inside = shared-inside n i j l h hi;
+      only = shared-only n i j l h hi;
+      no-line = shared-none n i j l;
       all-entries = shared-all n i j l h;
     }
 
@@ -159,37 +112,58 @@ found-swapped : (kind : ℤ) (n : ℕ) (l : List ℤ) (i j : ℕ) → sharedFoun
 unfolding sharedFound
 found-swapped kind n l i j = shared-swapped n j i (setsFound kind n l)
 
-pub request-2-1 : (kind : ℤ) → Request-2-1 kind
+-- its table
+one-groups-says : (kind : ℤ) → Says (wrongGroupKind kind) (NoGroupKind kind)
+unfolding wrongGroupKind
+one-groups-says kind = like (or-says (one-says kind) (eqZ-says kind (pos 3))) fore (λ (a, b). rear a b (decided (eqZ-says kind (pos 3))))
+  where
+    fore : NoKind kind ⊎ (kind ≡ pos 3) → NoGroupKind kind
+    fore (inl (a, b, _)) = (a, b)
+    fore (inr e) = third-kind e
+
+    rear : kind ≢ pos 1 → kind ≢ pos 2 → (kind ≡ pos 3) ⊎ (kind ≢ pos 3) → NoKind kind ⊎ (kind ≡ pos 3)
+    rear a b (inl e) = inr e
+    rear a b (inr c) = inl (a, b, c)
+
+shared-agrees : (kind : ℤ) (n : ℕ) (l : List ℤ) (i j : ℕ) → Agree (sharedChecks kind n l i j) (sharedTable kind n l i j)
+unfolding sharedChecks
+shared-agrees kind n l i j =
+    agree-append (agree-append (next (one-groups-says kind) λ _. pair-agrees n l) λ _. kind-agrees kind n l) λ _. next (entries-say n i j) λ _. done
+
+shared-judged : {kind : ℤ} {n : ℕ} {l : List ℤ} {i j : ℕ} {r : Shared} → SharedCall kind n l i j r
+    → Judged (sharedTable kind n l i j) (sharedNumber r) ((sharedSet r ≡ 0) × (sharedLine r ≡ 0))
 unfolding sharedRefusal
+shared-judged {kind} {n} {l} {i} {j} c =
+    let hit = sharedFound kind n l i j in
+    let e = c .answered in
+    judged (shared-agrees kind n l i j) (number-is c) λ f.
+    let (s, t) = shared-nothing (hit .set) (hit .line) (sharedRefusal kind n l i j) (λ z. f (number-is c ∙ z)) in
+    (ap sharedSet e ∙ s, ap sharedLine e ∙ t)
+
+pub request-2-1 : (kind : ℤ) → Request-2-1 kind
 request-2-1 kind = record {
-  judged = λ {n} {l} {i} {j} c. judged (shared-agrees kind n l i j) (shared-numbered kind n l i j) (answered c .is-number);
-  refused = λ {n} {l} {i} {j} c d.
-      let a = answered c in
-      let hit = sharedFound kind n l i j in
-      let (s, t) = shared-nothing (hit .set) (hit .line) (sharedRefusal kind n l i j) (λ z. d (a .is-number ∙ z)) in
-      (a .is-set ∙ s, a .is-line ∙ t);
-  smallest = λ {n} {l} {i} {j} {set} {line} c w.
-      let a = found c in
-      let (e, symm) = wrote w in
-      subst₂ (λ (g : List (ℕ × ℤ)) (hit : Hit). SmallestFound n i j g (hit .set) (hit .line)) (sym e) (sym (a .hit))
-      (smallest-found (kindOf kind) n (score l) symm i j (a .first) (a .second));
+  judged = shared-judged;
+  in-C = λ c. (c .given, c .outcome, said-in-C (sharedNumber (c .given)) (sharedLine (c .given)) (c .answered), c .written);
+  fits = λ {n} {l} f k third {i} {j} c hi hj.
+      let before : Table = ((1, NoGroupKind kind) ∷ pairTable n l) ++ kindTable kind n l in
+      let (one, rest) = kind-none k in
+      let none = none-both ((1, NoGroupKind kind) ∷ pairTable n l) (kindTable kind n l) (λ (a, b). one (a, b, third), pair-none f) rest in
+      shared-judged c .taken .1 (none-both before ((15, NoEntries n i j) ∷ []) none (neither-entry hi hj, tt));
+  smallest = λ {n} {l} {i} {j} c z w.
+      let a = found c z in
+      subst₂ (λ (sets : List ℕ) (hit : Hit). SmallestFound n i j sets (hit .set) (hit .line)) (sym (ap setsOf (wrote w) ∙ groups-sets (kindOf kind) n (score l))) (sym (a .hit))
+      (smallest-found (kindOf kind) n (score l) (score-symm l) i j (a .first) (a .second));
   swapped = λ {n} {l} {i} {j} c c′.
-      let a = answered c in
-      let a′ = answered c′ in
-      let same = ap₂ (λ (k : ℕ) (hit : Hit). sharedAnswer k (hit .set) (hit .line)) (refusal-swapped kind n l i j) (found-swapped kind n l i j) in (
-        a′ .is-number ∙ refusal-swapped kind n l i j ∙ sym (a .is-number),
-        a′ .is-set ∙ ap sharedSet same ∙ sym (a .is-set),
-        a′ .is-line ∙ ap sharedLine same ∙ sym (a .is-line),
-      );
-  twice = λ {n} {l} {i} {set} {line} c w z m.
-      let a = found c in
-      let (e, symm) = wrote w in
+      c′ .answered ∙ ap₂ (λ (k : ℕ) (hit : Hit). sharedAnswer k (hit .set) (hit .line)) (refusal-swapped kind n l i j) (found-swapped kind n l i j)
+      ∙ sym (c .answered);
+  twice = λ {n} {l} {i} c z w m.
+      let a = found c z in
       ap (λ (hit : Hit). hit .set) (a .hit)
-      ∙ shared-single n i (groupSets (kindOf kind) n (score l)) (groups-hierarchy (kindOf kind) n (score l) symm) (a .first)
-      (of-lines (kindOf kind) n (score l) (subst (λ (g : List (ℕ × ℤ)). g lists (2 ^ i, z)) e m));
-  reordered = λ {n} {l} {l′} {i} {j} {set} {line} {set′} {line′} p c c′ r.
-      let a = found c in
-      let a′ = found c′ in
+      ∙ shared-single n i (groupSets (kindOf kind) n (score l)) (groups-hierarchy (kindOf kind) n (score l) (score-symm l)) (a .first)
+      (subst (λ (sets : List ℕ). 2 ^ i ∈ sets) (ap setsOf (wrote w) ∙ groups-sets (kindOf kind) n (score l)) m);
+  reordered = λ {n} {l} {l′} {i} {j} p c z c′ z′ r.
+      let a = found c z in
+      let a′ = found c′ z′ in
       let k = kindOf kind in
       let s = score-symm l in
       let s′ = score-symm l′ in

@@ -13,7 +13,7 @@ use Rattle.pairs.specs.Pairs.{mark, carried, isScored}
 use Rattle.clusters.specs.PairList.{rowStart, place, score, onePoint, pointLimit, scoreLimit, hasLength, isInRange, isAllowedPair, scoresInRange, hasUnscored}
 use Rattle.clusters.specs.Indices.{strongValues, strongIndex, weight, pairsOf, weights, cleanIndex}
 use Rattle.clusters.specs.Fillings.{low, high, worst, filledIndex}
-use Rattle.clusters.specs.Groups.{kindOf, index, proper, speaksOf, listed, sets, groupSets, groups}
+use Rattle.clusters.specs.Groups.{kindOf, index, proper, speaksOf, listed, positive, sets, setsBy, groupsBy, groups}
 use Rattle.clusters.specs.Nesting.{firstFrom, holdsBoth, smallestShared}
 use Rattle.clusters.specs.Bench.{four}
 use Rattle.answers.specs.Answers.{answer}
@@ -50,7 +50,7 @@ pub record SharedExamples : Type 0 where
 
 pub shared-examples : SharedExamples
 unfolding four below each keep all minZ maxZ eqZ least sumOf sum insert sort sumOfSmallest has members others size mask allEntries rowStart place score
-    onePoint pointLimit scoreLimit hasLength isInRange isAllowedPair scoresInRange hasUnscored mark carried isScored low high worst xor filledIndex wrongUnscored strongValues strongIndex weight pairsOf weights cleanIndex kindOf index proper speaksOf listed sets groupSets groups
+    onePoint pointLimit scoreLimit hasLength isInRange isAllowedPair scoresInRange hasUnscored mark carried isScored low high worst xor filledIndex wrongUnscored strongValues strongIndex weight pairsOf weights cleanIndex kindOf index proper speaksOf listed positive sets setsBy groupsBy groups
     groupsFound firstFrom holdsBoth smallestShared firstOf mostEntries wrongKind wrongGroupKind wrongCount wrongDistances wrongAnchor wrongEntries
     sharedChecks sharedRefusal setsFound sharedFound sharedAnswer
 shared-examples = record { strong = refl; clean = refl }

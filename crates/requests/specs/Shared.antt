@@ -27,21 +27,21 @@ abbrev pub sharedTable : (kind : ℤ) (n : ℕ) → List ℤ → (i j : ℕ) →
 sharedTable kind n l i j =
     ((1, NoGroupKind kind) ∷ pairTable n l) ++ kindTable kind n l ++ ((15, NoEntries n i j) ∷ [])
 
--- of a set and its line, and of all that a call wrote for the same kind number and entries: "the smallest group that
--- holds both"
-pub record SmallestFound (n i j : ℕ) (found : List Group) (set line : ℕ) : Type 0 where
+-- of a set and its line, and of all sets that a call wrote for the same kind number and entries: "the smallest group
+-- that holds both"
+pub record SmallestFound (n i j : ℕ) (sets : List ℕ) (set line : ℕ) : Type 0 where
   -- "the set and its line, counted from 1 after the first line"
-  pub on-line : line ≢ 0 → OnLine (setsOf found) line set
+  pub on-line : line ≢ 0 → OnLine sets line set
   pub holds-both : (set ∋ i) × (set ∋ j)
   -- "it equals the smallest found by reading all lines"
-  pub of-all : record { set = set; line = line } ≡ smallestOfAll n i j (setsOf found)
+  pub of-all : record { set = set; line = line } ≡ smallestOfAll n i j sets
   -- every other line's set that holds both strictly holds it
-  pub inside : (C : ℕ) → C ∈ setsOf found → C ∋ i → C ∋ j → C ≢ set → Subset n set C × (size n set < size n C)
+  pub inside : (C : ℕ) → C ∈ sets → C ∋ i → C ∋ j → C ≢ set → Subset n set C × (size n set < size n C)
   -- and it is the only one: a set that holds both and is larger than no other that does
-  pub only : (C : ℕ) → C ∈ setsOf found → C ∋ i → C ∋ j
-      → ((D : ℕ) → D ∈ setsOf found → D ∋ i → D ∋ j → size n C ≤ size n D) → C ≡ set
+  pub only : (C : ℕ) → C ∈ sets → C ∋ i → C ∋ j
+      → ((D : ℕ) → D ∈ sets → D ∋ i → D ∋ j → size n C ≤ size n D) → C ≡ set
   -- "If no line holds both, the answer is all n entries and line 0", and only then
-  pub no-line : (line ≡ 0) ↔ ((C : ℕ) → C ∈ setsOf found → C ∋ i → C ∋ j → ⊥)
+  pub no-line : (line ≡ 0) ↔ ((C : ℕ) → C ∈ sets → C ∋ i → C ∋ j → ⊥)
   pub all-entries : (line ≡ 0) ↔ (set ≡ allEntries n)
 
 pub record Request-2-1 (kind : ℤ) : Type 0 where
@@ -55,7 +55,7 @@ pub record Request-2-1 (kind : ℤ) : Type 0 where
   pub fits : {n : ℕ} {l : List ℤ} → FitsList n l → ListKind n l kind → kind ≢ pos 3
       → {i j : ℕ} {r : Shared} → SharedCall kind n l i j r → i < n → j < n → sharedNumber r ≡ 0
   pub smallest : {n : ℕ} {l : List ℤ} {i j : ℕ} {r : Shared} → SharedCall kind n l i j r → sharedNumber r ≡ 0
-      → {found : List Group} → Wrote kind n l found → SmallestFound n i j found (sharedSet r) (sharedLine r)
+      → {found : List Group} → Wrote kind n l found → SmallestFound n i j (setsOf found) (sharedSet r) (sharedLine r)
   -- which of the two is named first makes no difference
   pub swapped : {n : ℕ} {l : List ℤ} {i j : ℕ} {r r′ : Shared}
       → SharedCall kind n l i j r → SharedCall kind n l j i r′ → r′ ≡ r
