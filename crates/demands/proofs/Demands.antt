@@ -49,6 +49,7 @@ use Rattle.interface.proofs.Slots.{length-groupsIn, group-at, groups-slots}
 use Rattle.interface.proofs.Accepted.{Passed, passed-allowed, passed-scored, sheet-passed, numbers-passed, linkage-scored}
 use Rattle.interface.proofs.Anchored.{length-anchored, way-back}
 use Rattle.demands.specs.Demands.{
+  ListedOrRefused,
   Demand1,
   Listed,
   by-sheet-call,
@@ -70,9 +71,9 @@ use Rattle.demands.proofs.AgreeTables.{sheet-agrees}
 use Rattle.demands.proofs.Spoken.{spoken-says}
 
 -- demand 1
-pub demand-1 : (kind : ℤ) (sheet lent : List ℕ) (r : ℤ) (after : List ℕ) → CCall kind sheet lent r after → Demand1 kind sheet lent r after
+answer-1 : (kind : ℤ) (sheet lent : List ℕ) (r : ℤ) (after : List ℕ) → CCall kind sheet lent r after → ListedOrRefused kind sheet lent r after
 unfolding sheetRefusal
-demand-1 kind sheet lent r after c = record {
+answer-1 kind sheet lent r after c = record {
   refusal = λ k h. let f = agree-first agree k h in (λ q. f .0 (minus k h .0 q), λ x. minus k h .1 (f .1 x));
   refused = λ k h q. c .outcome .written ∙ slots-refused number text lent (above (minus k h .0 q) h);
   listed =
@@ -116,6 +117,9 @@ demand-1 kind sheet lent r after c = record {
     go : (j : ℕ) → number ≡ j → ((k : ℕ) × (0 < k) × (r ≡ negℤ (pos k))) ⊎ (r ≡ pos (length text))
     go zero z = inr (plain (length text) .1 (z, refl))
     go (suc j) z = inl (suc j, omega arith, minus (suc j) (omega arith) .1 z)
+
+pub demand-1 : Demand1
+demand-1 = record { answered = λ {kind} {sheet} {lent} {after} {r} c. answer-1 kind sheet lent r after c }
 
 -- bytes that a call listed are the sheet's listing, and no check refused
 pub record Accepted (kind : ℤ) (sheet bytes : List ℕ) : Type 0 where

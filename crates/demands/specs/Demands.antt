@@ -26,7 +26,7 @@ use Rattle.demands.specs.Tables.{GivenFirst, NoneGiven, sheetTable}
 
 -- Demand 1, of the C call: "any kind number, any sheet, any buffer gets the complete listing or the one refusal that
 -- document 01 names; a refusal writes no byte, a listing only its own bytes".
-pub record Demand1 (kind : ℤ) (sheet lent : List ℕ) (r : ℤ) (after : List ℕ) : Type 0 where
+pub record ListedOrRefused (kind : ℤ) (sheet lent : List ℕ) (r : ℤ) (after : List ℕ) : Type 0 where
   -- minus a number is answered exactly if its line holds and none before it does
   pub refusal : (k : ℕ) → 0 < k → (r ≡ negℤ (pos k)) ↔ GivenFirst (sheetTable kind sheet (length lent)) k
   pub refused : (k : ℕ) → 0 < k → r ≡ negℤ (pos k) → after ≡ lent
@@ -36,6 +36,10 @@ pub record Demand1 (kind : ℤ) (sheet lent : List ℕ) (r : ℤ) (after : List 
       → (take count after ≡ sheetListing kind sheet) × (drop count after ≡ drop count lent)
   -- there is no third
   pub either : ((k : ℕ) × (0 < k) × (r ≡ negℤ (pos k))) ⊎ (r ≡ pos (length (sheetListing kind sheet)))
+
+pub record Demand1 : Type 0 where
+  pub answered : {kind : ℤ} {sheet lent after : List ℕ} {r : ℤ} → CCall kind sheet lent r after
+      → ListedOrRefused kind sheet lent r after
 
 -- the bytes that a call listed for a sheet: as many as it answers, if it did not refuse
 pub data Listed (kind : ℤ) (sheet : List ℕ) : List ℕ → Type 0 where
