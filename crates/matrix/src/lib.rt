@@ -12,7 +12,8 @@ ghost use Rattle.clusters.specs.PairList.{rowStart, place, score, scoreLimit, h
 ghost use Rattle.clusters.specs.PairList.{scoresInRange, hasUnscored, areDistances};
 ghost use Rattle.clusters.specs.Touched.{rowScored, touchedEntries};
 ghost use Rattle.interface.specs.Refusals.{firstOf, wrongCount, wrongEntries};
-ghost use Rattle.matrix.specs.Checks.{passes, lengthChecks, pairChecks, scoredChecks, distanceChecks};
+ghost use Rattle.interface.specs.Refusals.{lengthChecks, pairChecks, scoredChecks, distanceChecks};
+ghost use Rattle.matrix.specs.Checks.{passes};
 ghost use Rattle.matrix.specs.Rows.{Scores, Row};
 use pairs::Pair;
 

@@ -1,9 +1,9 @@
 use mathlib.Core.Path.{sym, ap, _∙_}
 use mathlib.Core.Bool.{not}
 use borrow.Author.Needs.{needs}
-use Rattle.interface.proofs.Refusals.{gives, first-yes, first-no, no-more}
-use Rattle.matrix.specs.Checks.{pairChecks}
-use Rattle.matrix.proofs.Checks.{length-refused, length-passed}
+use Rattle.lists.specs.Lists.{all}
+use Rattle.interface.proofs.Refusals.{gives, first-yes, first-no, no-more, first-front, first-back}
+use Rattle.interface.specs.Refusals.{lengthChecks}
 use Rattle.matrix.proofs.refusal.Statement.{statement}
 use Rattle.matrix.proofs.refusal.Tie as tie
 
@@ -11,21 +11,21 @@ length-refusal-requires : tie.Need-length-refusal-requires
 length-refusal-requires c κs = search needs
 
 returns : tie.Need-returns
-unfolding pairChecks
-returns c = gives (length-refused _ _ (c .before .length-refusal .ensures) (c .if1 .taken))
+unfolding all
+returns c = gives (first-front (lengthChecks _ _) _ tt (c .before .length-refusal .ensures) (c .if1 .taken))
 
 scores-in-range-requires : tie.Need-scores-in-range-requires
 scores-in-range-requires c κs = search needs
 
 returns-2 : tie.Need-returns-2
-unfolding pairChecks
+unfolding all
 returns-2 c = let p = c .before .before in
-    gives (length-passed _ _ (p .before .length-refusal .ensures) (p .if1 .left) (first-yes (ap not (sym (c .before .scores-in-range .ensures)) ∙ c .if2 .taken)))
+    gives (first-back (lengthChecks _ _) _ tt (p .before .length-refusal .ensures) (p .if1 .left) (first-yes (ap not (sym (c .before .scores-in-range .ensures)) ∙ c .if2 .taken)))
 
 returns-3 : tie.Need-returns-3
-unfolding pairChecks
+unfolding all
 returns-3 c = let p = c .before .before in
-    gives (length-passed _ _ (p .before .length-refusal .ensures) (p .if1 .left)
+    gives (first-back (lengthChecks _ _) _ tt (p .before .length-refusal .ensures) (p .if1 .left)
     (first-no (ap not (sym (c .before .scores-in-range .ensures)) ∙ c .if2 .left) no-more))
 
 pub refusal-spec : {M : Type 1} → statement M
