@@ -1,29 +1,31 @@
 -- The two ways out of the numbers call.
-use mathlib.Core.Path.{_≡_, sym, ap, _∙_}
+use mathlib.Core.Path.{_≡_, sym, ap, _∙_, refl}
 use mathlib.Core.Bool.{false}
-use mathlib.Core.List.{List, _++_, map, map-map, map-id}
+use mathlib.Core.List.{List, _++_, map}
 use Prim.Native.Nat.{ℕ, _*_, _-_, _≤_}
 use native.Mathlib.Omega.{arith}
 use borrow.Author.Tests.{eq-eqb, ne-eqb, ltb-false}
-use lib.Dec.{ltb, lit<}
+use lib.Dec.{ltb}
 use lib.IntN.{ℤ, pos}
 use lib.ListN.{length, replicate, length-take, length-map}
-use Rattle.lists.proofs.Tests.{or-none}
-use Rattle.clusters.specs.Groups.{Kind, index, groupSets, groups, kindOf}
+use Rattle.lists.proofs.Tests.{or-none, T-false}
+use Rattle.lists.specs.Lists.{all}
+use Rattle.clusters.specs.Groups.{Kind, index, groupSets, kindOf}
 use Rattle.clusters.specs.PairList.{score}
-use Rattle.interface.specs.Refusals.{wrongKind, wrongUnscored, wrongDistances, fewSlots, numbersChecks, numbersRefusal}
-use Rattle.interface.proofs.Refusals.{no-first}
+use Rattle.clusters.proofs.Groups.{groups-sets, groups-indices}
+use Rattle.interface.specs.Refusals.{wrongUnscored, fewSlots, numbersChecks, numbersRefusal}
+use Rattle.interface.proofs.Refusals.{under, passes}
 use Rattle.answers.specs.Answers.{answer, filled}
 use Rattle.answers.specs.declared.Answer.the-variants.{Count, Refused}
 use Rattle.answers.proofs.WaysOut.{refused}
 use Rattle.kinds.specs.Kinds.{Accepted}
 use Rattle.kinds.proofs.Listed.{accepted}
-use Rattle.matrix.proofs.Checks.{pairs-none}
+use Rattle.matrix.proofs.Checks.{checked}
 use Rattle.interface.specs.Listing.{groupsFound}
 use Rattle.interface.specs.Calls.{setsFound, indicesFound, NumbersCall}
 use Rattle.groups.specs.Found.{setsOf, indicesOf, Groups}
 use Rattle.groups.specs.declared.Found.{Found}
-use Rattle.groups.proofs.Listing.{groups-few}
+use Rattle.groups.proofs.Listing.{groups-few, groups-count}
 
 -- what the call relies on once no check refuses it
 room : (n sets indices : ℕ) → fewSlots n sets indices ≡ false → (2 * n ≤ sets) × (2 * n ≤ indices)
@@ -34,29 +36,24 @@ room n sets indices e =
 
 pub numbers-pass : (kind : ℤ) (n : ℕ) (l : List ℤ) (sets indices : ℕ) → numbersRefusal kind n l sets indices ≡ 0
     → Accepted (kindOf kind) n l × (2 * n ≤ sets) × (2 * n ≤ indices)
-unfolding numbersRefusal numbersChecks
+unfolding numbersRefusal numbersChecks under all
 numbers-pass kind n l sets indices e =
-    let (c₁, e₁) = no-first 1 (wrongKind kind) _ (lit< tt) e in
-    let (checked, e₁₁) = pairs-none n l _ e₁ in
-    let (c₁₆, e₁₆) = no-first 16 (wrongUnscored kind l) _ (lit< tt) e₁₁ in
-    let (c₁₂, e₁₂) = no-first 12 (wrongDistances kind n l) _ (lit< tt) e₁₆ in
-    let (c₁₃, _) = no-first 13 (fewSlots n sets indices) _ (lit< tt) e₁₂ in
-    let (p, q) = room n sets indices c₁₃ in
-    (accepted kind checked c₁₆, p, q)
+    let checks = numbersChecks kind n l sets indices in
+    let (p, q) = room n sets indices (T-false {b = fewSlots n sets indices} (passes 13 checks tt e)) in
+    (accepted kind (checked n l checks tt e refl refl refl) (T-false {b = wrongUnscored kind l} (passes 16 checks tt e)), p, q)
 
 -- the sets and the indices of the groups
 sets-found : (kind : ℤ) (n : ℕ) (l : List ℤ) → setsFound kind n l ≡ groupSets (kindOf kind) n (score l)
-unfolding setsFound groupsFound groups
-sets-found kind n l = let gs = groupSets (kindOf kind) n (score l) in
-    map-map (λ (g : ℕ × ℤ). g .0) (λ A. (A, index (kindOf kind) n (score l) A)) gs ∙ map-id gs
+unfolding setsFound groupsFound
+sets-found kind n l = groups-sets (kindOf kind) n (score l)
 
 indices-found : (kind : ℤ) (n : ℕ) (l : List ℤ) → indicesFound kind n l ≡ map (index (kindOf kind) n (score l)) (groupSets (kindOf kind) n (score l))
-unfolding indicesFound groupsFound groups
-indices-found kind n l = map-map (λ (g : ℕ × ℤ). g .1) (λ A. (A, index (kindOf kind) n (score l) A)) (groupSets (kindOf kind) n (score l))
+unfolding indicesFound groupsFound
+indices-found kind n l = groups-indices (kindOf kind) n (score l)
 
 count-found : (kind : ℤ) (n : ℕ) (l : List ℤ) → length (groupsFound kind n l) ≡ length (groupSets (kindOf kind) n (score l))
-unfolding groupsFound groups
-count-found kind n l = length-map {B = ℕ × ℤ} (groupSets (kindOf kind) n (score l)) (λ A. (A, index (kindOf kind) n (score l) A))
+unfolding groupsFound
+count-found kind n l = groups-count (kindOf kind) n l
 
 module _ {kind : Kind} {n : ℕ} {l : List ℤ} {f : Found} (g : Groups kind n l f) where
   pub sets-long : length (setsOf f) ≡ f .count

@@ -24,7 +24,7 @@ use Rattle.linkage.proofs.Places.{differ, some-at, joinedAt, joined-oth
 use Rattle.linkage.proofs.Updates.{numerators}
 
 -- the weights of the first k blocks
-pub record Refined (avg : Bool) (k : ℕ) (bs w : List ℕ) : Type 0 where
+pub record Weighed (avg : Bool) (k : ℕ) (bs w : List ℕ) : Type 0 where
   pub size : length w ≡ 32
   pub is : (a : ℕ) → a < k → getD w a 0 ≡ weight avg (getD bs a 0)
 
@@ -38,7 +38,7 @@ unfolding weight link linkageOf
 denominator true n s U W h hu hw = ap₂ _*_ (size-wide n 32 U hu h) (size-wide n 32 W hw h)
 denominator false n s U W h hu hw = refl
 
-module _ (avg : Bool) (n : ℕ) (s : Similarity) (few : n ≤ 32) {bs : List ℕ} (p : Partition n bs) (w : List ℕ) (v : Refined avg (length bs) bs w) where
+module _ (avg : Bool) (n : ℕ) (s : Similarity) (few : n ≤ 32) {bs : List ℕ} (p : Partition n bs) (w : List ℕ) (v : Weighed avg (length bs) bs w) where
   pub weights-bounds : Weights (length bs) w
   weights-bounds a h = let (i, l, k) = some-at p a h in rw (v .is a h) (weight-bounds avg (getD bs a 0) (omega arith) k)
 
@@ -83,7 +83,7 @@ module _ (avg : Bool) (n : ℕ) (s : Similarity) (few : n ≤ 32) {bs : List ℕ
             go (no o) = subst (λ q. q ≼ L (getD bs i 0) (getD bs j 0)) (flip b a) (falling b a (omega arith) hb)
 
 -- the single entries have the weight 1
-pub weighed-singles : (avg : Bool) (n : ℕ) → n ≤ 32 → {k : ℕ} → k ≡ n → {bs : List ℕ} → bs ≡ singles n → Refined avg k bs (replicate 32 1)
+pub weighed-singles : (avg : Bool) (n : ℕ) → n ≤ 32 → {k : ℕ} → k ≡ n → {bs : List ℕ} → bs ≡ singles n → Weighed avg k bs (replicate 32 1)
 unfolding singles weight
 weighed-singles avg n h e f = record {
   size = refl;
@@ -96,9 +96,9 @@ weighed-singles avg n h e f = record {
     one a l false = refl
 
 -- after a merge, the weight of the union stands at i and that of the last block at j
-pub weighed-merged : {avg : Bool} {k : ℕ} {bs w : List ℕ} → Refined avg k bs w → length bs ≡ k → k ≤ 32 → (i j : ℕ) → i < j → j < k
+pub weighed-merged : {avg : Bool} {k : ℕ} {bs w : List ℕ} → Weighed avg k bs w → length bs ≡ k → k ≤ 32 → (i j : ℕ) → i < j → j < k
     → {m : ℕ} → m ≡ k - 1 → {cs : List ℕ} → cs ≡ mergedAt i j bs → {x : ℕ} → x ≡ weight avg (getD cs i 0)
-    → {w′ : List ℕ} → w′ ≡ set (set w i x) j (getD (set w i x) (k - 1) 0) → Refined avg m cs w′
+    → {w′ : List ℕ} → w′ ≡ set (set w i x) j (getD (set w i x) (k - 1) 0) → Weighed avg m cs w′
 weighed-merged {avg} {k} {bs} {w} v counted room i j hi hj m-is {cs} e {x} f g = record {
   size = ap length g ∙ simp length-set (v .size);
   is = λ a l. ap (λ (l : List ℕ). getD l a 0) g ∙ at a (omega arith) (ℕ-discrete a j) (ℕ-discrete a i);

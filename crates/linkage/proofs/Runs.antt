@@ -21,7 +21,7 @@ use Rattle.linkage.specs.Steps.{Merged}
 use Rattle.linkage.proofs.Merging.{same-mergedAt}
 use Rattle.linkage.proofs.Places.{length-mergedAt, merged-joined}
 use Rattle.linkage.proofs.Updates.{Own, own-merged, numerators, holds-singles, holds-small, holds-merged}
-use Rattle.linkage.proofs.Choice.{Refined, weights-bounds, greatest-link}
+use Rattle.linkage.proofs.Choice.{Weighed, weights-bounds, greatest-link}
 
 pub record Run (avg : Bool) (n : ℕ) (s : Similarity) (lent : List ℕ) (k : ℕ) (bs : List ℕ) (t : List ℤ) (out : List ℕ) : Type 0 where
   pub partition : Partition n bs
@@ -91,19 +91,19 @@ module _ (avg : Bool) (n : ℕ) (s : Similarity)
     pub run-small : k ≤ 32 → ((a b : ℕ) → a < n → b < n → Within (2 ^ 31) (s a b)) → Small c t
     run-small l h = subst (λ (m : ℕ). Small m t) counted (holds-small avg n s (r .partition) (r .table) few h l (r .own))
 
-    pub run-weights : (w : List ℕ) → Refined avg c bs w → Weights c w
-    run-weights w = subst (λ (m : ℕ). Refined avg m bs w → Weights m w) counted (weights-bounds avg n s few (r .partition) w)
+    pub run-weights : (w : List ℕ) → Weighed avg c bs w → Weights c w
+    run-weights w = subst (λ (m : ℕ). Weighed avg m bs w → Weights m w) counted (weights-bounds avg n s few (r .partition) w)
 
-    pub run-next : (w : List ℕ) → Refined avg c bs w → {i j : ℕ} → GreatestAt c (quotientAt w t) i j → c ≤ 32 → Small c t → k < length lent
+    pub run-next : (w : List ℕ) → Weighed avg c bs w → {i j : ℕ} → GreatestAt c (quotientAt w t) i j → c ≤ 32 → Small c t → k < length lent
         → {t₁ t₂ : List ℤ} → Written i (joinedRow avg i j t) c t t₁ → Written j (entry t₁ (c - 1)) (c - 1) t₁ t₂
         → {cs : List ℕ} → cs ≡ mergedAt i j bs → {x : ℕ} → x ≡ getD cs i 0 → Run avg n s lent (k + 1) cs t₂ (set out k x)
     run-next w v {i} {j} g short small room {t₁} {t₂} joins moves {cs} e {x} f =
-        go (back (λ m. Refined avg m bs w) v) (back (λ m. GreatestAt m (quotientAt w t) i j) g)
+        go (back (λ m. Weighed avg m bs w) v) (back (λ m. GreatestAt m (quotientAt w t) i j) g)
       where
         back : (P : ℕ → Type 0) → P c → P (length bs)
         back P = subst P (sym counted)
 
-        go : Refined avg (length bs) bs w → GreatestAt (length bs) (quotientAt w t) i j → Run avg n s lent (k + 1) cs t₂ (set out k x)
+        go : Weighed avg (length bs) bs w → GreatestAt (length bs) (quotientAt w t) i j → Run avg n s lent (k + 1) cs t₂ (set out k x)
         go v g = subst₂ (λ (l : List ℕ) (y : ℕ). Run avg n s lent (k + 1) l t₂ (set out k y))
             (sym e) (sym (f ∙ ap (λ (l : List ℕ). getD l i 0) e ∙ merged-joined i j bs (g .rising) (g .inside)))
             (merge-next (omega arith) (back (λ m. Small m t) small) i j (g .rising)

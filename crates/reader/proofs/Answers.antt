@@ -6,7 +6,7 @@ use Prim.Native.Nat.{ℕ, suc, _+_, _-_, _≤_, _<_}
 use native.Mathlib.Omega.{arith}
 use borrow.Author.Tests.{ne-eqb, eqb-false, ltb-false, lt-ltb, le-ltb}
 use native.Mathlib.Decide.{decLt}
-use lib.Dec.{T, eqb, ltb, lit<}
+use lib.Dec.{T, eqb, ltb}
 use lib.IntN.{ℤ}
 use lib.ListN.{length, getD, take, drop, length-take}
 use lib.Seq.{take-at}
@@ -26,15 +26,12 @@ use Rattle.interface.specs.Sheet.{space, names, entries, value, pairs, mirrored
 use Rattle.interface.specs.Refusals.{
   mostBytes,
   wrongLength,
-  wrongByte,
-  wrongNames,
-  equalNames,
   wrongCount,
   readerChecks,
   readerRefusal,
 }
 use Rattle.interface.specs.Calls.{ReaderCall, hasName, nameOf, startOf, nameStart, behind, NameCall}
-use Rattle.interface.proofs.Refusals.{Gives, no-first, right-count}
+use Rattle.interface.proofs.Refusals.{Gives, under, passes, right-count}
 use Rattle.interface.proofs.Pieces.{some-piece}
 use Rattle.accept.specs.Read.{PairsRead}
 use Rattle.reader.specs.Square.{square, Holds}
@@ -116,13 +113,8 @@ module _ (s : List ℕ) where
 
 -- a sheet that passes: it has few entries, and the first slots are its pair list
 pub passes-few : (s : List ℕ) → readerRefusal s ≡ 0 → entries s ≤ 32
-unfolding readerRefusal readerChecks
-passes-few s e₁ =
-    let (_, e₂) = no-first 2 (wrongLength s) _ (lit< tt) e₁ in
-    let (_, e₃) = no-first 3 (wrongByte s) _ (lit< tt) e₂ in
-    let (_, e₄) = no-first 4 (wrongNames s) _ (lit< tt) e₃ in
-    let (_, e₅) = no-first 5 (equalNames s) _ (lit< tt) e₄ in
-    right-count (entries s) (no-first 6 (wrongCount (entries s)) _ (lit< tt) e₅ .0)
+unfolding readerRefusal readerChecks under all
+passes-few s e = right-count (entries s) (T-false {b = wrongCount (entries s)} (passes 6 (readerChecks s) tt e))
 
 pub slots-pairs : (s : List ℕ) (l : List ℤ) → readerRefusal s ≡ 0
     → take (rowStart (entries s)) (slots (readerRefusal s) (pairs s) l) ≡ pairs s

@@ -3,10 +3,10 @@ use mathlib.Core.Path.{_≡_, refl, sym, ap, _∙_}
 use mathlib.Core.Bool.{true, false}
 use mathlib.Core.List.{List}
 use Prim.Native.Nat.{ℕ, zero, suc, _+_, _≤_, _<_}
-use lib.Dec.{lit<}
 use lib.IntN.{ℤ, pos}
 use lib.ListN.{length, getD}
-use Rattle.lists.proofs.Tests.{or-none}
+use Rattle.lists.proofs.Tests.{or-none, T-false}
+use Rattle.lists.specs.Lists.{all}
 use Rattle.integers.specs.Integers.{eqZ}
 use Rattle.sets.specs.Sets.{allEntries}
 use Rattle.clusters.specs.PairList.{score}
@@ -20,11 +20,11 @@ use Rattle.answers.specs.Shared.{sharedAnswer}
 use Rattle.interface.specs.Listing.{groupsFound}
 use Rattle.interface.specs.Refusals.{wrongKind, wrongGroupKind, wrongUnscored, wrongDistances, sharedChecks, sharedRefusal}
 use Rattle.interface.specs.Calls.{setsFound, sharedFound, SharedCall}
-use Rattle.interface.proofs.Refusals.{no-first}
-use Rattle.interface.proofs.Requests.{shared-left}
+use Rattle.interface.proofs.Refusals.{under, passes}
+use Rattle.interface.proofs.Accepted.{shared-left}
 use Rattle.kinds.specs.Kinds.{Accepted}
 use Rattle.kinds.proofs.Listed.{accepted}
-use Rattle.matrix.proofs.Checks.{pairs-none}
+use Rattle.matrix.proofs.Checks.{checked}
 
 -- the answer of a search that found this
 abbrev pub answered : Hit → Shared
@@ -56,13 +56,11 @@ unfolding wrongGroupKind wrongDistances
 no-distances kind n l e = rw (or-none (wrongKind kind) (eqZ kind (pos 3)) e .1)
 
 pub shared-pass : (kind : ℤ) (n : ℕ) (l : List ℤ) (i j : ℕ) → sharedRefusal kind n l i j ≡ 0 → Accepted (kindOf kind) n l × (i < n) × (j < n)
-unfolding sharedRefusal sharedChecks
+unfolding sharedRefusal sharedChecks under all
 shared-pass kind n l i j e =
-    let (c₁, e₁) = no-first 1 (wrongGroupKind kind) _ (lit< tt) e in
-    let (checked, e₁₁) = pairs-none n l _ e₁ in
-    let (c₁₆, _) = no-first 16 (wrongUnscored kind l) _ (lit< tt) e₁₁ in
+    let checks = sharedChecks kind n l i j in
     let (_, hi, hj) = shared-left kind n l i j e in
-    (accepted kind checked c₁₆, hi, hj)
+    (accepted kind (checked n l checks tt e refl refl refl) (T-false {b = wrongUnscored kind l} (passes 16 checks tt e)), hi, hj)
 
 module _ {kind : ℤ} {n : ℕ} {l : List ℤ} {i j r : ℕ} (e : r ≡ sharedRefusal kind n l i j) where
   pub shared-refused : (r ≡ 0 → ⊥) → SharedCall kind n l i j (Refused r)

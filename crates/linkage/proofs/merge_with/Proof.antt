@@ -12,7 +12,7 @@ use Rattle.linkage.specs.Blocks.{blocksOf}
 use Rattle.linkage.specs.Steps.{weight}
 use Rattle.linkage.proofs.Places.{length-mergedAt}
 use Rattle.linkage.proofs.Updates.{own-start}
-use Rattle.linkage.proofs.Choice.{Refined, weighed-singles, weighed-merged}
+use Rattle.linkage.proofs.Choice.{Weighed, weighed-singles, weighed-merged}
 use Rattle.linkage.proofs.Runs.{Run, run-start, run-small, run-weights, run-next, run-end}
 use Rattle.linkage.proofs.merge_with.Statement.{statement}
 use Rattle.linkage.proofs.merge_with.Tie as tie
@@ -20,7 +20,7 @@ use Rattle.linkage.proofs.merge_with.Tie as tie
 abbrev Inv-loop : tie.InvT-loop
 Inv-loop table₀ average n pairs out₀ blocks₀ weights₀ k₀ table out blocks weights k = (k + blocks .count ≡ n)
     × (1 ≤ blocks .count) × (length (blocksOf blocks) ≡ blocks .count) × (length out ≡ length out₀)
-    × Refined average (blocks .count) (blocksOf blocks) weights × Run average n (score pairs) out₀ k (blocksOf blocks) table out
+    × Weighed average (blocks .count) (blocksOf blocks) weights × Run average n (score pairs) out₀ k (blocksOf blocks) table out
     × (length table ≡ length table₀)
 
 abbrev μ-loop : tie.MeasureT-loop
@@ -175,7 +175,7 @@ counted c =
     ∙ omega (arith, turn c .before .loop .inv .2, m .ensures .0)
 
 weighed : (c : tie.After-merge-weights Inv-loop μ-loop) → let m = merge-of c in
-    Refined (start (turn m .before) .args .average) (m .merge .result .count) (blocksOf (m .merge .result)) (c .merge-weights .last .0)
+    Weighed (start (turn m .before) .args .average) (m .merge .result .count) (blocksOf (m .merge .result)) (c .merge-weights .last .0)
 unfolding start turn search-of merge-of
 weighed c =
     let m = merge-of c in

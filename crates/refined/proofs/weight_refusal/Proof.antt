@@ -1,8 +1,9 @@
-use mathlib.Core.Path.{sym, _∙_}
+use mathlib.Core.Path.{sym, _∙_, refl}
 use borrow.Author.Needs.{needs}
-use Rattle.interface.specs.Refusals.{refinedChecks, refinedRefusal}
-use Rattle.interface.proofs.Refusals.{gives, first-yes, first-no, no-more}
-use Rattle.matrix.proofs.Checks.{distances-left, distances-refused, distances-passed}
+use Rattle.lists.specs.Lists.{all}
+use Rattle.interface.specs.Refusals.{refinedChecks, refinedRefusal, distanceChecks}
+use Rattle.interface.proofs.Refusals.{gives, first-yes, first-no, no-more, under, first-front, first-back}
+use Rattle.matrix.proofs.Checks.{checked}
 use Rattle.refined.proofs.weight_refusal.Statement.{statement}
 use Rattle.refined.proofs.weight_refusal.Tie as tie
 
@@ -10,21 +11,22 @@ distances-refusal-requires : tie.Need-distances-refusal-requires
 distances-refusal-requires c κs = search needs
 
 returns : tie.Need-returns
-unfolding refinedRefusal refinedChecks
-returns c = gives (distances-refused _ _ (c .before .distances-refusal .ensures) (c .if1 .taken))
+unfolding refinedRefusal refinedChecks all
+returns c = gives (first-front (distanceChecks _ _) _ tt (c .before .distances-refusal .ensures) (c .if1 .taken))
 
 is-wrong-side-requires : tie.Need-is-wrong-side-requires
-is-wrong-side-requires c κs = let checked = distances-left _ _ (c .before .distances-refusal .ensures) (c .if1 .left) .0 in (checked .some, checked .few)
+unfolding under all
+is-wrong-side-requires c κs = let checked = checked _ _ (distanceChecks _ _) tt (sym (c .before .distances-refusal .ensures) ∙ c .if1 .left) refl refl refl in (checked .some, checked .few)
 
 returns-2 : tie.Need-returns-2
-unfolding refinedRefusal refinedChecks
+unfolding refinedRefusal refinedChecks all
 returns-2 c = let p = c .before .before in
-    gives (distances-passed _ _ (p .before .distances-refusal .ensures) (p .if1 .left) (first-yes (sym (c .before .is-wrong-side .ensures) ∙ c .if2 .taken)))
+    gives (first-back (distanceChecks _ _) _ tt (p .before .distances-refusal .ensures) (p .if1 .left) (first-yes (sym (c .before .is-wrong-side .ensures) ∙ c .if2 .taken)))
 
 returns-3 : tie.Need-returns-3
-unfolding refinedRefusal refinedChecks
+unfolding refinedRefusal refinedChecks all
 returns-3 c = let p = c .before .before in
-    gives (distances-passed _ _ (p .before .distances-refusal .ensures) (p .if1 .left)
+    gives (first-back (distanceChecks _ _) _ tt (p .before .distances-refusal .ensures) (p .if1 .left)
     (first-no (sym (c .before .is-wrong-side .ensures) ∙ c .if2 .left) no-more))
 
 pub weight-refusal-spec : {M : Type 1} → statement M
