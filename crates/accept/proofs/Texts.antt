@@ -2,7 +2,6 @@
 use mathlib.Core.Path.{_≡_, refl, sym, ap, ap₂, _∙_, subst}
 use mathlib.Core.Bool.{Bool, true, false, not, cond, _&&_, _||_}
 use mathlib.Core.List.{List, [], _∷_, _++_, append-nil}
-use mathlib.Core.Logic.{⊎-elim}
 use Prim.Native.Nat.{ℕ, _+_, _*_, _≤_, _<_}
 use native.Mathlib.Omega.{arith}
 use borrow.Author.Tests.{ne-eqb}
@@ -10,16 +9,12 @@ use lib.Dec.{T, eqb, leb, le→leb, eqb·suc-suc}
 use lib.IntN.{pos}
 use lib.ListN.{length, getD}
 use Rattle.lists.specs.Lists.{all}
-use Rattle.lists.proofs.Lists.{in-all, all-in}
-use Rattle.lists.proofs.Tests.{T-true, true-T, false-T, and-T, T-and, or-T, T-or-left, T-or-right}
+use Rattle.lists.proofs.Tests.{T-true, true-T, false-T, and-T, T-and, T-or-right}
 use Rattle.pairs.specs.Pairs.{listNumber}
 use Rattle.clusters.specs.PairList.{onePoint}
-use Rattle.interface.specs.Sheet.{lineFeed, space, minus, point, isUpper, isDigit, isNumeral, wholePart, halfText, hasHalf, isWholeOrHalf, isPoints, isValue, isLoneMinus, isCell, numberFrom, pairSaid, sameBytes}
-use Rattle.interface.specs.Refusals.{isAllowed}
-use Rattle.interface.proofs.Pieces.{free, all-append, all-free}
-use Rattle.interface.proofs.Points.{ending, ended, digits-free, ended-whole, ended-well, ended-points}
-use Rattle.interface.proofs.Values.{plain-test, plain-value, plain-lone}
-use Rattle.interface.proofs.Cells.{lone-word, said-value}
+use Rattle.interface.specs.Sheet.{minus, isDigit, isNumeral, wholePart, halfText, isWholeOrHalf, isPoints, isValue, isLoneMinus, isCell, numberFrom, pairSaid}
+use Rattle.interface.proofs.Points.{ending, digits-free, ended-whole, ended-well, ended-points}
+use Rattle.interface.proofs.Values.{plain-test, plain-value, plain-lone, said-value}
 use Rattle.text.proofs.Numerals.{digit-low}
 use Rattle.accept.specs.Places.{part, Run, Said}
 use Rattle.accept.proofs.Parts.{part-length, part-first}

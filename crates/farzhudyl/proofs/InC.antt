@@ -1,6 +1,6 @@
 -- The faces in C that put what they find in a slot: a name's start, a score, a set.
 use mathlib.Core.Path.{_≡_, refl, sym, ap, _∙_, subst}
-use mathlib.Core.List.{List, map}
+use mathlib.Core.List.{List}
 use Prim.Native.Nat.{ℕ, zero, suc, _-_, _^_, _<_, _≤_}
 use native.Mathlib.Omega.{arith}
 use borrow.Author.Tests.{ne-eqb}
@@ -10,7 +10,7 @@ use lib.Seq.{length-take-le}
 use Rattle.lists.specs.Lists.{all}
 use Rattle.pairs.specs.Pairs.{listNumber, pairOf}
 use Rattle.clusters.specs.PairList.{score}
-use Rattle.clusters.specs.Groups.{kindOf, groups}
+use Rattle.clusters.specs.Groups.{Group, setsOf, kindOf, groups}
 use Rattle.clusters.proofs.Shared.{shared-line-le}
 use Rattle.answers.specs.Answers.{answer}
 use Rattle.answers.specs.declared.Shared.{Shared}
@@ -61,11 +61,11 @@ module _ (kind : ℤ) (n : ℕ) (l : List ℤ) (i j : ℕ) where
   line-le : sharedRefusal kind n l i j ≡ 0 → sharedFound kind n l i j .line ≤ 62
   unfolding sharedFound setsFound groupsFound
   line-le z =
-      let sets = map (λ (g : ℕ × ℤ). g .0) (groups (kindOf kind) n (score l)) in
+      let found = groups (kindOf kind) n (score l) in
       omega (
         arith,
-        shared-line-le n i j sets,
-        length-map (groups (kindOf kind) n (score l)) (λ (g : ℕ × ℤ). g .0),
+        shared-line-le n i j (setsOf found),
+        length-map found (λ (g : Group). g .set),
         groups-few (kindOf kind) n l (shared-pass kind n l i j z .0 .checked .few),
       )
 

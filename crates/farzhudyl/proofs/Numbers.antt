@@ -4,12 +4,11 @@ use mathlib.Core.List.{List}
 use Prim.Native.Nat.{ℕ, zero, suc, _≤_}
 use native.Mathlib.Omega.{arith}
 use lib.IntN.{ℤ}
-use lib.Dec.{lit<}
 use lib.ListN.{length}
 use Rattle.lists.specs.Lists.{all}
 use Rattle.lists.proofs.Tests.{T-false}
-use Rattle.interface.specs.Refusals.{wrongCount, sheetCallChecks, sheetRefusal}
-use Rattle.interface.proofs.Refusals.{first-le, passes, right-count}
+use Rattle.interface.specs.Refusals.{wrongCount, readerChecks, sheetChecks, sheetCallChecks, sheetRefusal}
+use Rattle.interface.proofs.Refusals.{first-le, under, passes, right-count}
 use Rattle.interface.proofs.Accepted.{sheet-passed}
 use Rattle.interface.proofs.Room.{listing-room}
 use Rattle.answers.specs.Answers.{numberOf, countOf, answer}
@@ -25,15 +24,14 @@ count-most (suc k) h = omega arith
 
 module _ (kind : ℤ) (s : List ℕ) (room : ℕ) where
   pub number-le : numberOf (answer (sheetRefusal kind s room) (length (sheetListing kind s))) ≤ 16
-  unfolding sheetRefusal sheetCallChecks all
+  unfolding sheetRefusal sheetCallChecks sheetChecks readerChecks all
   number-le = rw number-answer (first-le 16 (sheetCallChecks kind s room) tt)
 
   -- a sheet that is not refused passes checks 6, 11 and 16
   length-le : sheetRefusal kind s room ≡ 0 → length (sheetListing kind s) ≤ 1503
-  unfolding sheetRefusal sheetCallChecks sheetListing all
+  unfolding sheetRefusal sheetCallChecks sheetChecks readerChecks sheetListing under all
   length-le e =
-      let checks = sheetCallChecks kind s room in
-      let six = T-false {b = wrongCount (entries s)} (passes checks tt e 5 (lit< tt)) in
+      let six = T-false {b = wrongCount (entries s)} (passes 6 (sheetCallChecks kind s room) tt e) in
       listing-room (right-count (entries s) six) (sheet-passed kind s room e)
 
   pub count-le : countOf (answer (sheetRefusal kind s room) (length (sheetListing kind s))) ≤ 1503

@@ -1,18 +1,16 @@
 -- What each call can answer: a refusal's number is at most 18, and the count is bounded where no check refuses.
-use mathlib.Core.Path.{_≡_, ap}
+use mathlib.Core.Path.{_≡_, refl, ap}
 use mathlib.Core.Bool.{Bool}
-use mathlib.Core.List.{List, _∷_}
+use mathlib.Core.List.{List}
 use Prim.Native.Nat.{ℕ, _-_, _^_, _<_, _≤_}
 use native.Mathlib.Omega.{arith}
-use lib.Dec.{T, leb, lit<}
+use lib.Dec.{T, leb}
 use lib.IntN.{ℤ}
 use lib.ListN.{length}
 use Rattle.lists.specs.Lists.{all}
 use Rattle.clusters.specs.PairList.{rowStart}
 use Rattle.interface.specs.Refusals.{
   firstOf,
-  wrongKind,
-  wrongCount,
   numbersChecks,
   numbersRefusal,
   linkageChecks,
@@ -28,16 +26,17 @@ use Rattle.interface.specs.Refusals.{
   poolRefusal,
 }
 use Rattle.interface.specs.Pool.{poolText}
-use Rattle.interface.proofs.Pool.{pool-room}
+use Rattle.interface.proofs.PoolScores.{pool-room}
 use Rattle.clusters.specs.Groups.{kindOf}
 use Rattle.clusters.proofs.PairList.{rowStart-le}
 use Rattle.interface.proofs.Room.{groups-few}
-use Rattle.interface.proofs.Refusals.{no-first, first-le, right-count}
+use Rattle.interface.proofs.Refusals.{first-le, under}
 use Rattle.answers.specs.declared.Answer.{Answer}
 use Rattle.answers.specs.Answers.{numberOf, countOf, answer}
 use Rattle.answers.proofs.Answers.{number-answer}
 use Rattle.interface.specs.Listing.{groupsFound}
 use Rattle.interface.specs.Sheet.{entries}
+use Rattle.matrix.proofs.Checks.{sized}
 use Rattle.reader.proofs.Answers.{passes-few}
 use Rattle.farzhudyl.proofs.Numbers.{count-most}
 
@@ -50,28 +49,27 @@ small : (checks : List (ℕ × Bool)) {a : Answer} {c : ℕ} → T (all (λ k. l
 small checks {a} {c} t e h =
     (omega (arith, ap numberOf e, number-answer (firstOf checks) c, first-le 18 checks t), omega (arith, ap countOf e, count-most (firstOf checks) h))
 
--- a call whose first check is 6
-few : (n : ℕ) (checks : List (ℕ × Bool)) → firstOf ((6, wrongCount n) ∷ checks) ≡ 0 → n ≤ 32
-few n checks e = right-count n (no-first 6 (wrongCount n) checks (lit< tt) e .0)
-
 module _ {a : Answer} (n : ℕ) (l : List ℤ) where
   pub linkage-small : (room : ℕ) → a ≡ answer (linkageRefusal n l room) (n - 1) → Small a
-  unfolding linkageRefusal linkageChecks all
-  linkage-small room e = small (linkageChecks n l room) tt e (λ z. let h = few n _ z in omega arith)
+  unfolding linkageRefusal linkageChecks under all
+  linkage-small room e = let checks = linkageChecks n l room in
+      small checks tt e (λ z. let h = sized n l checks tt z refl refl .0 in omega arith)
 
   pub anchored-small : (x room : ℕ) → a ≡ answer (anchoredRefusal n x l room) (rowStart n) → Small a
-  unfolding anchoredRefusal anchoredChecks all
-  anchored-small x room e = small (anchoredChecks n x l room) tt e (λ z. let h = rowStart-le n (few n _ z) in omega arith)
+  unfolding anchoredRefusal anchoredChecks under all
+  anchored-small x room e = let checks = anchoredChecks n x l room in
+      small checks tt e (λ z. let h = rowStart-le n (sized n l checks tt z refl refl .0) in omega arith)
 
   pub back-small : (x room : ℕ) → a ≡ answer (backRefusal n x l room) (rowStart n) → Small a
-  unfolding backRefusal backChecks all
-  back-small x room e = small (backChecks n x l room) tt e (λ z. let h = rowStart-le n (few n _ z) in omega arith)
+  unfolding backRefusal backChecks under all
+  back-small x room e = let checks = backChecks n x l room in
+      small checks tt e (λ z. let h = rowStart-le n (sized n l checks tt z refl refl .0) in omega arith)
 
   pub numbers-small : (kind : ℤ) (sets indices : ℕ)
       → a ≡ answer (numbersRefusal kind n l sets indices) (length (groupsFound kind n l)) → Small a
-  unfolding numbersRefusal numbersChecks groupsFound all
-  numbers-small kind sets indices e = small (numbersChecks kind n l sets indices) tt e
-      (λ z. let h = groups-few (kindOf kind) n l (few n _ (no-first 1 (wrongKind kind) _ (lit< tt) z .1)) in omega arith)
+  unfolding numbersRefusal numbersChecks groupsFound under all
+  numbers-small kind sets indices e = let checks = numbersChecks kind n l sets indices in
+      small checks tt e (λ z. let h = groups-few (kindOf kind) n l (sized n l checks tt z refl refl .0) in omega arith)
 
 pub read-small : {a : Answer} (s : List ℕ) → a ≡ answer (readerRefusal s) (entries s) → Small a
 unfolding readerRefusal readerChecks all

@@ -10,7 +10,7 @@ ghost use Rattle.lists.specs.Lists.{each};
 ghost use Rattle.interface.specs.Listing.{lineOf, digit, digits, hexadecimal, decimal, pointsText, listing};
 ghost use Rattle.listing.specs.Lines.{line};
 ghost use Rattle.listing.specs.Put.{Put};
-ghost use Rattle.interface.specs.Calls.{groupsOf};
+ghost use Rattle.interface.specs.Calls.{groupsIn};
 ghost use Rattle.listing.specs.Slots.{Slots};
 ghost use Rattle.listing.specs.Over.{HandedOver};
 use answers::Answer;
@@ -90,7 +90,7 @@ pub fn put_points(out: &mut [u8], at: usize, k: usize, after: u8) -> usize
 // Puts a line, 34 bytes at most.
 fn put_line(out: &mut [u8], at: usize, set: u32, index: usize) -> usize
     requires { ⌜ at + 34 ≤ length (now out) ⌝ }
-    ensures { λ r. ⌜ Put (now (out .entry)) at (line 32 (set, pos index)) (now (out .exit)) r ⌝ }
+    ensures { λ r. ⌜ Put (now (out .entry)) at (line 32 (record { set = set; index = pos index })) (now (out .exit)) r ⌝ }
 {
     let a = put_set(out, at, set);
     let b = put_number(out, a, sets::size(set), b' ');
@@ -110,7 +110,7 @@ fn put_lines(out: &mut [u8], at: usize, sets: &[u32], indices: &[i64], count: us
     requires { ⌜ at + 34 * count ≤ length (now out) ⌝ }
     ensures { λ r. ⌜ r ≤ at + 34 * count ⌝ }
     ensures { λ r. ⌜ Put (now (out .entry)) at
-        (each (groupsOf count (now (sets .entry)) (now (indices .entry))) (line 32)) (now (out .exit)) r ⌝ }
+        (each (groupsIn count (now (sets .entry)) (now (indices .entry))) (line 32)) (now (out .exit)) r ⌝ }
 {
     let mut end = at;
     let mut i: usize = 0;
@@ -126,9 +126,9 @@ pub fn write(out: &mut [u8], sets: &[u32], indices: &[i64], count: usize) -> usi
     requires { ⌜ Slots count (now sets) (now indices) ⌝ }
     requires { ⌜ 15 + 34 * count ≤ length (now out) ⌝ }
     ensures { λ r. ⌜ r
-        ≡ length (listing (map (lineOf 32) (groupsOf count (now (sets .entry)) (now (indices .entry))))) ⌝ }
+        ≡ length (listing (map (lineOf 32) (groupsIn count (now (sets .entry)) (now (indices .entry))))) ⌝ }
     ensures { λ r. ⌜ now (out .exit)
-        ≡ listing (map (lineOf 32) (groupsOf count (now (sets .entry)) (now (indices .entry))))
+        ≡ listing (map (lineOf 32) (groupsIn count (now (sets .entry)) (now (indices .entry))))
         ++ drop r (now (out .entry)) ⌝ }
 {
     let at = bytes::copy(b"set size index\n", out);
@@ -150,7 +150,7 @@ pub fn hand_over(text: &[u8], written: usize, out: &mut [u8]) -> Answer
 // The same of the listing of the first count groups. A buffer with room for the longest lines is written to at once.
 pub fn hand_listing(sets: &[u32], indices: &[i64], count: usize, out: &mut [u8]) -> Answer
     requires { ⌜ Slots count (now sets) (now indices) × (count ≤ 64) ⌝ }
-    ensures { λ r. ⌜ HandedOver (listing (map (lineOf 32) (groupsOf count (now (sets .entry)) (now (indices .entry)))))
+    ensures { λ r. ⌜ HandedOver (listing (map (lineOf 32) (groupsIn count (now (sets .entry)) (now (indices .entry)))))
         (now (out .entry)) r (now (out .exit)) ⌝ }
 {
     let room = 15 + 34 * count;

@@ -12,7 +12,7 @@ use lib.ListN.{length, getD, take, drop, length-take}
 use lib.Seq.{take-at}
 use Rattle.lists.specs.Lists.{below, all}
 use Rattle.lists.proofs.Lists.{below-lt, lt-below, all-in, in-all, all-cong}
-use Rattle.lists.proofs.Tests.{or-none, T-same}
+use Rattle.lists.proofs.Tests.{or-none, T-same, T-false}
 use Rattle.integers.specs.Integers.{eqZ}
 use Rattle.integers.proofs.Linear.{eqZ-yes, yes-eqZ}
 use Rattle.clusters.specs.PairList.{Similarity, pairList, rowStart}

@@ -35,8 +35,7 @@ use Rattle.interface.specs.Sheet.{
 use Rattle.interface.specs.Calls.{pieceAt}
 use Rattle.interface.proofs.Pieces.{free, same-bytes}
 use Rattle.interface.proofs.Points.{whole-front, fraction-front, parts, ending, digits-free, ended-whole, ended-well, ended-points}
-use Rattle.interface.proofs.Values.{plain-test, plain-value}
-use Rattle.interface.proofs.InPoints.{only-zero}
+use Rattle.interface.proofs.Values.{plain-test, plain-value, only-zero}
 use Rattle.text.specs.Reading.{digits, isEnd, signedRead, numberAt}
 use Rattle.text.specs.declared.NumberRead.{NumberRead}
 use Rattle.text.specs.declared.NumberRead.the-variants.{Number, IllFormed}

@@ -6,7 +6,7 @@ use borrow.Author.Needs.{needs}
 use lib.ListN.{length, take, length-take}
 use Rattle.answers.specs.declared.Answer.the-variants.{Count}
 use Rattle.interface.specs.Listing.{lineOf, listing}
-use Rattle.interface.specs.Calls.{groupsOf}
+use Rattle.interface.specs.Calls.{groupsIn}
 use Rattle.listing.specs.Over.{HandedOver}
 use Rattle.listing.proofs.Over.{wrote-over}
 use Rattle.listing.proofs.Puts.{written}
@@ -15,7 +15,7 @@ use Rattle.listing.proofs.hand_listing.Tie as tie
 
 -- the listing
 abbrev text : tie.Start → List ℕ
-text s = listing (map (lineOf 32) (groupsOf (s .args .count) (s .args .sets .now) (s .args .indices .now)))
+text s = listing (map (lineOf 32) (groupsIn (s .args .count) (s .args .sets .now) (s .args .indices .now)))
 
 -- what was written to the lent buffer at once
 at-once : (c : tie.After-write) → let s = c .before .before .before .before .before in

@@ -6,7 +6,7 @@ use lib.ListN.{length, getD}
 use Rattle.lists.specs.Lists.{each}
 use Rattle.listing.specs.Lines.{line}
 use Rattle.listing.specs.Put.{Put}
-use Rattle.interface.specs.Calls.{groupsOf}
+use Rattle.interface.specs.Calls.{groupsIn}
 use Rattle.listing.proofs.Lines.{line-bound, no-lines, index-natural, lines-next}
 use Rattle.listing.proofs.Puts.{then}
 use Rattle.listing.proofs.put_lines.Statement.{statement}
@@ -14,7 +14,7 @@ use Rattle.listing.proofs.put_lines.Tie as tie
 
 abbrev Inv-loop : tie.InvT-loop
 Inv-loop out₀ at sets indices count end₀ i₀ out end i =
-    (i ≤ count) × (length out ≡ length out₀) × (end ≤ at + 34 * i) × Put out₀ at (each (groupsOf i sets indices) (line 32)) out end
+    (i ≤ count) × (length out ≡ length out₀) × (end ≤ at + 34 * i) × Put out₀ at (each (groupsIn i sets indices) (line 32)) out end
 
 abbrev μ-loop : tie.MeasureT-loop
 μ-loop out₀ at sets indices count end₀ i₀ out end i = count - i
@@ -31,7 +31,7 @@ shared-slice-read-put-line c = search needs
 index-at-requires : tie.Need-index-at-requires Inv-loop μ-loop
 index-at-requires c κs =
     let s = c .before .before .before .before .before .before .pre .0 in
-    (omega (arith, s .indices-hold), index-natural s _ (omega arith))
+    (omega (arith, s .indices-hold), index-natural _ _ s _ (omega arith))
 
 put-line-requires : tie.Need-put-line-requires Inv-loop μ-loop
 put-line-requires c κs = omega arith
@@ -49,7 +49,7 @@ loop-again c =
     let r = c .before .before .put-line in
     let x = c .before .before .before .index-at in
     let few = line-bound (getD (s .args .sets .now) (l .i) 0) (x .result) (search needs) in
-    let next = lines-next (s .pre .0) (l .i) (omega arith) (x .result) (x .ensures) in
+    let next = lines-next (s .args .sets .now) (s .args .indices .now) (l .i) (x .result) (x .ensures) in
     (omega arith, r .kept .0 ∙ l .inv .1, omega (arith, r .ensures .place, few), rw next (then (l .inv .3) (r .ensures)))
 
 same-length : tie.Need-same-length Inv-loop μ-loop

@@ -1,7 +1,7 @@
 use native.Mathlib.Omega.{arith}
 use borrow.Author.Needs.{needs}
 use Rattle.interface.specs.Listing.{firstText, firstLine}
-use Rattle.interface.specs.Calls.{groupsOf}
+use Rattle.interface.specs.Calls.{groupsIn}
 use Rattle.listing.proofs.Puts.{then, put-start, start-put}
 use Rattle.listing.proofs.Lines.{listing-put}
 use Rattle.listing.proofs.write.Statement.{statement}
@@ -27,7 +27,7 @@ returns c =
     let s = first .before .before .before .before .before in
     let r = lines .put-lines .ensures in
     let text = then (put-start {l = s .args .out .now} {xs = firstLine} (first .copy .ensures .0) (omega arith) (first .copy .ensures .1)) (r .1) in
-    let groups = groupsOf (s .args .count) (s .args .sets .now) (s .args .indices .now) in
+    let groups = groupsIn (s .args .count) (s .args .sets .now) (s .args .indices .now) in
     listing-put 32 groups (s .args .out .now) (start-put text (omega (arith, r .0, text .place)))
 
 pub write-spec : {M : Type 1} → statement M
