@@ -15,7 +15,7 @@ use Rattle.answers.specs.Answers.{answer, slots}
 use Rattle.answers.proofs.WaysOut.{refused}
 use Rattle.interface.specs.Sheet.{entries, pairs}
 use Rattle.interface.specs.Listing.{sheetListing}
-use Rattle.interface.specs.Refusals.{wrongKind, sheetCallChecks, sheetRefusal, readerChecks, readerRefusal}
+use Rattle.interface.specs.Refusals.{wrongKind, sheetChecks, sheetCallChecks, sheetRefusal, readerChecks, readerRefusal}
 use Rattle.interface.specs.Calls.{SheetCall}
 use Rattle.interface.proofs.Refusals.{gives, first-yes, first-no, first-append}
 use Rattle.reader.proofs.Answers.{number-is, entries-is}
@@ -28,7 +28,7 @@ module _ (kind : ℤ) (s : List ℕ) (room : ℕ) where
   wrong-kind e = gives (first-yes e)
 
   right-kind : wrongKind kind ≡ false → let k = readerRefusal s in sheetRefusal kind s room ≡ cond (eqb k 0) (pairsRefusal kind (entries s) (pairs s) room) k
-  unfolding sheetRefusal sheetCallChecks sheetListing pairsRefusal readerRefusal readerChecks all
+  unfolding sheetRefusal sheetCallChecks sheetChecks sheetListing pairsRefusal readerRefusal readerChecks all
   right-kind e = sym (gives (first-no e (record { is = sym (first-append (readerChecks s) _ tt) })))
 
 -- the ways out
