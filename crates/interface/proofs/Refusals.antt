@@ -8,9 +8,8 @@ use native.Mathlib.Omega.{arith}
 use borrow.Author.Tests.{eqb-true, eqb-false, leb-false, ltb-false, eq-eqb, ne-eqb, not-false}
 use lib.Dec.{T, eqb, leb, ltb, leb→le}
 use lib.IntN.{ℤ}
-use lib.ListN.{length, getD}
+use lib.ListN.{length}
 use Rattle.lists.specs.Lists.{all}
-use Rattle.lists.proofs.Lists.{all-in, getD-in}
 use Rattle.lists.proofs.Tests.{and-T, cond-elim, eqb-no, or-none}
 use Rattle.clusters.specs.PairList.{rowStart, hasLength}
 use Rattle.interface.specs.Refusals.{Check, firstOf, none, mostEntries, wrongCount, wrongAnchor, wrongEntries}
@@ -33,12 +32,6 @@ first-no e g = record { is = rw e (g .is) }
 pub no-more : Gives [] 0
 unfolding firstOf
 no-more = record { is = refl }
-
--- a table that gives 0, read backwards
-pub no-first : (k : ℕ) (b : Bool) (l : List (ℕ × Bool)) → 0 < k → firstOf ((k, b) ∷ l) ≡ 0 → (b ≡ false) × (firstOf l ≡ 0)
-unfolding firstOf
-no-first k true l h e = absurd (omega arith)
-no-first k false l h e = (refl, e)
 
 -- the number given is one of the table's, or 0
 pub first-le : (k : ℕ) (checks : List (ℕ × Bool)) → T (all (λ c. leb (c .0) k) checks) → firstOf checks ≤ k

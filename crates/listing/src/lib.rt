@@ -90,7 +90,8 @@ pub fn put_points(out: &mut [u8], at: usize, k: usize, after: u8) -> usize
 // Puts a line, 34 bytes at most.
 fn put_line(out: &mut [u8], at: usize, set: u32, index: usize) -> usize
     requires { ⌜ at + 34 ≤ length (now out) ⌝ }
-    ensures { λ r. ⌜ Put (now (out .entry)) at (line 32 (record { set = set; index = pos index })) (now (out .exit)) r ⌝ }
+    ensures { λ r. ⌜ Put (now (out .entry)) at (line 32 (record { set = set; index = pos index }))
+        (now (out .exit)) r ⌝ }
 {
     let a = put_set(out, at, set);
     let b = put_number(out, a, sets::size(set), b' ');
