@@ -16,7 +16,9 @@ returns c = gives (first-front (distanceChecks _ _) _ tt (c .before .distances-r
 
 is-wrong-side-requires : tie.Need-is-wrong-side-requires
 unfolding under all
-is-wrong-side-requires c κs = let checked = checked _ _ (distanceChecks _ _) tt (sym (c .before .distances-refusal .ensures) ∙ c .if1 .left) refl refl refl in (checked .some, checked .few)
+is-wrong-side-requires c κs =
+    let left = checked _ _ (distanceChecks _ _) tt (sym (c .before .distances-refusal .ensures) ∙ c .if1 .left) refl refl refl in
+    (left .some, left .few)
 
 returns-2 : tie.Need-returns-2
 unfolding refinedRefusal refinedChecks all
