@@ -46,8 +46,11 @@ def tried(path):
             for part in ("src", "specs", "proofs"):
                 if os.path.isdir(f"crates/{name}/{part}"):
                     shutil.copytree(f"crates/{name}/{part}", f"{top}/crates/{name}/{part}")
-        shutil.copytree("target/rlib", f"{top}/target/rlib")
-        shutil.copytree("target/stamp", f"{top}/target/stamp")
+        for folder in ("rlib", "stamp"):
+            os.makedirs(f"{top}/target/{folder}")
+            for name in crates[:-1]:
+                made = f"target/{folder}/{name}" + (".rlib" if folder == "rlib" else "")
+                (shutil.copytree if os.path.isdir(made) else shutil.copy)(made, f"{top}/{made}")
         with open(f"{top}/crates.txt", "w", encoding="utf-8") as out:
             out.write("".join(f"{name}: {' '.join(needs[name])}\n" for name in crates))
         file = ""

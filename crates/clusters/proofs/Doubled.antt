@@ -3,14 +3,14 @@
 use mathlib.Core.Path.{_≡_, refl, sym, ap, ap₂, _∙_, subst}
 use mathlib.Core.Bool.{Bool, true, false, not, xor, cond, _&&_}
 use mathlib.Core.Logic.{inl, inr, _≢_}
-use mathlib.Core.List.{List, [], _∷_, _++_, map, map-map, map-append, List·Memᴰ·head, List·Memᴰ·tail}
+use mathlib.Core.List.{List, [], _∷_, map, map-map, map-append, List·Memᴰ·head, List·Memᴰ·tail, _++_}
 use Prim.Native.Nat.{ℕ, _-_, _*_, _<_, max, min}
 use native.Mathlib.Omega.{arith}
 use lib.IntN.{ℤ, pos, negℤ, _+ℤ_, _-ℤ_}
 use lib.Signed.{_≤ℤ_, leZ, leZ-yes}
 use lib.Dec.{T}
 use lib.ListN.{take}
-use Rattle.lists.specs.Lists.{_∈_, below, each, keep, all}
+use Rattle.lists.specs.Lists.{_∈_, below, each, all}
 use Rattle.lists.proofs.Tests.{and-T, T-same}
 use Rattle.lists.proofs.Lists.{below-lt, map-cong, all-in, in-all, all-cong, map-take}
 use Rattle.integers.specs.Integers.{minZ, maxZ, eqZ, least, sumOf, sum, insert, sort, sumOfSmallest}

@@ -7,7 +7,7 @@ use native.Mathlib.Omega.{arith}
 use lib.IntN.{ℤ, pos, _+ℤ_, +ℤ-idr}
 use lib.Signed.{_≤ℤ_, ≤ℤ-refl}
 use lib.ListN.{length, length-append, length-map}
-use Rattle.lists.specs.Lists.{_∈_, _lists_, below, each, keep, Distinct}
+use Rattle.lists.specs.Lists.{_∈_, below, each, keep, Distinct}
 use Rattle.lists.proofs.Lists.{below-lt, in-each, of-each, in-map, of-map, each-append, each-cong}
 use Rattle.lists.proofs.Distinct.{distinct-pairs}
 use Rattle.integers.specs.Integers.{sumOf}
@@ -44,7 +44,7 @@ module _ (n A : ℕ) where
       let (hb, kb) = of-members a A mb in
       rw e (ha, hb, ka, kb)
 
-  pub in-pairs : {a b : ℕ} → a < n → b < a → A ∋ a → A ∋ b → pairsOf n A lists (a, b)
+  pub in-pairs : {a b : ℕ} → a < n → b < a → A ∋ a → A ∋ b → _∈_ {A = ℕ × ℕ} (a, b) (pairsOf n A)
   unfolding pairsOf row
   in-pairs {a} h k ka kb = in-each (row A) (in-members n A h ka) (in-map (λ b. (a, b)) (in-members a A k kb))
 

@@ -5,10 +5,10 @@ use mathlib.Core.Logic.{_↔_}
 use mathlib.Core.List.{List, Memᴰ·cast}
 use Prim.Native.Nat.{ℕ, _-_, _^_, _≤_, _<_}
 use native.Mathlib.Omega.{arith}
-use lib.IntN.{ℤ, pos, _+ℤ_, _-ℤ_}
+use lib.IntN.{ℤ, pos, _-ℤ_, _+ℤ_}
 use lib.Signed.{_≤ℤ_}
 use lib.Dec.{T, leb}
-use Rattle.lists.specs.Lists.{_∈_, _lists_}
+use Rattle.lists.specs.Lists.{_∈_}
 use Rattle.lists.proofs.Tests.{T-and, cond-elim}
 use Rattle.integers.specs.Integers.{maxZ, least, sumOf, sumOfSmallest}
 use Rattle.integers.proofs.Linear.{up, dn, zarith}

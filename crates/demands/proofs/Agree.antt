@@ -4,7 +4,7 @@ use mathlib.Core.Path.{_≡_, refl, sym, ap, _∙_}
 use mathlib.Core.Bool.{Bool, true, false, not, _&&_, _||_}
 use mathlib.Core.Logic.{_⊎_, inl, inr, _≢_, _↔_}
 use mathlib.Core.List.{List, [], _∷_, _++_}
-use Prim.Native.Nat.{ℕ, zero, suc, _<_, _≤_}
+use Prim.Native.Nat.{ℕ, suc, _<_, _≤_}
 use native.Mathlib.Omega.{arith}
 use lib.Dec.{T, T-not, not-T, eqb, eqb→eq, leb, ltb, leb→le, le→leb}
 use lib.IntN.{ℤ}
@@ -16,7 +16,7 @@ use Rattle.lists.proofs.Lists.{all-in, in-all, some-fails}
 use Rattle.integers.specs.Integers.{eqZ}
 use Rattle.integers.proofs.Linear.{eqZ-yes, yes-eqZ}
 use Rattle.answers.specs.declared.Answer.{Answer}
-use Rattle.answers.specs.Answers.{numberOf, countOf, answer, slots}
+use Rattle.answers.specs.Answers.{countOf, answer, slots}
 use Rattle.answers.proofs.Answers.{its-number, count-refused, slots-refused}
 use Rattle.interface.specs.Refusals.{Check, firstOf, none}
 use Rattle.demands.specs.Tables.{Table, GivenFirst, NoneGiven, Judged}

@@ -6,12 +6,12 @@ use mathlib.Core.List.{List, [], _∷_, Memᴰ·cast}
 use Prim.Native.Nat.{ℕ, _<_, _≤_}
 use native.Mathlib.Omega.{arith}
 use native.Mathlib.Decide.{decLe}
-use lib.Dec.{T, T-not, not-T, eqb, eqb→eq, lit<}
+use lib.Dec.{T, T-not, not-T, eqb, eqb→eq}
 use lib.IntN.{ℤ}
 use lib.ListN.{length}
 use Rattle.lists.specs.Lists.{_∈_, below, all}
-use Rattle.lists.proofs.Lists.{no-length, lt-below, all-in, getD-in, some-fails}
-use Rattle.lists.proofs.Tests.{and-T, or-T, T-or-not, T-or-right, T-false}
+use Rattle.lists.proofs.Lists.{lt-below, all-in, getD-in, some-fails}
+use Rattle.lists.proofs.Tests.{and-T, or-T, T-or-not, T-or-right}
 use Rattle.integers.specs.Integers.{eqZ}
 use Rattle.integers.specs.Range.{Within}
 use Rattle.integers.proofs.Linear.{up, dn, zarith}

@@ -1,7 +1,7 @@
 -- The demands, from the outcomes of the calls and the theorems about groups.
 use mathlib.Core.Path.{_≡_, refl, sym, ap, ap₂, _∙_, subst, subst₂}
 use mathlib.Core.Bool.{not}
-use mathlib.Core.Logic.{_⊎_, inl, inr, _≢_, _↔_, Iff·trans}
+use mathlib.Core.Logic.{_⊎_, inl, inr, _≢_, _↔_}
 use mathlib.Core.List.{List, [], _∷_, _++_, map, map-map, map-id}
 use mathlib.Core.Option.{some, Option·some-injective}
 use Prim.Native.Nat.{ℕ, zero, suc, _-_, _^_, _<_, _≤_}
@@ -10,11 +10,10 @@ use native.Mathlib.Omega.{arith}
 use lib.IntN.{ℤ, pos, negℤ}
 use lib.Signed.{_≤ℤ_, leZ, leZ-yes}
 use lib.Dec.{T, lit<}
-use lib.ListN.{length, take, drop, replicate, length-map}
-use lib.Seq.{take-append-seam, drop-append-seam}
+use lib.ListN.{length, take, replicate, length-map}
 use Rattle.lists.specs.Lists.{_∈_, all}
 use Rattle.lists.proofs.Lists.{of-map}
-use Rattle.lists.proofs.Tests.{T-false, and-T, T-and}
+use Rattle.lists.proofs.Tests.{and-T, T-and}
 use Rattle.integers.specs.Integers.{eqZ}
 use Rattle.integers.proofs.Linear.{zarith, up, dn}
 use Rattle.sets.specs.Sets.{size, complement}
@@ -35,9 +34,8 @@ use Rattle.clusters.proofs.Fillings.{least-is, scored-fills}
 use Rattle.clusters.proofs.Theorems.{group-in-tree, groups-nested, groups-bound}
 use Rattle.clusters.proofs.Reordering.{groups-image}
 use Rattle.answers.specs.declared.Answer.{Answer}
-use Rattle.answers.specs.declared.Answer.the-variants.{Count, Refused}
 use Rattle.answers.specs.Answers.{numberOf, countOf, answer, slots, filled}
-use Rattle.answers.proofs.Answers.{number-answer, count-answer, slots-refused, slots-written}
+use Rattle.answers.proofs.Answers.{number-answer, slots-refused}
 use Rattle.interface.specs.Sheet.{entries, pairs}
 use Rattle.interface.specs.Listing.{Line, lineOf, groupOf, listing, groupsFound, pairsListing, sheetListing, listingRead}
 use Rattle.interface.specs.Refusals.{mostEntries, sheetCallChecks, sheetRefusal, numbersRefusal, linkageRefusal, anchoredRefusal, backRefusal, sheetChecks, readerChecks, none, check1, kindChecks, check14, wrongKind, check11}

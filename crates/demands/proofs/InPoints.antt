@@ -1,40 +1,19 @@
 -- What bytes say in points (`InPoints`) is what is written for a number of half points; what is well formed, and what the cells of a sheet
 -- and the indices of a listing say.
 use mathlib.Core.Path.{_≡_, refl, sym, ap, ap₂, _∙_, subst, subst₂}
-use mathlib.Core.Bool.{Bool, true, false, not, cond, _&&_}
 use mathlib.Core.Logic.{_⊎_, inl, inr, _↔_}
-use mathlib.Core.List.{List, [], _∷_, _++_, append-nil}
-use Prim.Native.Nat.{ℕ, zero, suc, _+_, _*_, _/_, _%_, _^_, _<_, _≤_}
+use mathlib.Core.List.{List, [], _∷_, _++_}
+use Prim.Native.Nat.{ℕ, zero, suc, _+_, _*_, _/_, _%_, _<_, _≤_}
 use native.Mathlib.Omega.{arith}
-use native.Mathlib.Decide.{decLe}
-use lib.Dec.{T, eqb, eqb→eq, lit<}
+use lib.Dec.{T, lit<}
 use lib.IntN.{ℤ, pos, negsuc, negℤ}
-use lib.ListN.{length}
-use Rattle.lists.proofs.Tests.{and-T, T-and, true-T}
 use Rattle.integers.specs.Range.{Within}
-use Rattle.integers.proofs.Linear.{up, dn}
-use Rattle.integers.proofs.Range.{within}
-use Rattle.clusters.specs.PairList.{onePoint}
-use Rattle.interface.specs.Sheet.{
-  minus,
-  isNumeral,
-  wholePart,
-  halfText,
-  hasHalf,
-  isWholeOrHalf,
-  isPoints,
-  isValue,
-  numberFrom,
-  halfPoints,
-  valueOf,
-  sameBytes,
-}
-use Rattle.interface.specs.Listing.{digit, decimalFrom, decimal, pointsText, signedPoints, isDecimal, isIndex}
+use Rattle.interface.specs.Sheet.{minus, halfText, isValue, valueOf}
+use Rattle.interface.specs.Listing.{digit, decimal, pointsText, signedPoints}
 use Rattle.demands.specs.Sentences.{DecimalSays, one-digit, one-more, InPoints, whole, half, minus-whole, minus-half}
-use Rattle.interface.proofs.Digits.{ten, decimal-more, decimal-least}
-use Rattle.interface.proofs.Numerals.{low-digit, decimal-low, decimal-back}
-use Rattle.interface.proofs.Points.{half-number, index-back}
-use Rattle.interface.proofs.Values.{numeral-parts, read-signed, value-form, even-text, value-back, odd-text}
+use Rattle.interface.proofs.Digits.{ten, decimal-more}
+use Rattle.interface.proofs.Numerals.{low-digit, decimal-low}
+use Rattle.interface.proofs.Values.{read-signed, value-form, even-text, value-back, odd-text}
 
 -- the digits of a number say it
 low-says : (n : ℕ) → n < 10 → DecimalSays (decimal n) n

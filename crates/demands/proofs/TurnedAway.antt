@@ -6,7 +6,7 @@ use mathlib.Core.List.{List, [], _∷_}
 use Prim.Native.Nat.{ℕ, zero, suc, _<_}
 use native.Mathlib.Omega.{arith}
 use borrow.Author.Tests.{ne-eqb}
-use lib.IntN.{pos, negℤ, ℤ}
+use lib.IntN.{pos, ℤ}
 use lib.ListN.{length, getD, take, drop}
 use Rattle.lists.proofs.Tests.{T-true, T-false}
 use Rattle.pairs.specs.declared.Carried.{Carried}
@@ -15,7 +15,7 @@ use Rattle.pairs.specs.declared.Carried.the-variants.{Scored, Unscored}
 use Rattle.answers.specs.declared.Answer.{Answer}
 use Rattle.answers.specs.declared.ValueRead.{ValueRead}
 use Rattle.answers.specs.Answers.{numberOf, countOf, answer, filled}
-use Rattle.answers.proofs.Answers.{number-answer, its-number, count-refused}
+use Rattle.answers.proofs.Answers.{its-number, count-refused}
 use Rattle.interface.specs.Sheet.{isLoneMinus, isCell, valueOf, pairSaid, cut, names, entries}
 use Rattle.interface.specs.Refusals.{
   firstOf,

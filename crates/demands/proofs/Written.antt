@@ -1,16 +1,14 @@
 -- What the calls write, and what they do not touch.
 use mathlib.Core.Path.{_≡_, refl, sym, ap, _∙_, ap₂, subst}
 use mathlib.Core.Bool.{Bool, not, cond, _&&_, _||_}
-use mathlib.Core.Logic.{_≢_, inl, inr, _⊎_}
+use mathlib.Core.Logic.{inl, inr, _⊎_}
 use mathlib.Core.Option.{some}
 use mathlib.Core.List.{List, [], _∷_, _++_, List·Memᴰ·head, List·Memᴰ·tail}
 use Prim.Native.Nat.{ℕ, zero, suc, _+_, _-_, _*_, _<_, _≤_, _/_, _%_, _^_}
 use native.Mathlib.Omega.{arith}
-use borrow.Author.Tests.{ne-eqb}
-use lib.Dec.{T, lit<}
+use lib.Dec.{T}
 use lib.IntN.{ℤ, pos, _+ℤ_, _-ℤ_}
 use lib.ListN.{length, length-append, length-map, length-replicate, getD, drop, replicate, List·getD-eq-default, List·getD-append}
-use lib.Seq.{drop-append-seam}
 use Rattle.lists.specs.Lists.{_∈_, below, each, all}
 use Rattle.lists.proofs.Lists.{lt-below, all-in}
 use Rattle.lists.proofs.Written.{getD-padded}
@@ -26,11 +24,10 @@ use Rattle.clusters.specs.Farris.{distancesBack, unfarris, farris, isAnchored, 
 use Rattle.clusters.proofs.PairList.{row-lt, pairList-at, length-pairList, score-symm, score-row}
 use Rattle.clusters.proofs.Theorems.{groups-most}
 use Rattle.answers.specs.declared.Answer.{Answer}
-use Rattle.answers.specs.Answers.{numberOf, countOf, answer, slots, filled}
-use Rattle.answers.proofs.Answers.{its-number, count-refused, slots-refused}
+use Rattle.answers.specs.Answers.{numberOf, answer, slots, filled}
 use Rattle.interface.specs.Sheet.{entries, value, pairs, lineFeed}
 use Rattle.interface.specs.Listing.{groupsFound, Line, digit, digits, hexadecimal, decimal, signedPoints, lineText, firstText, firstLine, listing, listingRead}
-use Rattle.interface.specs.Refusals.{numbersRefusal, scoreRefusal, mostEntries, wrongAnchor, shortSlice, notAnchored, backChecks, backRefusal}
+use Rattle.interface.specs.Refusals.{numbersRefusal, mostEntries, wrongAnchor, shortSlice, notAnchored, backChecks, backRefusal}
 use Rattle.interface.specs.Calls.{setsFound, indicesFound, BackCall, isPair, scoreAmong, pairAmong}
 use Rattle.demands.specs.Demands.{Listed}
 use Rattle.demands.specs.Sentences.{OtherLength, NoEntries, lower, FewerThan2n}

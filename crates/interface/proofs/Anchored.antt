@@ -10,7 +10,7 @@ use lib.ListN.{length}
 use Rattle.lists.proofs.Tests.{T-true, T-false, true-T, or-none}
 use Rattle.lists.specs.Lists.{all}
 use Rattle.integers.specs.Integers.{eqZ}
-use Rattle.clusters.specs.PairList.{rowStart, score, hasLength, inRange, scoresInRange, hasUnscored, areDistances}
+use Rattle.clusters.specs.PairList.{rowStart, score, hasLength, inRange, scoresInRange, areDistances}
 use Rattle.clusters.specs.Farris.{farris, anchoredScores, distancesBack, isAnchored}
 use Rattle.clusters.proofs.PairList.{length-pairList}
 use Rattle.clusters.proofs.Scored.{scored-in-range}

@@ -1,5 +1,5 @@
 -- Examples of the calls on a pair list, by computing: the numbers call's slots, the refusals of each call, scores looked up.
-use mathlib.Core.Path.{_≡_, refl, ap, ap₂, _∙_}
+use mathlib.Core.Path.{_≡_, refl, ap₂, _∙_}
 use mathlib.Core.Bool.{xor}
 use mathlib.Core.List.{List, [], _∷_}
 use Prim.Native.Nat.{ℕ}
@@ -16,11 +16,11 @@ use Rattle.clusters.specs.PairList.{hasUnscored, areDistances}
 use Rattle.clusters.specs.Indices.{strongValues, strongIndex}
 use Rattle.clusters.specs.Fillings.{low, high, worst, filledIndex}
 use Rattle.clusters.specs.Farris.{unfarris, distancesBack, isAnchored}
-use Rattle.clusters.specs.Groups.{kindOf, index, proper, speaksOf, listed, sets, groupSets, groups, positive, setsBy, groupsBy}
+use Rattle.clusters.specs.Groups.{kindOf, index, proper, speaksOf, listed, sets, groups, positive, setsBy, groupsBy}
 use Rattle.clusters.specs.Bench.{own}
 use Rattle.answers.specs.declared.Answer.{Answer}
 use Rattle.answers.specs.declared.Answer.the-variants.{Count, Refused}
-use Rattle.answers.specs.Answers.{answer, slots, filled}
+use Rattle.answers.specs.Answers.{answer, filled}
 use Rattle.interface.specs.Listing.{groupsFound}
 use Rattle.interface.specs.Refusals.{
   firstOf,

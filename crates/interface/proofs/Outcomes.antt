@@ -4,14 +4,14 @@ use mathlib.Core.Logic.{_↔_}
 use mathlib.Core.List.{List, _++_}
 use Prim.Native.Nat.{ℕ, zero, suc, _<_}
 use native.Mathlib.Omega.{arith}
-use lib.IntN.{ℤ, pos, negℤ}
+use lib.IntN.{pos, negℤ}
 use lib.ListN.{length, take, drop}
 use lib.Seq.{take-append-seam, drop-append-seam}
 use Rattle.answers.specs.declared.Answer.{Answer}
 use Rattle.answers.specs.declared.Answer.the-variants.{Count, Refused}
 use Rattle.answers.specs.Answers.{numberOf, countOf, answer, slots}
 use Rattle.answers.proofs.Answers.{number-answer, count-answer, slots-written}
-use Rattle.interface.specs.Calls.{cNumber, InC}
+use Rattle.interface.specs.Calls.{cNumber}
 
 -- an answer and its number in C: a count is answered as it is, a refusal as minus its number
 pub refused-number : (a : Answer) (k : ℕ) → 0 < k → (cNumber a ≡ negℤ (pos k)) ↔ (numberOf a ≡ k)

@@ -1,25 +1,20 @@
 -- Two sheets that pass 2 to 9 and 11, the table of their pool, and how long it can be.
-use mathlib.Core.Path.{_≡_, refl, sym, ap, ap₂, _∙_, subst}
+use mathlib.Core.Path.{_≡_, _∙_, subst}
 use mathlib.Core.Logic.{_≢_}
 use mathlib.Core.Bool.{false, not, Bool, cond, _&&_, true}
 use mathlib.Core.List.{List, _++_, _∷_, []}
 use Prim.Native.Nat.{ℕ, _<_, _≤_}
 use native.Mathlib.Omega.{arith}
 use borrow.Author.Tests.{not-false, ltb-true}
-use lib.Dec.{T, T-not, not-T, eqb, lit<, ltb}
-use lib.IntN.{_+ℤ_}
+use lib.Dec.{T, eqb, lit<, ltb}
 use lib.ListN.{length}
 use Rattle.lists.specs.Lists.{all, Distinct}
 use Rattle.lists.proofs.Tests.{T-false, true-T, or-none, T-true, and-T}
-use Rattle.lists.proofs.Lists.{some-fails}
-use Rattle.pairs.specs.declared.Carried.{Carried}
-use Rattle.pairs.specs.declared.Carried.the-variants.{Scored, Unscored}
-use Rattle.pairs.specs.Pairs.{numberFor, carried}
-use Rattle.clusters.specs.PairList.{Symmetric, score, onePoint, pointLimit, scoreLimit, isAllowedPair, scoresInRange}
-use Rattle.clusters.specs.Pooling.{added, pooled}
-use Rattle.clusters.proofs.PairList.{length-pairList, of-pairList, score-symm, score-mirrored, score-pairList}
-use Rattle.clusters.proofs.Scored.{AllAllowed, allowed-within, within-range, list-allowed}
-use Rattle.clusters.proofs.Pooled.{added-carried, pooled-symmetric}
+use Rattle.pairs.specs.Pairs.{carried}
+use Rattle.clusters.specs.PairList.{Symmetric, score, scoreLimit, isAllowedPair, scoresInRange}
+use Rattle.clusters.proofs.PairList.{length-pairList, score-symm, score-mirrored, score-pairList}
+use Rattle.clusters.proofs.Scored.{AllAllowed, list-allowed}
+use Rattle.clusters.proofs.Pooled.{pooled-symmetric}
 use Rattle.interface.specs.Sheet.{isName, lines, names, entries, value, pairs, mirrored}
 use Rattle.interface.specs.Pool.{placeOn, poolScores, poolPairs, poolText}
 use Rattle.interface.specs.Refusals.{none, wrongNames, equalNames, wrongCount, wrongValues, readerChecks, sheetChecks, Check, poolRefusal, namesDiffer, check14, check17, poolChecks, firstOf, check18}

@@ -4,13 +4,10 @@ use mathlib.Core.List.{List, [], _∷_, _++_, List·Memᴰ}
 use Prim.Native.Nat.{ℕ, zero, suc}
 use lib.Dec.{eqb}
 
-infix 4 _∈_ _lists_
--- x is an element of l; the list comes first where x is a pair
+infix 4 _∈_
+-- x is an element of l
 abbrev pub _∈_ {ℓ} : {A : Type ℓ} → A → List A → Type ℓ
 x ∈ l = List·Memᴰ x l
-
-abbrev pub _lists_ {ℓ} : {A : Type ℓ} → List A → A → Type ℓ
-l lists x = x ∈ l
 
 -- 0, 1, .. n − 1
 unfoldable pub below : ℕ → List ℕ

@@ -28,13 +28,13 @@ use Rattle.clusters.specs.Doubled.{twice, doubledPair, Doubles, doubledGroup}
 use Rattle.clusters.proofs.PairList.{score-symm}
 use Rattle.clusters.proofs.Doubled.{twice-pos, twice-neg, twice-same, groupsWithin, groups-within, groups-doubled, same-range-doubled, weight-doubled}
 use Rattle.interface.specs.Sheet.{wholePart, fraction, halfText, hasHalf, numberFrom, halfPoints, entries, value, pairs, sameBytes}
-use Rattle.interface.specs.Listing.{Line, groupOf, decimal, signedPoints, isSet, isDecimal, isIndex, isLine, lineRead, lineWords, listingRead}
+use Rattle.interface.specs.Listing.{Line, groupOf, signedPoints, isSet, isDecimal, isIndex, isLine, lineRead, lineWords, listingRead}
 use Rattle.interface.specs.Refusals.{check11, readerChecks, sheetChecks, readerRefusal}
 use Rattle.interface.proofs.Refusals.{none-append}
 use Rattle.interface.proofs.Points.{index-back}
 use Rattle.interface.proofs.Outcomes.{not-refused, counted}
 use Rattle.demands.specs.Sentences.{DecimalSays, InPoints, whole, minus-whole, half, minus-half, CellSays, points, lone-minus as says-lone, wordAt}
-use Rattle.demands.specs.Demands.{Listed, Wrote, in-lines, Positive}
+use Rattle.demands.specs.Demands.{Listed, in-lines, Positive}
 use Rattle.demands.proofs.Unique.{is-read, lines-form}
 use Rattle.demands.proofs.Demands.{sheet-read, wrote, wrote-allowed, wrote-scored, line-positive}
 use Rattle.demands.proofs.InPoints.{decimal-said, says-value, written-says, one-text}

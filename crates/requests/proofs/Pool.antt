@@ -1,17 +1,16 @@
 -- Request 2.4, from the outcomes of the calls, what is read back of a sheet as it is written, and the theorems about pooled scores.
 use mathlib.Core.Path.{_≡_, refl, sym, ap, ap₂, _∙_, subst, subst₂}
-use mathlib.Core.Bool.{Bool, true, not, cond, _&&_}
-use mathlib.Core.Logic.{_⊎_, inl, inr, _≢_, _↔_}
-use mathlib.Core.List.{List, [], _∷_, _++_}
+use mathlib.Core.Bool.{not, cond}
+use mathlib.Core.Logic.{_↔_}
+use mathlib.Core.List.{List, []}
 use Prim.Native.Nat.{ℕ, _^_, _≤_, _<_}
 use native.Mathlib.Omega.{arith}
-use borrow.Author.Tests.{lt-ltb, le-ltb, ltb-true}
-use lib.Dec.{T, ltb, lit<, not-T, T-not}
-use lib.IntN.{ℤ, pos, negℤ, _+ℤ_}
+use borrow.Author.Tests.{lt-ltb, le-ltb}
+use lib.Dec.{T, ltb, not-T, T-not}
+use lib.IntN.{ℤ, pos, _+ℤ_}
 use lib.ListN.{length, getD}
 use lib.Signed.{_≤ℤ_}
-use Rattle.lists.specs.Lists.{_lists_, all}
-use Rattle.lists.proofs.Tests.{T-true, T-false, and-T, T-same, false-T}
+use Rattle.lists.proofs.Tests.{T-false, T-same, false-T}
 use Rattle.sets.specs.Sets.{has}
 use Rattle.sets.proofs.Sets.{has-yes, yes-has}
 use Rattle.pairs.specs.declared.Carried.{Carried}
@@ -22,13 +21,13 @@ use Rattle.clusters.specs.Groups.{strong, kindOf, index, writtenSet, Group, Has
 use Rattle.clusters.specs.Reordering.{Permutation, Reordered, image}
 use Rattle.clusters.specs.Pooling.{added, pooled}
 use Rattle.clusters.proofs.PairList.{score-pairList, of-pairList}
-use Rattle.clusters.proofs.Groups.{of-listed, is-listed, listed-index, in-groups, line-of}
+use Rattle.clusters.proofs.Groups.{of-listed, is-listed, listed-index, line-of}
 use Rattle.clusters.proofs.Images.{image-only}
 use Rattle.clusters.proofs.Fillings.{filled-cong}
 use Rattle.clusters.proofs.Pooled.{both-scored, either-unscored, pooled-turned, pooled-index, pooled-strong, added-carried}
 use Rattle.answers.specs.declared.Answer.{Answer}
-use Rattle.answers.specs.Answers.{numberOf, answer, countOf}
-use Rattle.answers.proofs.Answers.{number-answer, its-number}
+use Rattle.answers.specs.Answers.{numberOf, countOf}
+use Rattle.answers.proofs.Answers.{its-number}
 use Rattle.interface.specs.Sheet.{names, entries, value, pairs}
 use Rattle.interface.specs.Pool.{placeOn, poolScores, poolPairs, poolText}
 use Rattle.interface.specs.Refusals.{none, namesDiffer, sheetChecks, poolChecks, poolRefusal}

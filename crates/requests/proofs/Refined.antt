@@ -1,13 +1,12 @@
 -- 2.5, the refined weight of a split, from the outcomes of the call and the theorems about quartets.
 use mathlib.Core.Path.{_≡_, refl, sym, ap, ap₂, _∙_, subst}
 use mathlib.Core.Bool.{Bool, true, false, not}
-use mathlib.Core.Logic.{_⊎_, inl, inr, _≢_}
+use mathlib.Core.Logic.{_⊎_, inl, inr}
 use mathlib.Core.List.{List, _∷_, []}
-use Prim.Native.Nat.{ℕ, _+_, _-_, _^_, _<_, _≤_}
-use native.Mathlib.Decide.{decLt}
+use Prim.Native.Nat.{ℕ, _-_, _^_, _<_}
 use native.Mathlib.Omega.{arith}
 use borrow.Author.Tests.{eq-eqb}
-use lib.Dec.{T, lit<}
+use lib.Dec.{lit<}
 use lib.IntN.{ℤ, pos, _+ℤ_, _-ℤ_, _*ℤ_}
 use lib.Signed.{_≤ℤ_}
 use lib.ListN.{length}
@@ -22,7 +21,7 @@ use Rattle.clusters.specs.PairList.{score, rowStart, hasLength, scoresInRange, 
 use Rattle.clusters.specs.Fillings.{AllScored}
 use Rattle.clusters.specs.Groups.{Group, HasLine, splits, kindOf, index, groups, writtenSet}
 use Rattle.clusters.specs.Refined.{Quartet, doubledScore, refinedWeight, Compatible, Across, quartets}
-use Rattle.clusters.proofs.PairList.{score-symm, length-pairList}
+use Rattle.clusters.proofs.PairList.{score-symm}
 use Rattle.clusters.proofs.Groups.{line-of}
 use Rattle.clusters.proofs.Scored.{list-scored}
 use Rattle.clusters.proofs.Crossing.{refined-never-cross}

@@ -2,18 +2,15 @@
 use mathlib.Core.Path.{_≡_, ap, _∙_}
 use mathlib.Core.Bool.{cond}
 use mathlib.Core.List.{List}
-use Prim.Native.Nat.{ℕ, _+_, _<_, _≤_}
+use Prim.Native.Nat.{ℕ, _<_, _≤_}
 use native.Mathlib.Omega.{arith}
 use lib.Dec.{eqb}
 use lib.IntN.{ℤ, pos}
-use lib.ListN.{drop, length, getD, List·getD-append}
 use Rattle.pairs.specs.Pairs.{listNumber, pairOf}
 use Rattle.pairs.proofs.Pairs.{number-pair}
-use Rattle.clusters.specs.PairList.{Similarity, rowStart, score, pairList}
+use Rattle.clusters.specs.PairList.{Similarity, rowStart, score}
 use Rattle.clusters.specs.Farris.{farris, unfarris, anchoredScores, distancesBack}
-use Rattle.clusters.proofs.PairList.{length-pairList, row-lt, pairList-at, score-symm, score-row}
-use Rattle.answers.specs.declared.Answer.{Answer}
-use Rattle.answers.specs.Answers.{numberOf, answer, slots}
+use Rattle.clusters.proofs.PairList.{score-symm, score-row}
 use Rattle.interface.specs.Sheet.{entries, value, pairs}
 use Rattle.interface.specs.Refusals.{scoreRefusal}
 use Rattle.interface.specs.Calls.{ScoreInC}

@@ -4,19 +4,18 @@ use mathlib.Core.Bool.{Bool, true, false, not, cond, _||_}
 use mathlib.Core.Logic.{_⊎_, inl, inr, _≢_}
 use mathlib.Core.List.{List, _∷_, _++_, []}
 use Prim.Native.Nat.{ℕ, zero, _^_, _<_}
-use native.Mathlib.Omega.{arith}
-use lib.Dec.{T, T-not, lit<}
+use lib.Dec.{T, T-not}
 use lib.IntN.{ℤ, pos}
-use Rattle.lists.specs.Lists.{_∈_, _lists_, all}
-use Rattle.lists.proofs.Tests.{T-false, false-T}
+use Rattle.lists.specs.Lists.{_∈_}
+use Rattle.lists.proofs.Tests.{false-T}
 use Rattle.integers.specs.Integers.{eqZ}
 use Rattle.clusters.specs.PairList.{Similarity, Symmetric, score}
-use Rattle.clusters.specs.Groups.{Kind, strong, clean, splits, kindOf, index, groupSets, groups, setsOf}
+use Rattle.clusters.specs.Groups.{Kind, strong, clean, splits, kindOf, groupSets, setsOf}
 use Rattle.clusters.specs.Reordering.{image}
 use Rattle.clusters.specs.Nesting.{Hit, smallestShared}
 use Rattle.clusters.proofs.PairList.{score-symm}
-use Rattle.clusters.proofs.Groups.{in-groups, in-groupSets, groups-rise, groups-sets}
-use Rattle.clusters.proofs.Hierarchies.{Hierarchy, groups-hierarchy}
+use Rattle.clusters.proofs.Groups.{groups-rise, groups-sets}
+use Rattle.clusters.proofs.Hierarchies.{groups-hierarchy}
 use Rattle.clusters.proofs.Shared.{shared-swapped, shared-of-all, shared-line, shared-none, shared-holds, shared-all}
 use Rattle.clusters.proofs.Shared.{shared-inside, shared-only, shared-single}
 use Rattle.clusters.proofs.Images.{ofGroups, shared-image, shared-image-none}
