@@ -18,7 +18,8 @@ pub record Case : Type 0 where
 
 -- what the definitions give for a case: its lines, and the indices of the sets with no line
 unfoldable pub linesFound : Case → List (ℕ × ℕ × ℤ)
-linesFound c = map (λ g. (g .set, size (c .entries) (g .set), g .index)) (groups (c .kind) (c .entries) (score (c .pairs)))
+linesFound c =
+    map (λ g. (g .set, size (c .entries) (g .set), g .index)) (groups (c .kind) (c .entries) (score (c .pairs)))
 
 unfoldable pub unlistedFound : Case → List (ℕ × ℤ)
 unlistedFound c = map (λ (A, z). (A, index (c .kind) (c .entries) (score (c .pairs)) A)) (c .unlisted)

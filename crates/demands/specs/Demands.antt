@@ -15,7 +15,8 @@ use Rattle.clusters.specs.Indices.{cleanIndex, separationIndex}
 use Rattle.clusters.specs.Fillings.{Fills, LeastFilling}
 use Rattle.clusters.specs.Farris.{farris}
 use Rattle.clusters.specs.Linkage.{single, average, singles, Tree, blocks}
-use Rattle.clusters.specs.Groups.{Kind, strong, clean, splits, kindOf, Group, setsOf, HasLine, writtenSet, Rising, mostGroups}
+use Rattle.clusters.specs.Groups.{Kind, strong, clean, splits, kindOf, Group}
+use Rattle.clusters.specs.Groups.{setsOf, HasLine, writtenSet, Rising, mostGroups}
 use Rattle.clusters.specs.Reordering.{Permutation, Reordered, image}
 use Rattle.answers.specs.declared.Answer.{Answer}
 use Rattle.answers.specs.Answers.{numberOf, countOf}

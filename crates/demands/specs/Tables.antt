@@ -66,7 +66,7 @@ readerTable sheet =
 abbrev pub scoresTable : List ℕ → Table
 scoresTable sheet = readerTable sheet ++ ((11, PointsOut sheet) ∷ [])
 
--- of a pair list: 6 and 10; and with 11; and with 16 "right after 11" (document 02, 2.2); and with 12, "judged as kind 3"
+-- of a pair list: 6 and 10; with 11; with 16 "right after 11" (document 02, 2.2); with 12, "judged as kind 3"
 abbrev pub lengthTable : (n : ℕ) → List ℤ → Table
 lengthTable n l = (6, NoneOrOver32 n) ∷ (10, OtherLength n l) ∷ []
 

@@ -51,8 +51,8 @@ pub record ValueHanded (line : List ℕ) (at : ℕ) (r : ValueRead) : Type 0 whe
   pub refused : (Cell piece → ⊥)
       → (readNumber r ≡ 8) × (readPair r ≡ record { carries = Scored (pos 0) }) × (readPlace r ≡ 0)
 
--- "answers the listing's length in bytes, or minus the refusal number": the number in C of an answer with this refusal's
--- number, 0 for none, and this count. It determines both.
+-- "answers the listing's length in bytes, or minus the refusal number": the number in C of an answer with this
+-- refusal's number, 0 for none, and this count. It determines both.
 pub record NumberInC (number count : ℕ) (r : ℤ) : Type 0 where
   pub counted : (c : ℕ) → (r ≡ pos c) ↔ ((number ≡ 0) × (count ≡ c))
   pub refused : (k : ℕ) → 0 < k → (r ≡ negℤ (pos k)) ↔ (number ≡ k)

@@ -1,2 +1,1 @@
-// What the calls answer and write, and the demands: definitions in specs/, their laws and the demand theorems in
-// proofs/. No code.
+// What the calls answer and write, as their contracts cite it: definitions in specs/, their laws in proofs/. No code.

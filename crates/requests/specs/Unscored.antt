@@ -1,6 +1,6 @@
--- Request 2.2, pairs that were never compared, said of what the calls write. That the mark is "exempt from 11", and that
--- "Kinds 2 and 3, the linkage calls and the anchored scores get 16 .., placed right after 11", is in the tables of these
--- calls (demands/specs/Tables); that "the tree claim holds in every filling" is in demand 3.
+-- Request 2.2, pairs that were never compared, said of what the calls write. That the mark is "exempt from 11", and
+-- that "Kinds 2 and 3, the linkage calls and the anchored scores get 16 .., placed right after 11", is in the tables of
+-- these calls (demands/specs/Tables); that "the tree claim holds in every filling" is in demand 3.
 use mathlib.Core.Path.{_≡_}
 use mathlib.Core.Logic.{_≢_, _↔_}
 use mathlib.Core.List.{List}
