@@ -1,11 +1,13 @@
 #!/usr/bin/env python3
-"""What a reader is told of the statements is so: no line of a definition or of a contract is wider than 120 columns; the files that
-docs/PROMISES.md says to read have the lines that it says; every must-fail edit that it names is there; definitions that nobody need
-believe say so, and those that must be believed cite no others, nor the tests of the refusal table; each call has the contract that is named there; the man page has the header's calls and numbers, and the refusals in its
-words. The last line is `N passed, M failed`."""
+"""What a reader is told of the statements is so: no line of a definition or of a contract is wider than 120 columns; each promise of
+docs/PROMISES.md rests on as many lines as it says (scripts/believe); the files that it names are there, and so is every edit that must be refused;
+definitions that nobody need believe say so, and those that must be believed cite no others, nor the tests of the refusal table; no code stands on
+the demands and requests; each request has a file of statements and one of proofs; each call has the contract that is named there; the man page
+has the header's calls and numbers, and the refusals in its words. The last line is `N passed, M failed`."""
 import glob
 import os
 import re
+import subprocess
 
 os.chdir(os.path.join(os.path.dirname(os.path.abspath(__file__)), ".."))
 passed = failed = 0
@@ -33,23 +35,49 @@ promises = text("docs/PROMISES.md")
 wide = [f"{p}:{i}" for p in specs + sorted(glob.glob("crates/*/src/*.rt")) for i, line in enumerate(text(p).split("\n"), 1) if len(line) > 120]
 hold("definitions and contracts of at most 120 columns", wide)
 
-rows = re.findall(r"^\| (crates/\S+\.antt) \| (\d+) \|", promises, re.M)
-counted = {p: len(text(p).splitlines()) for p, _ in rows if os.path.exists(p)}
-hold("the files to read have the lines that docs/PROMISES.md says", [f"{p}: {counted.get(p)}, not {n}" for p, n in rows if counted.get(p) != int(n)])
-total = re.search(r"^([\d,]+) lines in all", promises, re.M)
-hold("and so many in all", [] if total and int(total[1].replace(",", "")) == sum(counted.values()) else [f"they are {sum(counted.values())}"])
+figures = re.findall(r"^\| [^|]+ \| ((?:`[\w.-]+` ?)+)\| ([\d,]+) \| ([\d,]+|-) \|$", promises, re.M)
+demands = ["Demand1", "Demand2", "Demand3", "TurnedAway", "Taken", "Written.Written", "InOrder", "LeastIndices"]
 
-believed = {"lists", "integers", "sets", "pairs", "clusters", "answers", "interface"}
+
+def lines_of(*words):
+    ran = subprocess.run(["scripts/believe", *words], capture_output=True, text=True, check=False)
+    last = re.search(r"(\d+) lines$", ran.stdout.strip())
+    return int(last[1]) if last else ran.stderr.strip()
+
+
+wrong = []
+for names, lines, beside in figures:
+    words = re.findall(r"`([^`]+)`", names)
+    for said, counted in ((lines, lines_of(*words)), (beside, lines_of(*words, "--beside", *demands) if beside != "-" else "-")):
+        if said.replace(",", "") != str(counted):
+            wrong.append(f"{names.strip()}: {counted}, not {said}")
+hold("every promise rests on the lines that docs/PROMISES.md says", wrong or ([] if len(figures) > 12 else [f"only {len(figures)} rows were found"]))
+few = [f"{names}: {lines}" for names, lines, beside in figures if int(lines.replace(",", "")) > 850 and names.split() == ["`Demand1`", "`Demand2`", "`Demand3`"]]
+few += [f"{names}: {beside}" for names, _, beside in figures if beside != "-" and int(beside.replace(",", "")) > 150]
+hold("the three demands rest on 850 lines or fewer, a request on 150 of its own", few)
+
+places = set(re.findall(r"\b([a-z]+)/(specs|proofs)/([A-Z]\w*)", promises))
+hold("every file that docs/PROMISES.md names is there", [f"{c}/{k}/{n}" for c, k, n in sorted(places) if not os.path.exists(f"crates/{c}/{k}/{n}.antt")] or ([] if len(places) > 60 else [f"only {len(places)} were found"]))
+
+believed = {"lists", "integers", "sets", "pairs", "clusters", "answers", "interface", "demands", "requests"}
 head = {p: text(p).split("\nuse ")[0].replace("\n-- ", " ") for p in specs}
 hold("what is the code's own vocabulary says so", [p for p in specs if p.split("/")[1] not in believed and "believe" not in head[p]])
-cited = [f"{p}: {c}" for p, _ in rows for c in re.findall(r"^use Rattle·([a-z]+)", text(p), re.M) if c not in believed]
+cited = [f"{p}: {c}" for p in specs if p.split("/")[1] in believed for c in re.findall(r"^use Rattle·([a-z]+)", text(p), re.M) if c not in believed]
 hold("what must be believed cites nothing else", cited)
 
-worded = [p for p, _ in rows if "/interface/" in p and not re.search(r"/(Calls|WholePoints)\.antt$", p)]
+worded = [p for p in specs if p.split("/")[1] in ("demands", "requests")]
 hold(
     "what is said in words cites no test of the refusal table",
-    [p for p in worded if "specs.Refusals." in text(p)] or ([] if len(worded) > 10 else [f"only {len(worded)} files were found"]),
+    [p for p in worded if "specs.Refusals." in text(p)] or ([] if len(worded) > 12 else [f"only {len(worded)} files were found"]),
 )
+stated = dict(re.findall(r"^(\w+):(.*)$", text("crates.txt"), re.M))
+hold(
+    "no code stands on the demands and requests",
+    [f"crates.txt: {c}" for c, needs in stated.items() if c != "requests" and {"demands", "requests"} & set(needs.split())]
+    + [p for p in glob.glob("crates/*/src/*.rt") if re.search(r"Rattle·(demands|requests)", text(p))],
+)
+rooms = {p.split("/")[3] for p in worded if "/requests/" in p}
+hold("each request has a file of statements and one of proofs", [p for p in rooms if not os.path.exists(f"crates/requests/proofs/{p}")] or ([] if len(rooms) > 5 else ["few were found"]))
 
 named = []
 tables = promises[promises.index("| in C |") : promises.index("## The sheet")] + promises[promises.index("## Wrong versions") :]
@@ -57,6 +85,7 @@ for section in re.findall(r"^\|.*$|^Further ones.*?(?=\n\n)", tables, re.M | re.
     for word in re.findall(r"(?<![\w/:`])(?:([a-z]+)/)?([a-z]+(?:_[a-zA-Z0-9]+)+)(?![\w(/])", section):
         named.append(word)
 edits = {tuple(p[:-5].split("/")[1::2]) for p in glob.glob("crates/*/must-fail/*.edit")}
+edits |= {("forged", p[:-5].split("/")[2]) for p in glob.glob("tests/forged/*.edit")}
 labels = {label for _, label in edits}
 functions = set(re.findall(r"fn (\w+)", "".join(text(p) for p in glob.glob("crates/*/src/*.rt"))))
 missing = [f"{c or '?'}/{label}" for c, label in named if ((c, label) not in edits if c else label not in labels | functions)]
