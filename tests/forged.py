@@ -46,15 +46,16 @@ def tried(path):
             for part in ("src", "specs", "proofs"):
                 if os.path.isdir(f"crates/{name}/{part}"):
                     shutil.copytree(f"crates/{name}/{part}", f"{top}/crates/{name}/{part}")
+        edited = {named.split("/")[1] for named, _, _ in parts if named}
         for folder in ("rlib", "stamp"):
             os.makedirs(f"{top}/target/{folder}")
-            for name in crates[:-1]:
+            for name in crates:
                 made = f"target/{folder}/{name}" + (".rlib" if folder == "rlib" else "")
-                (shutil.copytree if os.path.isdir(made) else shutil.copy)(made, f"{top}/{made}")
+                if not edited & set(below(name, [])):
+                    (shutil.copytree if os.path.isdir(made) else shutil.copy)(made, f"{top}/{made}")
         with open(f"{top}/crates.txt", "w", encoding="utf-8") as out:
             out.write("".join(f"{name}: {' '.join(needs[name])}\n" for name in crates))
         file = ""
-        edited = set()
         for named, old, new in parts:
             if named:
                 file = named
@@ -64,7 +65,6 @@ def tried(path):
                 return f"an old text is in {file} {whole.count(old)} times"
             with open(f"{top}/{file}", "w", encoding="utf-8") as out:
                 out.write(whole.replace(old, new))
-            edited.add(file.split("/")[1])
         ran = subprocess.run(["rt", "check", crate[1]], cwd=top, capture_output=True, text=True, check=False, env={**os.environ, "RT_JOBS": "1"})
         for name in edited:
             if not re.search(rf"^rt: {name} proved \(\d+ s\)$", ran.stdout, re.M):
