@@ -1,6 +1,6 @@
 -- A set that an unscored pair touches is never listed; of any other the strong index is that of the numbers as lent.
 use mathlib.Core.Path.{◌≡◌, refl, sym, ap, ◌∙◌, subst}
-use mathlib.Core.Bool.{not, xor, cond, not_not}
+use mathlib.Core.Bool.{not, xor, cond, not-not}
 use mathlib.Core.Logic.{◌⊎◌, inl, inr, ◌↔◌}
 use Prim.Native.Nat.{ℕ, ◌^◌, ◌<◌}
 use lib.IntN.{pos, neg_ℤ}
@@ -44,7 +44,7 @@ module _ (n : ℕ) (s : Similarity) (A : ℕ) where
   )
     where
       entry : (a : ℕ) → a < n → not (has (touched_entries n s) a) ≡ row_scored n s a
-      entry a ha = ap not (mask_has n (λ a. not (row_scored n s a)) a ha) ∙ not_not (row_scored n s a)
+      entry a ha = ap not (mask_has n (λ a. not (row_scored n s a)) a ha) ∙ not-not (row_scored n s a)
 
 -- the touched entries are those with an Unscored pair
 module _ (n : ℕ) (s : Similarity) where

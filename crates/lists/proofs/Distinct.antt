@@ -33,6 +33,7 @@ of_erase x (z ∷ l) {y} m = go (eqb z x) (of_erase x l) m
 
 pub in_erase : (x : ℕ) (l : List ℕ) {y : ℕ} → y ≢ x → y ∈ l → y ∈ erase x l
 unfolding erase
+in_erase x [] {y = y} ne m = elim m [ ]
 in_erase x (z ∷ l) {y} ne m = go (eqb z x) refl (in_erase x l ne) (Memᴰ.cases_cons m)
   where
     go : (b : Bool) → eqb z x ≡ b → (y ∈ l → y ∈ erase x l) → (y ≡ z) ⊎ (y ∈ l) → y ∈ cond b l (z ∷ erase x l)
@@ -43,6 +44,7 @@ in_erase x (z ∷ l) {y} ne m = go (eqb z x) refl (in_erase x l ne) (Memᴰ.case
 
 pub length_erase : (x : ℕ) (l : List ℕ) → x ∈ l → suc (length (erase x l)) ≡ length l
 unfolding erase
+length_erase x [] m = elim m [ ]
 length_erase x (z ∷ l) m = go (eqb z x) refl (length_erase x l) (Memᴰ.cases_cons m)
   where
     go : (b : Bool) → eqb z x ≡ b → (x ∈ l → suc (length (erase x l)) ≡ length l) → (x ≡ z) ⊎ (x ∈ l) → suc (length (cond b l (z ∷ erase x l))) ≡ suc (length l)
@@ -61,6 +63,7 @@ module _ {ℓ} {A : Type ℓ} where
   rest p = p.front ++ p.back
 
   pub placed : {x : A} (l : List A) → x ∈ l → Place x l
+  placed [] x'' = elim x'' [ ]
   placed (z ∷ l) (Memᴰ.head e) = record { front = []; back = l; split = ap (λ (w : A). w ∷ l) (sym e) }
   placed (z ∷ l) (Memᴰ.tail h) = let p = placed l h in record { front = z ∷ p.front; back = p.back; split = ap (λ (m : List A). z ∷ m) p.split }
 

@@ -46,9 +46,10 @@ lt_below (suc n) i h = go (lt_below n i) (ℕ_discrete i n)
     go ih (no f) = Memᴰ.append_left (n ∷ []) (ih (omega arith))
 
 module _ {ℓ κ} {A : Type ℓ} {B : Type κ} where
-  pub in_each : (f : A → List B) {l : List A} {x : A} {y : B} → x ∈ l → y ∈ f x → y ∈ each l f
+  pub in_each : (f : A → List B) {x : A} {l : List A} {y : B} → x ∈ l → y ∈ f x → y ∈ each l f
   unfolding each
-  in_each f {l = z ∷ l} {x} {y} (Memᴰ.head e) m = Memᴰ.append_left (each l f) (subst (λ (w : A). y ∈ f w) e m)
+  in_each f {x = x} {l = []} {y = y} x6 m = elim x6 [ ]
+  in_each f {x} {l = z ∷ l} {y} (Memᴰ.head e) m = Memᴰ.append_left (each l f) (subst (λ (w : A). y ∈ f w) e m)
   in_each f {l = z ∷ l} (Memᴰ.tail h) m = Memᴰ.append_right (f z) (in_each f h m)
 
   pub of_each : (l : List A) (f : A → List B) {y : B} → y ∈ each l f → (x : A) × (x ∈ l) × (y ∈ f x)
@@ -60,23 +61,25 @@ module _ {ℓ κ} {A : Type ℓ} {B : Type κ} where
       go ih (inl h) = (z, Memᴰ.head refl, h)
       go ih (inr h) = let r = ih h in (r.0, Memᴰ.tail r.1, r.2)
 
-  pub in_map : (f : A → B) {l : List A} {x : A} → x ∈ l → f x ∈ map f l
+  pub in_map : (f : A → B) {x : A} {l : List A} → x ∈ l → f x ∈ map f l
   in_map f (Memᴰ.head e) = Memᴰ.head (ap f e)
   in_map f (Memᴰ.tail h) = Memᴰ.tail (in_map f h)
 
   pub of_map : (f : A → B) (l : List A) {y : B} → y ∈ map f l → (x : A) × (x ∈ l) × (y ≡ f x)
+  of_map f [] {y = y} x' = elim x' [ ]
   of_map f (z ∷ l) (Memᴰ.head e) = (z, Memᴰ.head refl, e)
   of_map f (z ∷ l) (Memᴰ.tail h) = let r = of_map f l h in (r.0, Memᴰ.tail r.1, r.2)
 
 module _ {ℓ} {A : Type ℓ} (p : A → Bool) where
-  pub in_keep : {l : List A} {x : A} → x ∈ l → T (p x) → x ∈ keep p l
+  pub in_keep : {x : A} {l : List A} → x ∈ l → T (p x) → x ∈ keep p l
   unfolding keep
-  in_keep {l = z ∷ l} {x} (Memᴰ.head e) t = go (p z) (subst (λ (w : A). T (p w)) e t)
+  in_keep {x = x} {l = []} x6 t = elim x6 [ ]
+  in_keep {x} {l = z ∷ l} (Memᴰ.head e) t = go (p z) (subst (λ (w : A). T (p w)) e t)
     where
       go : (b : Bool) → T b → x ∈ cond b (z ∷ keep p l) (keep p l)
       go true t = Memᴰ.head e
       go false t = absurd t
-  in_keep {l = z ∷ l} {x} (Memᴰ.tail h) t = go (p z) (in_keep h t)
+  in_keep {x} {l = z ∷ l} (Memᴰ.tail h) t = go (p z) (in_keep h t)
     where
       go : (b : Bool) → x ∈ keep p l → x ∈ cond b (z ∷ keep p l) (keep p l)
       go true m = Memᴰ.tail m
@@ -158,6 +161,7 @@ map_cong f g (x ∷ l) h = ap₂ ◌∷◌ (h x (Memᴰ.head refl)) (map_cong f 
 module _ {ℓ} {A : Type ℓ} (p : A → Bool) where
   pub all_in : (l : List A) → T (all p l) → {x : A} → x ∈ l → T (p x)
   unfolding all
+  all_in [] t x4 = elim x4 [ ]
   all_in (y ∷ l) t (Memᴰ.head e) = subst (λ z. T (p z)) (sym e) (and_T (p y) (all p l) t).0
   all_in (y ∷ l) t (Memᴰ.tail m) = all_in l (and_T (p y) (all p l) t).1 m
 
@@ -182,6 +186,7 @@ some_fails {A = A} p (x ∷ l) t = go (p x) refl (some_fails p l)
     go false e ih = (x, Memᴰ.head refl, subst (λ b. T (not b)) (sym e) tt)
 
 pub of_map_cong {ℓ κ} : {A : Type ℓ} {B : Type κ} (f g : A → B) (l : List A) → map f l ≡ map g l → {x : A} → x ∈ l → f x ≡ g x
+of_map_cong {A = A} {B = B} f g [] e x4 = elim x4 [ ]
 of_map_cong f g (y ∷ l) e (Memᴰ.head q) = ap f q ∙ head-eq_of_cons-eq e ∙ sym (ap g q)
 of_map_cong f g (y ∷ l) e (Memᴰ.tail m) = of_map_cong f g l (tail-eq_of_cons-eq e) m
 
@@ -230,6 +235,7 @@ get_d_in (x ∷ l) zero d h = Memᴰ.head refl
 get_d_in (x ∷ l) (suc i) d h = Memᴰ.tail (get_d_in l i d (omega arith))
 
 pub place_of {ℓ} : {A : Type ℓ} (l : List A) (d : A) {x : A} → x ∈ l → (i : ℕ) × (i < length l) × (x ≡ get_or l i d)
+place_of {A = A} [] d x3 = elim x3 [ ]
 place_of (y ∷ l) d (Memᴰ.head e) = (0, omega arith, e)
 place_of (y ∷ l) d (Memᴰ.tail m) = let (i, h, e) = place_of l d m in (suc i, omega arith, e)
 

@@ -1,6 +1,6 @@
 -- Laws of sets of entries: members, unions, sizes.
 use mathlib.Core.Path.{◌≡◌, refl, sym, ap, ◌∙◌, subst}
-use mathlib.Core.Bool.{Bool, true, false, not, cond, ◌&&◌, not_not}
+use mathlib.Core.Bool.{Bool, true, false, not, cond, ◌&&◌, not-not}
 use mathlib.Core.Logic.{◌⊎◌, inl, inr, ◌≢◌}
 use mathlib.Core.List.{[], ◌∷◌, ◌++◌}
 use Prim.Native.Nat.{ℕ, zero, suc, ◌+◌, ◌*◌, ◌/◌, ◌%◌, ◌^◌, ◌≤◌, ◌<◌, max, min}
@@ -239,7 +239,7 @@ members_complement n A m h = keep_cong (has (complement n A)) (λ i. not (has A 
 pub others_complement : (n A m : ℕ) → m ≤ n → others m (complement n A) ≡ members m A
 unfolding members others
 others_complement n A m h =
-    keep_cong (λ i. not (has (complement n A) i)) (has A) (below m) (λ i k. ap not (complement_has n A (omega (arith, below_lt m k))) ∙ not_not (has A i))
+    keep_cong (λ i. not (has (complement n A) i)) (has A) (below m) (λ i k. ap not (complement_has n A (omega (arith, below_lt m k))) ∙ not-not (has A i))
 
 pub difference_lt : (n A B : ℕ) → difference n A B < 2 ^ n
 unfolding difference

@@ -1,6 +1,6 @@
 -- Names, piece by piece of a line.
 use mathlib.Core.Path.{◌≡◌, refl, sym, ap, ◌∙◌}
-use mathlib.Core.Bool.{Bool, true, false, ◌&&◌, ◌||◌, and-true, or_false}
+use mathlib.Core.Bool.{Bool, true, false, ◌&&◌, ◌||◌, and-true, or-false}
 use mathlib.Core.List.{List, [], ◌∷◌}
 use Prim.Native.Nat.{ℕ, suc, ◌+◌, ◌-◌, ◌≤◌, ◌<◌}
 use native.Mathlib.Omega.{arith}
@@ -62,7 +62,7 @@ module _ (line : List ℕ) (at end : ℕ) (inside : at ≤ length line) (is : en
 
   pub last_among : (w : List ℕ) → length line ≤ end → is_among w (cut 32 (drop at line)) ≡ same_bytes w (piece_at 32 line at)
   unfolding is_among
-  last_among w h = rw (pieces_last 32 line at end inside is h) (or_false _)
+  last_among w h = rw (pieces_last 32 line at end inside is h) (or-false _)
 
   pub more_among : (w : List ℕ) → end < length line → same_bytes w (piece_at 32 line at) ≡ false
       → is_among w (cut 32 (drop at line)) ≡ is_among w (cut 32 (drop (end + 1) line))

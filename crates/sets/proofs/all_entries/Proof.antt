@@ -3,13 +3,13 @@ use Rattle.sets.proofs.Subsets.{all_entries_shift}
 use Rattle.sets.proofs.all_entries.Statement.{statement}
 use Rattle.sets.proofs.all_entries.Tie as tie
 
-sub-result : tie.Need-overflow-sub-result
+sub-result : tie.Need-overflow_sub-result
 sub-result c = search rules
 
-cast-result : tie.Need-overflow-cast-result
+cast-result : tie.Need-overflow_cast-result
 cast-result c = search rules
 
-shr-result : tie.Need-overflow-shr-result
+shr-result : tie.Need-overflow_shr-result
 shr-result c = search rules
 
 returns : tie.Need-returns

@@ -5,7 +5,7 @@ use Rattle.sets.proofs.Sizes.{size_ones}
 use Rattle.sets.proofs.size.Statement.{statement}
 use Rattle.sets.proofs.size.Tie as tie
 
-cast-result : tie.Need-overflow-cast-result
+cast-result : tie.Need-overflow_cast-result
 cast-result c = omega (arith, ones-le 32 c.args.set c.ranges.set.fits)
 
 returns : tie.Need-returns
