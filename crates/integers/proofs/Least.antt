@@ -54,6 +54,7 @@ chosen m (x ∷ y ∷ l) = m x (chosen m (y ∷ l))
 module _ (m : ℤ → ℤ → ℤ) (R : ℤ → ℤ → Type 0) (c : Choice m R) where
   chosen_first : (l : List ℤ) {z : ℤ} → z ∈ l → R (chosen m l) z
   unfolding chosen
+  chosen_first [] {z = z} x' = elim x' [ ]
   chosen_first (x ∷ []) {z} (Memᴰ.head e) = subst (R x) (sym e) (c.itself x)
   chosen_first (x ∷ []) (Memᴰ.tail h) = absurd (Memᴰ.not-nil h)
   chosen_first (x ∷ y ∷ l) {z} (Memᴰ.head e) = subst (R (m x (chosen m (y ∷ l)))) (sym e) (c.left x (chosen m (y ∷ l)))
@@ -120,9 +121,11 @@ greatest_ge l h = rw (greatest_is l) (chosen_first max_z (λ a b. b ≤ℤ a) la
 
 -- of a list with an element, both are elements
 pub least_of : (l : List ℤ) {z : ℤ} → z ∈ l → least l ∈ l
+least_of [] {z = z} h = elim h [ ]
 least_of (x ∷ l) h = Memᴰ.cast (least_is (x ∷ l)) (chosen_in min_z ◌≤ℤ◌ smaller x l)
 
 pub greatest_of : (l : List ℤ) {z : ℤ} → z ∈ l → greatest l ∈ l
+greatest_of [] {z = z} h = elim h [ ]
 greatest_of (x ∷ l) h = Memᴰ.cast (greatest_is (x ∷ l)) (chosen_in max_z (λ a b. b ≤ℤ a) larger x l)
 
 -- two lists with the same numbers have one least and one greatest

@@ -103,6 +103,7 @@ max_assoc a b c = let l = max_left (max_z a b) c in
 module _ (f : ℕ → ℤ) (z : ℤ) where
   pub running_least : (l : List ℕ) {x : ℕ} → x ∈ l → f x ≤ℤ z → foldl (λ m x. min_z m (f x)) z l ≡ least (map f l)
   unfolding least
+  running_least [] m h = elim m [ ]
   running_least (y ∷ l) m h =
       let k = least_le (map f (y ∷ l)) (in_map f m) in
       let b : least (map f (y ∷ l)) ≤ℤ min_z z (least (map f (y ∷ l))) = min_above (omega zarith) (omega zarith) in
@@ -111,6 +112,7 @@ module _ (f : ℕ → ℤ) (z : ℤ) where
 
   pub running_greatest : (l : List ℕ) {x : ℕ} → x ∈ l → z ≤ℤ f x → foldl (λ m x. max_z m (f x)) z l ≡ greatest (map f l)
   unfolding greatest
+  running_greatest [] m h = elim m [ ]
   running_greatest (y ∷ l) m h =
       let k = greatest_ge (map f (y ∷ l)) (in_map f m) in
       let b : max_z z (greatest (map f (y ∷ l))) ≤ℤ greatest (map f (y ∷ l)) = max_below (omega zarith) (omega zarith) in

@@ -101,6 +101,7 @@ sum_nonneg l f h = subst (λ z. z ≤ℤ sum_of l f) (sum_zero l) (sum_mono l (�
 
 pub sum_erase : (U : ℕ) (bs : List ℕ) (f : ℕ → ℤ) → U ∈ bs → sum_of bs f ≡ f U +ℤ sum_of (erase U bs) f
 unfolding erase sum_of
+sum_erase U [] f m = elim m [ ]
 sum_erase U (C ∷ bs) f m = go (eqb C U) refl (sum_erase U bs f) (Memᴰ.cases_cons m)
   where
     go : (b : Bool) → eqb C U ≡ b → (U ∈ bs → sum_of bs f ≡ f U +ℤ sum_of (erase U bs) f) → (U ≡ C) ⊎ (U ∈ bs)
@@ -131,6 +132,7 @@ module _ {ℓ} {X : Type ℓ} where
 -- summands above 0, one or more of them, have a sum above 0
 pub sum_pos {ℓ} : {X : Type ℓ} (l : List X) (f : X → ℤ) → ((x : X) → x ∈ l → pos 0 <ℤ f x) → {x : X} → x ∈ l → pos 0 <ℤ sum_of l f
 unfolding sum_of up dn
+sum_pos {X = X} [] f h m = elim m [ ]
 sum_pos (y ∷ l) f h m =
     let k = h y (Memᴰ.head refl) in
     let r = sum_nonneg l f (λ x m. let p = h x (Memᴰ.tail m) in omega zarith) in

@@ -1,4 +1,6 @@
 // A pair of entries, as a pair list and a sheet have it (document 02, 2.2).
+#![tactic(auto)]
+
 ghost use Rattle.std.specs.Prelude.{◌≡◌};
 ghost use Rattle.integers.specs.Integers.{eq_z};
 ghost use Rattle.pairs.specs.Pairs.{mark, list_number, pair_of};

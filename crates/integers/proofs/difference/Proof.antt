@@ -3,7 +3,7 @@ use Rattle.integers.proofs.Range.{difference_fits}
 use Rattle.integers.proofs.difference.Statement.{statement}
 use Rattle.integers.proofs.difference.Tie as tie
 
-sub-result : tie.Need-overflow-sub-result
+sub-result : tie.Need-overflow_sub-result
 sub-result c = simp (to_z-of_z c.ranges.x, to_z-of_z c.ranges.y) (difference_fits c.requires.0 c.requires.1)
 
 returns : tie.Need-returns

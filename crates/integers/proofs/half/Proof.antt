@@ -5,7 +5,7 @@ use Rattle.integers.proofs.Halves.{half_fits}
 use Rattle.integers.proofs.half.Statement.{statement}
 use Rattle.integers.proofs.half.Tie as tie
 
-div-result : tie.Need-nonzero-div-result
+div-result : tie.Need-nonzero_div-result
 unfolding half
 div-result c = (lit< tt, rw (to_z-of_z c.ranges.x) (half_fits c.ranges.x))
 

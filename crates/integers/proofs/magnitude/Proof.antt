@@ -35,10 +35,10 @@ sized : (c : tie.After-larger) → to_z w64 (of_z w64 c.larger.result) ≡ pos (
 sized c =
     let s = c.before.before in
     let x = to_z-of_z s.ranges.x in
-    let d = passed w64 c.before.difference.type-inv (c.before.difference.ensures ∙ ap (λ z. pos 0 -ℤ z) x) in
-    passed w64 c.larger.type-inv (c.larger.ensures ∙ ap₂ max_z x d ∙ larger_is s.args.x)
+    let d = passed w64 c.before.difference.type_inv (c.before.difference.ensures ∙ ap (λ z. pos 0 -ℤ z) x) in
+    passed w64 c.larger.type_inv (c.larger.ensures ∙ ap₂ max_z x d ∙ larger_is s.args.x)
 
-cast-result : tie.Need-overflow-cast-result
+cast-result : tie.Need-overflow_cast-result
 cast-result c = rw (sized c) (tt, Fits-nat_abs tt c.before.before.ranges.x)
 
 returns : tie.Need-returns

@@ -5,7 +5,7 @@ use Rattle.integers.proofs.Range.{within_fits}
 use Rattle.integers.proofs.narrow.Statement.{statement}
 use Rattle.integers.proofs.narrow.Tie as tie
 
-cast-result : tie.Need-overflow-cast-result
+cast-result : tie.Need-overflow_cast-result
 cast-result c = rw (to_z-of_z c.ranges.x) (within_fits w32 (lit< tt) c.requires)
 
 returns : tie.Need-returns

@@ -3,7 +3,7 @@ use Rattle.integers.proofs.Range.{sum_fits}
 use Rattle.integers.proofs.sum.Statement.{statement}
 use Rattle.integers.proofs.sum.Tie as tie
 
-add-result : tie.Need-overflow-add-result
+add-result : tie.Need-overflow_add-result
 add-result c = simp (to_z-of_z c.ranges.x, to_z-of_z c.ranges.y) (sum_fits c.requires.0 c.requires.1)
 
 returns : tie.Need-returns

@@ -7,10 +7,10 @@ use Rattle.integers.proofs.Range.{times_fits}
 use Rattle.integers.proofs.times.Statement.{statement}
 use Rattle.integers.proofs.times.Tie as tie
 
-cast-result : tie.Need-overflow-cast-result
+cast-result : tie.Need-overflow_cast-result
 cast-result c = search rules
 
-mul_result : tie.Need-overflow-mul-result
+mul_result : tie.Need-overflow_mul-result
 mul_result c = let k : c.args.k < 2 ^ 63 = omega arith in
     simp (to_z-of_z c.ranges.x, to_z_pos w64 k) (times_fits c.args.k c.requires.0 c.requires.1)
 
