@@ -99,6 +99,7 @@ module _ (n : ℕ) (link : ℕ → ℕ → Quotient) (den : (P Q : ℕ) → 1 �
   -- of some pairs of blocks one has the greatest link
   top : (l : List (ℕ × ℕ)) → ((p : ℕ × ℕ) → p ∈ l → 0 < (at_pair p).den) → {x : ℕ × ℕ} → x ∈ l
       → (m : ℕ × ℕ) × (m ∈ l) × ((p : ℕ × ℕ) → p ∈ l → at_pair p ≼ at_pair m)
+  top [] g k = elim k [ ]
   top (x ∷ []) g k = (x, Memᴰ.head refl, λ p q. at p (Memᴰ.cases_cons q))
     where
       at : (p : ℕ × ℕ) → (p ≡ x) ⊎ (p ∈ []) → at_pair p ≼ at_pair x

@@ -30,6 +30,7 @@ among_in w (x ∷ l) t = go (or_T (same_bytes w x) (is_among w l) t) (among_in w
 
 pub in_among : (w : List ℕ) (l : List (List ℕ)) → w ∈ l → T (is_among w l)
 unfolding is_among
+in_among w [] x' = elim x' [ ]
 in_among w (x ∷ l) (Memᴰ.head e) = T_or_left (same_bytes w x) (is_among w l) (equal_same w x e)
 in_among w (x ∷ l) (Memᴰ.tail m) = T_or_right (same_bytes w x) (is_among w l) (in_among w l m)
 

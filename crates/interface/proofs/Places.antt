@@ -38,6 +38,7 @@ same_or_not v w = go (T_or_not (same_bytes v w))
 
 -- a name that is there has a place, and stands at it
 pub place_lt : (w : List ℕ) (l : List (List ℕ)) → w ∈ l → place_of w l < length l
+place_lt w [] m = elim m [ ]
 place_lt w (x ∷ l) m = go (same_or_not w x) (Memᴰ.cases_cons m) (place_lt w l)
   where
     go : (w ≡ x) ⊎ (w ≢ x) → (w ≡ x) ⊎ (w ∈ l) → (w ∈ l → place_of w l < length l) → place_of w (x ∷ l) < suc (length l)
@@ -46,6 +47,7 @@ place_lt w (x ∷ l) m = go (same_or_not w x) (Memᴰ.cases_cons m) (place_lt w 
     go (inr f) (inr k) ih = omega (arith, place_later w x l f, ih k)
 
 pub at_place : (w : List ℕ) (l : List (List ℕ)) → w ∈ l → get_or l (place_of w l) [] ≡ w
+at_place w [] m = elim m [ ]
 at_place w (x ∷ l) m = go (same_or_not w x) (Memᴰ.cases_cons m) (at_place w l)
   where
     go : (w ≡ x) ⊎ (w ≢ x) → (w ≡ x) ⊎ (w ∈ l) → (w ∈ l → get_or l (place_of w l) [] ≡ w) → get_or (x ∷ l) (place_of w (x ∷ l)) [] ≡ w
