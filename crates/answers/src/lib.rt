@@ -1,4 +1,6 @@
 // The answers of the calls, and what they say.
+#![tactic(auto)]
+
 use pairs::Pair;
 
 // How many slots were written, or the number of the refusal.

@@ -24,6 +24,7 @@ piece_free {c} (first_piece f r) m k = ⊎_elim (λ e. f (subst (λ (u : List �
 
 in_joined : (c x : ℕ) (ws : List (List ℕ)) {w : List ℕ} → w ∈ ws → x ∈ w → x ∈ joined c ws
 unfolding joined
+in_joined c x [] {w = w} m k = elim m [ ]
 in_joined c x (v ∷ []) m k = subst (λ (u : List ℕ). x ∈ u) (Memᴰ.eq_of_singleton m) k
 in_joined c x (v ∷ u ∷ ws) m k = ⊎_elim
     (λ e. Memᴰ.append_left (c ∷ joined c (u ∷ ws)) (subst (λ (w : List ℕ). x ∈ w) e k))

@@ -1,4 +1,6 @@
 // The sheet call, and the face in C of every call.
+#![tactic(auto)]
+
 ghost use Rattle.std.specs.Prelude.{◌≡◌, false, ◌^◌, ◌<◌, ◌≤◌, pos, neg_ℤ, length};
 ghost use Rattle.clusters.specs.PairList.{row_start};
 ghost use Rattle.clusters.specs.Linkage.{single, average};

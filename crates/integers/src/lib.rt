@@ -1,5 +1,7 @@
 // Whole numbers with a sign: definitions in specs/, laws in proofs/. The code is all signed arithmetic that the engine
 // does.
+#![tactic(auto)]
+
 ghost use Rattle.std.specs.Prelude.{◌≡◌, ◌-◌, ◌^◌, ◌≤◌, pos, nat_abs, ◌+ℤ◌, ◌-ℤ◌, ◌*ℤ◌};
 ghost use Rattle.std.specs.Int.Signed.{le_z};
 ghost use Rattle.integers.specs.Integers.{min_z, max_z, eq_z, half, even};

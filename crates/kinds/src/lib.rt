@@ -1,4 +1,6 @@
 // Kinds: what each speaks of, and its index.
+#![tactic(auto)]
+
 ghost use Rattle.std.specs.Prelude.{◌≡◌, ◌&&◌, ◌<◌, ◌≤◌, ◌^◌, T, leb, length};
 ghost use Rattle.integers.specs.Integers.{eq_z};
 ghost use Rattle.sets.specs.Sets.{size};

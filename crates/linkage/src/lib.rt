@@ -1,4 +1,6 @@
 // The blocks of a linkage, and the linkage calls.
+#![tactic(auto)]
+
 ghost use Rattle.std.specs.Prelude.{◌≡◌, ◌-◌, ◌*◌, ◌<◌, ◌≤◌, length, get_or, set};
 ghost use Rattle.clusters.specs.Linkage.{single, average, singles};
 ghost use Rattle.matrix.specs.Rows.{Cleared};

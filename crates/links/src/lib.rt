@@ -1,5 +1,7 @@
 // The links between the blocks of a linkage, in a table of rows of 32 numbers: made from the scores, kept up to date
 // by merges, and searched for the greatest.
+#![tactic(auto)]
+
 ghost use Rattle.std.specs.Prelude.{◌≡◌, ◌+◌, ◌*◌, ◌^◌, ◌<◌, ◌≤◌, length};
 ghost use Rattle.integers.specs.Range.{Within};
 ghost use Rattle.clusters.specs.PairList.{row_start, score};

@@ -1,5 +1,7 @@
 // The pair list as lent: scores looked up by two entries, or all of one entry, and checks 6, 10 to 12 and 16 (document
 // 01, Where a call is turned away; document 02, 2.2).
+#![tactic(auto)]
+
 ghost use Rattle.std.specs.Prelude.{◌≡◌, ◌+◌, ◌<◌, ◌≤◌, pos, length, get_or};
 ghost use Rattle.std.specs.Int.Signed.{le_z};
 ghost use Rattle.lists.specs.Lists.{all, below};

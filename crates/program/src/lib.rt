@@ -1,5 +1,7 @@
 // What the programs do: a sheet from standard input, and its listing, or `refused N` and a line feed, to standard
 // output.
+#![tactic(auto)]
+
 use answers::Answer;
 use libc::{STDIN_FILENO, STDOUT_FILENO};
 

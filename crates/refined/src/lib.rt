@@ -1,4 +1,6 @@
 // The refined weight of a split (document 02, 2.5).
+#![tactic(auto)]
+
 ghost use Rattle.std.specs.Prelude.{◌≡◌, ◌*◌, ◌<◌, ◌≤◌, length, take};
 ghost use Rattle.integers.specs.Integers.{Sorted};
 ghost use Rattle.sets.specs.Sets.{others};

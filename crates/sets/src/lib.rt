@@ -1,4 +1,6 @@
 // Sets of up to 32 entries, as numbers: definitions in specs/, laws in proofs/.
+#![tactic(auto)]
+
 ghost use Rattle.std.specs.Prelude.{◌≡◌, ◌<◌, ◌≤◌, ◌^◌, eqb};
 ghost use Rattle.std.specs.Int.Bits.{bit_and};
 ghost use Rattle.sets.specs.Sets.{has, size, ◌∪◌, all_entries};

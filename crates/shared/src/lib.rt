@@ -1,4 +1,6 @@
 // The smallest group that two entries share (document 02, 2.1).
+#![tactic(auto)]
+
 ghost use Rattle.std.specs.Prelude.{◌≡◌, ◌<◌, ◌≤◌};
 ghost use Rattle.clusters.specs.Nesting.{holds_both, smallest_shared};
 ghost use Rattle.answers.specs.Shared.{shared_answer};

@@ -1,3 +1,5 @@
+#![tactic(auto)]
+
 ghost use Rattle.std.specs.Prelude.{◌≡◌, ◌≤◌, ◌<◌, length};
 ghost use Rattle.lists.specs.Lists.{all};
 ghost use Rattle.interface.specs.Sheet.{space, cut, is_name, entries, same_bytes, is_among, has_equal};

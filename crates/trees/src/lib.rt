@@ -1,4 +1,6 @@
 // The tree in which every group of a kind is found.
+#![tactic(auto)]
+
 ghost use Rattle.std.specs.Prelude.{◌≡◌, ◌++◌, ◌+◌, ◌-◌, ◌≤◌, length, take, drop};
 ghost use Rattle.clusters.specs.Linkage.{singles};
 ghost use Rattle.clusters.specs.Groups.{splits};

@@ -1,4 +1,6 @@
 // The triangle view: the pair list as lent, with its number of entries (document 01, The sheet).
+#![tactic(auto)]
+
 ghost use Rattle.std.specs.Prelude.{◌≡◌};
 ghost use Rattle.interface.specs.Refusals.{score_refusal};
 ghost use Rattle.interface.specs.Calls.{pair_among};

@@ -1,4 +1,6 @@
 // The sheet writer.
+#![tactic(auto)]
+
 ghost use Rattle.std.specs.Prelude.{◌≡◌, ◌++◌, ◌∷◌, [], ◌+◌, ◌*◌, ◌≤◌, ◌<◌, T, length, drop};
 ghost use Rattle.pairs.specs.Pairs.{carried};
 ghost use Rattle.clusters.specs.PairList.{row_start, score, scores_in_range};
