@@ -13,14 +13,14 @@ ghost use Rattle.accept.specs.Read.{PairsRead};
 use answers::ValueRead;
 
 // A value's number in the pair list and the length of its text; or no value is read.
-#[derive(Drop)]
+#[derive(Clone, Copy)]
 enum CellRead {
     Cell(i32, usize),
     Unread,
 }
 
 // Digits as a number, and how many they are.
-#[derive(Drop)]
+#[derive(Clone, Copy)]
 struct Digits {
     number: u32,
     size: usize,
@@ -229,14 +229,14 @@ fn read_row(
 }
 
 // A name as a number, its bytes the digits in base 256, and its length.
-#[derive(Drop)]
+#[derive(Clone, Copy)]
 struct Name {
     packed: u64,
     size: usize,
 }
 
 // The names: how many, 0 if they are not accepted, and where the value lines start.
-#[derive(Drop)]
+#[derive(Clone, Copy)]
 pub struct Names {
     pub count: usize,
     pub next: usize,

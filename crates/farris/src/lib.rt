@@ -17,7 +17,7 @@ ghost use Rattle.farris.specs.Ways.{converted, Convertible};
 use answers::Answer;
 
 // To the anchored scores, at an anchor, or back.
-#[derive(Drop)]
+#[derive(Clone, Copy)]
 enum Way {
     Anchored(usize),
     Back,

@@ -11,7 +11,7 @@ ghost use Rattle.interface.specs.Refusals.{wrong_kind, wrong_group_kind, wrong_u
 ghost use Rattle.kinds.specs.Kinds.{kind_for, Accepted};
 
 // Strong groups, clean groups, Buneman splits.
-#[derive(Drop)]
+#[derive(Clone, Copy)]
 pub enum Kind {
     Strong,
     Clean,

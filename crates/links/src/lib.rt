@@ -89,7 +89,7 @@ pub fn move_row(last: usize, j: usize, t: &mut [i64])
 }
 
 // Two places of the table, in rising order, and the link of the blocks there: numerator and denominator.
-#[derive(Drop)]
+#[derive(Clone, Copy)]
 pub struct Found {
     pub i: usize,
     pub j: usize,

@@ -131,7 +131,7 @@ fn is_scored(v: i32) -> bool
 }
 
 // What 11 and 16 ask of each number of a pair list.
-#[derive(Drop)]
+#[derive(Clone, Copy)]
 enum Test {
     Range,
     Score,

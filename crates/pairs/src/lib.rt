@@ -6,13 +6,13 @@ ghost use Rattle.integers.specs.Integers.{eq_z};
 ghost use Rattle.pairs.specs.Pairs.{mark, list_number, pair_of};
 
 // A score, or the mark unscored.
-#[derive(Drop)]
+#[derive(Clone, Copy)]
 pub enum Carried {
     Scored(i32),
     Unscored,
 }
 
-#[derive(Drop)]
+#[derive(Clone, Copy)]
 pub struct Pair {
     pub carries: Carried,
 }

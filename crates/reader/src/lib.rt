@@ -215,7 +215,7 @@ fn piece_start(line: &[u8], i: usize) -> usize
 }
 
 // A part of the sheet, from its start up to its end.
-#[derive(Drop)]
+#[derive(Clone, Copy)]
 pub struct Part {
     pub start: usize,
     pub end: usize,

@@ -21,21 +21,21 @@ use answers::{Cursor, ValueRead};
 use pairs::{Carried, Pair};
 
 // Classes of bytes.
-#[derive(Drop)]
+#[derive(Clone, Copy)]
 pub enum Class {
     NameByte,
     Allowed,
 }
 
 // A number and the place after it, or no number is well formed.
-#[derive(Drop)]
+#[derive(Clone, Copy)]
 enum NumberRead {
     Number(i32, Cursor),
     IllFormed,
 }
 
 // Digits as a number, and the place after them.
-#[derive(Drop)]
+#[derive(Clone, Copy)]
 struct Digits {
     number: u32,
     end: usize,
