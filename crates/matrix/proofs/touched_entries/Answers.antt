@@ -1,0 +1,34 @@
+use mathlib.Core.Path.{sym, ap, ◌∙◌}
+use mathlib.Core.Bool.{not}
+use Prim.Native.Nat.{ℕ, ◌-◌}
+use native.Mathlib.Omega.{arith}
+use Rattle.lists.proofs.Tests.{true_T}
+use Rattle.clusters.specs.PairList.{score}
+use Rattle.clusters.specs.Touched.{touched_entries}
+use Rattle.clusters.proofs.Scored.{list_scored}
+use Rattle.sets.specs.Sets.{◌∪◌}
+use Rattle.matrix.proofs.Touched.{join_started, join_less, join_more, join_ended, none_touched}
+use Rattle.matrix.proofs.touched_entries.Goals as goal
+
+pub returns-then-not-has_unscored : goal.returns-then-not-has_unscored
+returns-then-not-has_unscored c = let s = c.before.before in
+    none_touched s.args.n (score s.args.pairs.now)
+    (list_scored s.args.n s.args.pairs.now s.requires.1 (true_T (ap not (sym c.has_unscored.ensures) ∙ (ap not c.if-not-has_unscored.true))))
+
+pub loop-a-init : goal.loop-a-init
+loop-a-init c = (omega arith, join_started)
+
+pub loop-a-preserved-then-is_row_scored : goal.loop-a-preserved-then-is_row_scored
+loop-a-preserved-then-is_row_scored c = (omega arith, join_less c.loop-a.invariant.1 (ap not (sym c.is_row_scored.ensures ∙ c.if-is_row_scored.true)))
+
+pub loop-a-preserved : goal.loop-a-preserved
+loop-a-preserved c = let e = c.before.before in
+    let l = e.loop-a in (
+      omega arith,
+      join_more l.invariant.1 (omega arith) (ap not (sym e.is_row_scored.ensures ∙ e.if-is_row_scored.false))
+          (c.union-touched.ensures ∙ ap (λ (B : ℕ). l.touched ∪ B) c.single.ensures),
+    )
+
+pub returns : goal.returns
+unfolding touched_entries
+returns c = join_ended c.loop-a.invariant.1 (omega arith)
