@@ -13,6 +13,16 @@ ghost use Rattle.listing.specs.Over.{HandedOver};
 
 use answers::Answer;
 
+// Copies the bytes of from to the start of out, and answers their number.
+pub fn copy(from: &[u8], out: &mut [u8]) -> usize
+    requires { length from.now ≤ length out.old }
+    ensures { (result ≡ length from.now)
+        × (out.new ≡ take (length from.now) from.now ++ drop (length from.now) out.old) }
+{
+    out[..from.len()].copy_from_slice(from);
+    from.len()
+}
+
 fn digit(k: usize) -> u8
     requires { k < 16 }
     ensures { result ≡ digit k }
@@ -130,7 +140,7 @@ pub fn write(out: &mut [u8], sets: &[u32], indices: &[i64], count: usize) -> usi
         ≡ listing (map (line_of 32) (groups_in count sets.now indices.now))
         ++ drop result out.old }
 {
-    let at = bytes::copy(b"set size index\n", out);
+    let at = copy(b"set size index\n", out);
     put_lines(out, at, sets, indices, count)
 }
 
@@ -142,7 +152,7 @@ pub fn hand_over(text: &[u8], written: usize, out: &mut [u8]) -> Answer
     if out.len() < written {
         return Answer::Refused(14);
     }
-    bytes::copy(&text[..written], out);
+    copy(&text[..written], out);
     Answer::Count(written)
 }
 
