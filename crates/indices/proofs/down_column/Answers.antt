@@ -1,0 +1,74 @@
+use mathlib.Core.Path.{◌≡◌, ap}
+use Prim.Native.Nat.{◌-◌, ◌<◌}
+use native.Mathlib.Omega.{arith}
+use Rattle.integers.proofs.Range.{within_equal}
+use Rattle.clusters.specs.PairList.{score}
+use Rattle.matrix.specs.Rows.{number}
+use Rattle.matrix.proofs.Places.{next_column, place_few, score_asked}
+use Rattle.indices.proofs.Seen.{seen_more, seen_end}
+use Rattle.indices.proofs.down_column.Goals.{After-place_of}
+use Rattle.indices.proofs.down_column.Goals as goal
+
+pub place_of-requires : goal.place_of-requires
+place_of-requires c = (omega (arith, c.requires.0.few), omega (arith, c.requires.0.few))
+
+small c (c : After-place_of) → c.place_of.result < 528
+small c = let g = c in
+    omega (arith, place_few {a = g.args.x} {b = g.args.x} (omega (arith, g.requires.0.few)) (omega (arith, g.requires.0.few)), c.place_of.ensures)
+
+pub overflow_add-at : goal.overflow_add-at
+overflow_add-at c = omega (arith, small c, c.requires.0.few)
+
+pub overflow_add-at-2 : goal.overflow_add-at-2
+overflow_add-at-2 c = omega (arith, small c, c.requires.0.few)
+
+pub overflow_step-y : goal.overflow_step-y
+overflow_step-y c = omega (arith, c.requires.0.few)
+
+pub loop-y-init : goal.loop-y-init
+loop-y-init c = let g = c in (
+  omega arith,
+  omega arith,
+  omega (arith, c.place_of.ensures, next_column g.args.x g.args.x (omega arith)),
+  g.requires.5,
+)
+
+pub with_value-seen-requires : goal.with_value-seen-requires
+unfolding score
+with_value-seen-requires c = let g = c in
+    let l = c.loop-y in (
+      omega (arith, (score_asked g.requires.0 {a = g.args.x} {b = l.y} (omega arith) (omega arith)).2),
+      within_equal (ap (number g.args.pairs.now) l.invariant.2) (g.requires.2 l.y (omega arith)),
+      record { long = omega (arith, g.requires.3.long); small c.before.before λ z h. g.requires.3.small z (omega arith) },
+      record { long = omega (arith, g.requires.4.long); small c.before.before λ z h. g.requires.4.small z (omega arith) },
+    )
+
+pub overflow_add-at-in-loop-y : goal.overflow_add-at-in-loop-y
+overflow_add-at-in-loop-y c = omega (arith, c.requires.0.few)
+
+pub overflow_add-at-in-loop-y-2 : goal.overflow_add-at-in-loop-y-2
+overflow_add-at-in-loop-y-2 c = let s = c in
+    let g = s in
+    omega (arith, g.requires.0.few, place_few {a = g.args.x} {b = s.loop-y.y} (omega (arith, g.requires.0.few)) (omega (arith, g.requires.0.few)))
+
+pub overflow_step-y-in-loop-y : goal.overflow_step-y-in-loop-y
+overflow_step-y-in-loop-y c = omega (arith, c.requires.0.few)
+
+pub loop-y-smaller : goal.loop-y-smaller
+loop-y-smaller c = omega arith
+
+pub loop-y-preserved : goal.loop-y-preserved
+unfolding score
+loop-y-preserved c = let s = c in
+    let l = s.loop-y in
+    let g = s in (
+      omega arith,
+      omega arith,
+      omega (arith, l.invariant.2, next_column g.args.x l.y (omega arith)),
+      seen_more l.invariant.3 (ap (number g.args.pairs.now) l.invariant.2) c.with_value-seen.ensures.0 c.with_value-seen.ensures.1,
+    )
+
+pub returns : goal.returns
+returns c = let s = c in
+    let e : s.loop-y.y ≡ s.args.n = omega arith in
+    seen_end e s.loop-y.invariant.3
