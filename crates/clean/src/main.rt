@@ -1,6 +1,8 @@
 // The clean groups of the sheet on standard input.
 #![tactic(auto)]
 
-fn main() {
-    program::run(2);
+use std::io;
+
+fn main(rt: HostRuntime) -> io::Result<()> {
+    program::run(&rt, 2)
 }

@@ -151,17 +151,16 @@ fn as_i32(number: usize) -> i32
     number as i32
 }
 
-// The faces in C, which include/farzhudyl.h declares: a count is answered as it is, a refusal as minus its number.
+// The faces in C, which crate farzhudyl_c exports and include/farzhudyl.h declares: a count is answered as it is, a
+// refusal as minus its number.
 
-#[unsafe(no_mangle)]
-pub extern "C" fn farzhudyl_listing(kind: i32, sheet: &[u8], out: &mut [u8]) -> i64
+pub fn farzhudyl_listing(kind: i32, sheet: &[u8], out: &mut [u8]) -> i64
     ensures { CCall kind sheet.now out.old result out.new }
 {
     as_number(listing(kind, sheet, out))
 }
 
-#[unsafe(no_mangle)]
-pub extern "C" fn farzhudyl_numbers(
+pub fn farzhudyl_numbers(
     kind: i32,
     n: usize,
     pairs: &[i32],
@@ -174,58 +173,42 @@ pub extern "C" fn farzhudyl_numbers(
     as_number(groups::numbers(kind, n, pairs, sets, indices))
 }
 
-#[unsafe(no_mangle)]
-pub extern "C" fn farzhudyl_single_linkage(n: usize, pairs: &[i32], blocks: &mut [u32]) -> i64
+pub fn farzhudyl_single_linkage(n: usize, pairs: &[i32], blocks: &mut [u32]) -> i64
     ensures { InC (λ a. LinkageCall single n pairs.now
         blocks.old a blocks.new) result }
 {
     as_number(linkage::single_linkage(n, pairs, blocks))
 }
 
-#[unsafe(no_mangle)]
-pub extern "C" fn farzhudyl_average_linkage(n: usize, pairs: &[i32], blocks: &mut [u32]) -> i64
+pub fn farzhudyl_average_linkage(n: usize, pairs: &[i32], blocks: &mut [u32]) -> i64
     ensures { InC (λ a. LinkageCall average n pairs.now
         blocks.old a blocks.new) result }
 {
     as_number(linkage::average_linkage(n, pairs, blocks))
 }
 
-#[unsafe(no_mangle)]
-pub extern "C" fn farzhudyl_anchored_scores(
-    n: usize,
-    anchor: usize,
-    pairs: &[i32],
-    out: &mut [i32],
-) -> i64
+pub fn farzhudyl_anchored_scores(n: usize, anchor: usize, pairs: &[i32], out: &mut [i32]) -> i64
     ensures { InC (λ a. AnchoredCall n anchor pairs.now
         out.old a out.new) result }
 {
     as_number(farris::anchored_scores(n, anchor, pairs, out))
 }
 
-#[unsafe(no_mangle)]
-pub extern "C" fn farzhudyl_distances_back(
-    n: usize,
-    anchor: usize,
-    scores: &[i32],
-    out: &mut [i32],
-) -> i64
+pub fn farzhudyl_distances_back(n: usize, anchor: usize, scores: &[i32], out: &mut [i32]) -> i64
     ensures { InC (λ a. BackCall n anchor scores.now
         out.old a out.new) result }
 {
     as_number(farris::distances_back(n, anchor, scores, out))
 }
 
-#[unsafe(no_mangle)]
-pub extern "C" fn farzhudyl_pair_list(sheet: &[u8], pairs: &mut [i32; 528]) -> i64
+pub fn farzhudyl_pair_list(sheet: &[u8], pairs: &mut [i32; 528]) -> i64
     ensures { InC (λ a. ReaderCall sheet.now pairs.old a pairs.new) result }
 {
     as_number(reader::read(sheet, pairs))
 }
 
 // A C function hands no part of the sheet back: the part's length is answered, and its start goes to a slot.
-#[unsafe(no_mangle)]
-pub extern "C" fn farzhudyl_name(sheet: &[u8], entry: usize, start: &mut usize) -> usize
+pub fn farzhudyl_name(sheet: &[u8], entry: usize, start: &mut usize) -> usize
     ensures { NameInC sheet.now entry result start.new }
 {
     let part = reader::name_part(sheet, entry);
@@ -235,14 +218,7 @@ pub extern "C" fn farzhudyl_name(sheet: &[u8], entry: usize, start: &mut usize) 
 
 // A score may be negative, so it goes to a slot, as its number in the pair list; 0 is answered, or the refusal's
 // number.
-#[unsafe(no_mangle)]
-pub extern "C" fn farzhudyl_score(
-    n: usize,
-    pairs: &[i32],
-    a: usize,
-    b: usize,
-    score: &mut i64,
-) -> i32
+pub fn farzhudyl_score(n: usize, pairs: &[i32], a: usize, b: usize, score: &mut i64) -> i32
     ensures { ScoreInC n pairs.now a b score.old result score.new }
 {
     let number = triangle::score_refusal(n, pairs, a, b);
@@ -254,8 +230,7 @@ pub extern "C" fn farzhudyl_score(
 }
 
 // The line is answered, and the set goes to a slot; on refusal 0 does.
-#[unsafe(no_mangle)]
-pub extern "C" fn farzhudyl_smallest_shared(
+pub fn farzhudyl_smallest_shared(
     kind: i32,
     n: usize,
     pairs: &[i32],
@@ -278,8 +253,7 @@ pub extern "C" fn farzhudyl_smallest_shared(
     }
 }
 
-#[unsafe(no_mangle)]
-pub extern "C" fn farzhudyl_pool(first: &[u8], second: &[u8], out: &mut [u8]) -> i64
+pub fn farzhudyl_pool(first: &[u8], second: &[u8], out: &mut [u8]) -> i64
     ensures { InC (λ a. PoolCall first.now second.now
         out.old a out.new) result }
 {
@@ -287,13 +261,7 @@ pub extern "C" fn farzhudyl_pool(first: &[u8], second: &[u8], out: &mut [u8]) ->
 }
 
 // A weight may be negative, so it goes to a slot, on refusal 0; 0 is answered, or the refusal's number.
-#[unsafe(no_mangle)]
-pub extern "C" fn farzhudyl_refined_weight(
-    n: usize,
-    pairs: &[i32],
-    side: u32,
-    weight: &mut i64,
-) -> i32
+pub fn farzhudyl_refined_weight(n: usize, pairs: &[i32], side: u32, weight: &mut i64) -> i32
     ensures { RefinedInC n pairs.now side result weight.new }
 {
     let answer = refined::refined_weight(n, pairs, side);

@@ -2,26 +2,37 @@
 // output.
 #![tactic(auto)]
 
-use answers::Answer;
-use libc::{STDIN_FILENO, STDOUT_FILENO};
+ghost use Rattle.std.specs.Prelude.{◌≤◌, length, IfOk};
 
-fn write_refusal(number: usize) {
-    io::write_all(STDOUT_FILENO, b"refused ");
-    io::print_decimal(STDOUT_FILENO, number as u64);
-    io::write_all(STDOUT_FILENO, b"\n");
+use answers::Answer;
+use std::io;
+use std::io::{Read, Write};
+
+// Reads until the buffer is full or the input ends, and says how many bytes came.
+fn read_full<R: Read>(reader: &mut R, buffer: &mut [u8]) -> io::Result<usize>
+    ensures { IfOk result (λ size. size ≤ length buffer.new) }
+{
+    let mut size = 0;
+    while size < buffer.len() {
+        let count = reader.read(&mut buffer[size..])?;
+        if count == 0 {
+            break;
+        }
+        size += count;
+    }
+    Ok(size)
 }
 
 // The input has room for one byte more than a sheet may have, so that check 2 refuses a longer one; the output for
 // every listing.
-pub fn run(kind: i32) {
+pub fn run<R: Input + Print>(rt: &R, kind: i32) -> io::Result<()> {
     let mut input = [0u8; 12289];
     let mut output = [0u8; 2048];
-    let size = io::read_full(STDIN_FILENO, &mut input);
+    let mut reader = rt.reader();
+    let size = read_full(&mut reader, &mut input)?;
     let answer = farzhudyl::listing(kind, &input[..size], &mut output);
     match answer {
-        Answer::Count(length) => {
-            io::write_all(STDOUT_FILENO, &output[..length]);
-        }
-        Answer::Refused(number) => write_refusal(number),
+        Answer::Count(length) => io::writer(rt).write_all(&output[..length]),
+        Answer::Refused(number) => println!(rt; "refused {number}"),
     }
 }

@@ -1,6 +1,8 @@
 // The splits of the sheet on standard input.
 #![tactic(auto)]
 
-fn main() {
-    program::run(3);
+use std::io;
+
+fn main(rt: HostRuntime) -> io::Result<()> {
+    program::run(&rt, 3)
 }

@@ -1,6 +1,8 @@
 // The strong groups of the sheet on standard input.
 #![tactic(auto)]
 
-fn main() {
-    program::run(1);
+use std::io;
+
+fn main(rt: HostRuntime) -> io::Result<()> {
+    program::run(&rt, 1)
 }
