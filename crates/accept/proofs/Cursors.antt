@@ -1,18 +1,15 @@
 -- Where the cells of the value lines start.
-use mathlib.Core.Path.{◌≡◌, refl, sym, ap, ◌∙◌, subst}
-use mathlib.Core.Bool.{not}
+use mathlib.Core.Path.{◌≡◌, sym, ap, ◌∙◌, subst}
 use mathlib.Core.List.{List, [], ◌∷◌, ◌++◌, append_assoc}
 use mathlib.Core.Logic.{◌⊎◌, inl, inr}
 use Prim.Native.Nat.{ℕ, suc, ◌+◌, ◌≤◌, ◌<◌}
-use native.Mathlib.Numerals.{add-one}
 use native.Mathlib.Omega.{arith}
-use lib.Dec.{eqb}
 use lib.IntN.{ℤ}
 use lib.ListN.{length, get_or, drop, length-drop}
-use lib.Seq.{drop-cons, drop-drop, get_or-drop}
+use lib.Seq.{drop-drop, get_or-drop}
 use Rattle.lists.specs.Lists.{all}
 use Rattle.lists.proofs.Lists.{drop_first, drop_others}
-use Rattle.interface.specs.Sheet.{longer, cut, lines, words}
+use Rattle.interface.specs.Sheet.{cut, lines, words}
 use Rattle.interface.specs.Calls.{piece_at}
 use Rattle.interface.proofs.Pieces.{free, free_append, cut_last, cut_first, cut_front}
 use Rattle.interface.proofs.Values.{word_no_space, word_no_feed, cell_word}

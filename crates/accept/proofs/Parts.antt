@@ -1,18 +1,16 @@
 -- Parts of a sheet, byte by byte, and the digits in them.
 use mathlib.Core.Path.{◌≡◌, refl, sym, ap, ap₂, ◌∙◌, subst}
-use mathlib.Core.Bool.{Bool, true}
-use mathlib.Core.List.{List, [], ◌∷◌, ◌++◌, map, append_assoc}
-use Prim.Native.Nat.{ℕ, suc, ◌+◌, ◌-◌, ◌*◌, ◌^◌, ◌≤◌, ◌<◌}
+use mathlib.Core.Bool.{true}
+use mathlib.Core.List.{List, [], ◌∷◌, ◌++◌, append_assoc}
+use Prim.Native.Nat.{ℕ, suc, ◌+◌, ◌-◌, ◌*◌, ◌≤◌, ◌<◌}
 use native.Mathlib.Numerals.{add-one}
 use native.Mathlib.Omega.{arith}
-use native.Mathlib.Decide.{ℕ_discrete}
 use lib.Dec.{T, lit<}
 use lib.ListN.{length, get_or, drop, length-drop}
 use lib.Seq.{take-suc, get_or-drop, get_or-take, length-take-le, drop-drop, split_at}
-use Rattle.lists.specs.Lists.{all, below}
-use Rattle.lists.proofs.Lists.{get_d_below}
-use Rattle.lists.proofs.Tests.{T_true, true_T, and_T, T_and}
-use Rattle.interface.specs.Sheet.{is_digit, digit_value, number_from}
+use Rattle.lists.specs.Lists.{all}
+use Rattle.lists.proofs.Tests.{T_true, true_T, T_and}
+use Rattle.interface.specs.Sheet.{is_digit, number_from}
 use Rattle.interface.proofs.Pieces.{all_append}
 use Rattle.interface.proofs.Digits.{ten_bound}
 use Rattle.interface.proofs.Numerals.{number_last}

@@ -4,7 +4,6 @@ use mathlib.Core.Bool.{Bool, true, false, not, true≢false}
 use mathlib.Core.List.{List, [], ◌∷◌, ◌++◌, map}
 use Prim.Native.Nat.{ℕ, zero, suc, ◌+◌, ◌≤◌, ◌<◌}
 use native.Mathlib.Omega.{arith}
-use native.Mathlib.Numerals.{add-one}
 use native.Mathlib.Decide.{dec_lt}
 use borrow.Author.Tests.{eq-eqb, eqb-true, not-false, ne_eqb, le-ltb}
 use lib.Dec.{T, eqb}
@@ -18,10 +17,9 @@ use Rattle.integers.specs.Integers.{eq_z}
 use Rattle.integers.proofs.Linear.{yes_eq_z}
 use Rattle.pairs.specs.Pairs.{list_number}
 use Rattle.clusters.specs.PairList.{row_start, pair_list}
-use Rattle.clusters.proofs.PairList.{row_start_le, row_start_suc, row_lt}
 use Rattle.clusters.proofs.Rows.{Rows, rows_row, rows_all}
 use Rattle.interface.specs.Sheet.{is_name, is_upper, is_digit, is_cell, pair_said, cut, lines, names, words, entries, value, mirrored, pairs}
-use Rattle.interface.specs.Refusals.{most_entries, is_allowed, is_row, wrong_length, wrong_byte, wrong_names, wrong_count, wrong_lines, wrong_values, reader_checks, reader_refusal}
+use Rattle.interface.specs.Refusals.{most_entries, is_allowed, is_row, wrong_byte, wrong_names, wrong_count, wrong_lines, wrong_values, reader_checks, reader_refusal}
 use Rattle.interface.specs.Calls.{piece_at}
 use Rattle.interface.proofs.Refusals.{Gives, first_no, no_more}
 use Rattle.interface.proofs.Pieces.{joined_cut, all_joined}

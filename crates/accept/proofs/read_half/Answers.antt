@@ -1,0 +1,47 @@
+use mathlib.Core.Path.{sym, subst}
+use Prim.Native.Nat.{◌+◌, ◌*◌}
+use native.Mathlib.Omega.{arith}
+use lib.IntN.{ℤ}
+use Rattle.text.proofs.Halves.{plus}
+use Rattle.accept.specs.Places.{BothAt}
+use Rattle.accept.proofs.Parts.{run_small}
+use Rattle.accept.proofs.Found.{both_half}
+use Rattle.accept.proofs.read_half.Goals.{Else-sheet-p}
+use Rattle.accept.proofs.read_half.Goals as goal
+
+pub overflow_add-p : goal.overflow_add-p
+overflow_add-p c = omega (arith, c.requires.2.few)
+
+pub is_half-requires : goal.is_half-requires
+is_half-requires c = omega (arith, c.requires.2.few)
+
+pub read_any_both-requires : goal.read_any_both-requires
+read_any_both-requires c = (omega arith, omega arith)
+
+pub returns-then-not-is_half : goal.returns-then-not-is_half
+returns-then-not-is_half c = c.read_any_both.ensures
+
+pub overflow_add-q : goal.overflow_add-q
+overflow_add-q c = omega (arith, c.requires.2.few)
+
+pub is_half-requires-2 : goal.is_half-requires-2
+is_half-requires-2 c = omega (arith, c.requires.2.few)
+
+pub overflow_mul-halves : goal.overflow_mul-halves
+overflow_mul-halves c = omega (arith, run_small c.requires.2 (omega (arith, c.requires.2.few)))
+
+pub overflow_add-halves : goal.overflow_add-halves
+overflow_add-halves c = omega (arith, run_small c.requires.2 (omega (arith, c.requires.2.few)))
+
+pub overflow_cast-halves : goal.overflow_cast-halves
+overflow_cast-halves c = record { sfits = omega (arith, run_small c.requires.2 (omega (arith, c.requires.2.few))) }
+
+pub overflow_add-whole : goal.overflow_add-whole
+overflow_add-whole c = omega (arith, c.requires.2.few)
+
+pub returns : goal.returns
+returns c =
+    let a = c.args in
+    let r = c.requires in
+    subst (λ (z : ℤ). BothAt a.sheet.now a.p a.q a.near a.far z (a.size + 2)) (sym (plus (a.number * 2 + 1) (omega (arith, run_small r.2 (omega (arith, r.2.few))))))
+    (both_half r.2 r.0 r.1 c.if-sheet-p.false (omega arith) (c.is_half.ensures c.if-not-is_half.false) (c.is_half-2.ensures c.if-not-is_half-2.false))
