@@ -1,7 +1,7 @@
-use mathlib.Core.Path.{sym, ◌∙◌}
+use mathlib.Core.Path.{◌≡◌, sym, ◌∙◌}
 use native.Mathlib.Omega.{arith}
-use borrow.Author.Rules.{sfits_of}
-use mir.Facts.{to_z-of_z}
+use borrow.Author.Rules.{rules}
+use mir.Val.{of_z, to_z}
 use mir.Syntax.{w32}
 use Rattle.text.proofs.Values.{value_call}
 use Rattle.text.proofs.Cells.{lone_inside, mark_at, number_at_lem, none_at}
@@ -18,5 +18,5 @@ returns-in_default c = value_call (none_at _ _ (sym c.in_default.is ∙ c.read_n
 
 pub returns : goal.returns
 returns c =
-    rw (to_z-of_z {w = w32} (sfits_of c.in-Number.known_told-1-own.given.0.1))
-    (value_call (number_at_lem _ _ (sym c.in-Number.is ∙ c.read_number.ensures)))
+    let same : to_z w32 (of_z w32 c.in-Number.number) ≡ c.in-Number.number = search rules in
+    rw same (value_call (number_at_lem _ _ (sym c.in-Number.is ∙ c.read_number.ensures)))
