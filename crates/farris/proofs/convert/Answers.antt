@@ -1,5 +1,4 @@
 use mathlib.Core.Path.{◌≡◌, refl, ◌∙◌}
-use Prim.Native.Nat.{◌-◌}
 use native.Mathlib.Omega.{arith}
 use Rattle.clusters.proofs.Rows.{rows_none, rows_row, rows_all}
 use Rattle.farris.proofs.convert.Goals as goal
@@ -13,7 +12,7 @@ convert_row-requires c = let s = c in
 
 pub loop-a-preserved : goal.loop-a-preserved
 loop-a-preserved c = let v = c.loop-a.invariant in let r = c.convert_row in
-    (omega arith, r.auto.1.1.1.1.0 ∙ v.1, rows_row v.2 r.ensures)
+    (omega arith, r.auto.out ∙ v.1, rows_row v.2 r.ensures)
 
 pub returns : goal.returns
 returns c = let s = c in let e : s.loop-a.a ≡ s.args.n = omega arith in
