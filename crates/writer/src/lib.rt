@@ -53,7 +53,7 @@ pub fn write(out: &mut [u8], line: &[u8], pairs: &[i32], n: usize) -> usize
     ensures out_after { out.new
         ≡ sheet_text (cut space line.now) (score pairs.now) ++ drop result out.old }
 {
-    let first = bytes::copy(line, out);
+    let first = listing::copy(line, out);
     out[first] = b'\n';
     let mut end = first + 1;
     for i in 0..n {
