@@ -1,5 +1,4 @@
 use mathlib.Core.Path.{◌≡◌, refl, ◌∙◌}
-use Prim.Native.Nat.{◌-◌}
 use native.Mathlib.Omega.{arith}
 use Rattle.clusters.proofs.PairList.{row_lt, score_symm}
 use Rattle.links.proofs.Rows.{holds_start, holds_next, holds_all, own_next}
