@@ -1,20 +1,22 @@
 -- The values that the loops over a pair list see are bounded; a loop finds the least of them.
-use mathlib.Core.Path.{◌≡◌, refl, sym, subst}
+use mathlib.Core.Path.{◌≡◌, refl, sym, subst, ap, ◌∙◌}
 use mathlib.Core.Bool.{Bool, true, false, not, beq}
 use mathlib.Core.List.{List, map}
 use Prim.Native.Nat.{ℕ, ◌+◌, ◌^◌, ◌<◌}
 use lib.Dec.{T, lit<, lit≤}
 use lib.IntN.{ℤ, ◌-ℤ◌}
 use mir.Syntax.{w64}
-use mir.Val.{of_z, to_z}
+use lib.Signed.{mag}
+use mir.Val.{SFits, of_z, to_z, hbits}
+use mir.Facts.{to_z-of_z}
 use Rattle.lists.specs.Lists.{◌∈◌, below, keep}
 use Rattle.lists.proofs.Lists.{below_lt, in_map, of_map, of_keep, keep_cong}
 use Rattle.integers.specs.Integers.{min_z, least, greatest}
 use Rattle.integers.specs.Range.{Within, Bounded}
 use Rattle.integers.proofs.Least.{least_of, greatest_of}
 use Rattle.integers.proofs.Range.{within_grow, within_equal, within_difference}
-use Rattle.integers.proofs.Held.{Held, held_result}
-use Rattle.integers.proofs.Running.{Run, run_least}
+use Rattle.integers.proofs.Held.{Held, held_result, passed}
+use Rattle.integers.proofs.Running.{Run, run_yes, run_least}
 use Rattle.sets.specs.Sets.{has, ◌∋◌, members, others}
 use Rattle.sets.proofs.Sets.{has_yes, of_members, of_others}
 use Rattle.smallest.proofs.Tops.{top}
@@ -49,6 +51,13 @@ module _ {n A k : ℕ} (p : Proper n A) {f : ℕ → ℤ} (b : (y : ℕ) → y <
 -- beyond every value: what a running least starts from
 pub top_held : Held w64 (of_z w64 top) top
 top_held = held_result refl (lit< tt) refl
+
+-- one more turn of a loop over a local that is read as a number
+pub run_next : {op : ℤ → ℤ → ℤ} {start : ℤ} {p : ℕ → Bool} {f : ℕ → ℤ} {x : ℕ} {m m' z : ℤ}
+    → Run op start p f x (of_z w64 m) → SFits w64 m → p x ≡ true → m' ≡ to_z w64 (of_z w64 z) → mag z < 2 ^ hbits w64
+    → z ≡ op m (f x) → Run op start p f (x + 1) (of_z w64 m')
+run_next {op} {f = f} {x = x} {z = z} r h t e k q =
+    run_yes r t (ap (of_z w64) (e ∙ passed w64 {r = z} k refl)) k (q ∙ ap (λ m. op m (f x)) (sym (to_z-of_z h)))
 
 -- the entries of one side, and that there is one
 beq_true : (b : Bool) → beq b true ≡ b

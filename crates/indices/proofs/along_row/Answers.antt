@@ -1,5 +1,5 @@
 use mathlib.Core.Path.{◌≡◌, refl, ap}
-use Prim.Native.Nat.{ℕ, ◌+◌, ◌-◌, ◌≤◌}
+use Prim.Native.Nat.{ℕ, ◌+◌, ◌≤◌}
 use native.Mathlib.Omega.{arith}
 use lib.Dec.{lit<}
 use Rattle.integers.proofs.Range.{within_equal}
@@ -19,7 +19,7 @@ pub loop-y-init : goal.loop-y-init
 loop-y-init c = (omega arith, refl, c.row_start-start.ensures, seen_none refl refl)
 
 pub overflow_add-start : goal.overflow_add-start
-overflow_add-start c = let g = c in omega (arith, row_start_le g.args.x (omega arith))
+overflow_add-start c = omega (arith, row_start_le c.args.x (omega arith))
 
 -- the pair of x and an entry up to x
 at_row : (x y start : ℕ) → y ≤ x → start ≡ row_start x → start + y ≡ place x y
@@ -28,12 +28,11 @@ at_row x y start h e = omega (arith, place_row x y h)
 pub with_value-seen-requires : goal.with_value-seen-requires
 unfolding score
 with_value-seen-requires c = let l = c.loop-y in
-    let g = c in
-    let x = g.args.x in (
+    let x = c.args.x in (
       omega (arith, place_row x x (omega arith)),
-      within_equal (ap (number g.args.pairs.now) (at_row x l.y _ (omega arith) l.invariant.2)) (g.requires.2 l.y (omega arith)),
-      record { long = omega (arith, g.requires.3.long); small = λ z h. g.requires.3.small z (omega arith) },
-      record { long = omega (arith, g.requires.4.long); small = λ z h. g.requires.4.small z (omega arith) },
+      within_equal (ap (number c.args.pairs.now) (at_row x l.y _ (omega arith) l.invariant.2)) (c.requires.2 l.y (omega arith)),
+      record { long = omega (arith, c.requires.3.long); small = λ z h. c.requires.3.small z (omega arith) },
+      record { long = omega (arith, c.requires.4.long); small = λ z h. c.requires.4.small z (omega arith) },
     )
 
 pub overflow_step-y : goal.overflow_step-y
@@ -44,17 +43,14 @@ loop-y-smaller c = omega arith
 
 pub loop-y-preserved : goal.loop-y-preserved
 unfolding score
-loop-y-preserved c = let s = c in
-    let l = s.loop-y in
-    let g = s in (
-      omega arith,
-      l.invariant.1,
-      l.invariant.2,
-      seen_more l.invariant.3 (ap (number g.args.pairs.now) (at_row g.args.x l.y _ (omega arith) l.invariant.2))
-          c.with_value-seen.ensures.0 c.with_value-seen.ensures.1,
-    )
+loop-y-preserved c = let l = c.loop-y in (
+  omega arith,
+  l.invariant.1,
+  l.invariant.2,
+  seen_more l.invariant.3 (ap (number c.args.pairs.now) (at_row c.args.x l.y _ (omega arith) l.invariant.2))
+      c.with_value-seen.ensures.0 c.with_value-seen.ensures.1,
+)
 
 pub returns : goal.returns
-returns c = let s = c in
-    let e : s.loop-y.y ≡ s.args.x + 1 = omega (arith, s.loop-y.invariant.1) in
-    seen_end e s.loop-y.invariant.3
+returns c = let e : c.loop-y.y ≡ c.args.x + 1 = omega (arith, c.loop-y.invariant.1) in
+    seen_end e c.loop-y.invariant.3

@@ -13,7 +13,7 @@ use Rattle.indices.proofs.clean_index.Goals.{After-size-k}
 use Rattle.indices.proofs.clean_index.Goals as goal
 
 -- the size of the set, as the code counts it
-size_is c (c : After-size-k) → let a = c.args in (c.size-k.result ≡ size a.n a.set) × (1 ≤ c.size-k.result) × (c.size-k.result < 32)
+size_is : (c : After-size-k) → let a = c.args in (c.size-k.result ≡ size a.n a.set) × (1 ≤ c.size-k.result) × (c.size-k.result < 32)
 size_is c = counted c.requires.0 c.requires.1 c.size-k.ensures
 
 pub overflow_sub-k : goal.overflow_sub-k
@@ -23,23 +23,18 @@ pub nearest-near-requires : goal.nearest-near-requires
 nearest-near-requires c = c.requires
 
 pub keep_all-requires : goal.keep_all-requires
-keep_all-requires c = let f = c in
-    let (_, some, few) = size_is c.before.before.before in
-    let (long, near) = f.nearest-near.ensures in
-    (f.requires.0, f.requires.2, omega arith, search (tops_sorted, rules), long, near)
+keep_all-requires c = let (_, some, few) = size_is c.before.before.before in
+    let (long, near) = c.nearest-near.ensures in
+    (c.requires.0, c.requires.2, omega arith, search (tops_sorted, rules), long, near)
 
 pub total-requires : goal.total-requires
-total-requires c = let r = c in
-    let s = r in
-    let g = s in
+total-requires c =
+    let g = c.requires in
     let (_, some, few) = size_is c.before.before.before.before.before.before in
-    (omega arith, omega (arith, r.keep_all.auto.0), subst (Bounded (2 ^ 30)) (sym r.keep_all.ensures) (kept_within g.requires.1 g.requires.2 _))
+    (omega arith, omega (arith, c.keep_all.auto.kept), subst (Bounded (2 ^ 30)) (sym c.keep_all.ensures) (kept_within g.1 g.2 _))
 
 -- one weight less than the set has entries
 pub returns : goal.returns
-returns c = let r = c in
-    let s = r in
-    let g = s in
-    let (e, some, few) = size_is c.before.before.before.before.before.before.before in
+returns c = let (e, some, few) = size_is c.before.before.before.before.before.before.before in
     passed w64 c.total.type_inv
-    (c.total.ensures ∙ ap sum r.keep_all.ensures ∙ kept_clean g.requires.1 g.requires.2 _ (ap (λ (m : ℕ). m - 1) e) (omega arith))
+    (c.total.ensures ∙ ap sum c.keep_all.ensures ∙ kept_clean c.requires.1 c.requires.2 _ (ap (λ (m : ℕ). m - 1) e) (omega arith))

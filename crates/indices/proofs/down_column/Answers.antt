@@ -1,5 +1,5 @@
 use mathlib.Core.Path.{◌≡◌, ap}
-use Prim.Native.Nat.{◌-◌, ◌<◌}
+use Prim.Native.Nat.{◌<◌}
 use native.Mathlib.Omega.{arith}
 use Rattle.integers.proofs.Range.{within_equal}
 use Rattle.clusters.specs.PairList.{score}
@@ -12,9 +12,8 @@ use Rattle.indices.proofs.down_column.Goals as goal
 pub place_of-requires : goal.place_of-requires
 place_of-requires c = (omega (arith, c.requires.0.few), omega (arith, c.requires.0.few))
 
-small c (c : After-place_of) → c.place_of.result < 528
-small c = let g = c in
-    omega (arith, place_few {a = g.args.x} {b = g.args.x} (omega (arith, g.requires.0.few)) (omega (arith, g.requires.0.few)), c.place_of.ensures)
+small : (c : After-place_of) → c.place_of.result < 528
+small c = omega (arith, place_few {a = c.args.x} {b = c.args.x} (omega (arith, c.requires.0.few)) (omega (arith, c.requires.0.few)), c.place_of.ensures)
 
 pub overflow_add-at : goal.overflow_add-at
 overflow_add-at c = omega (arith, small c, c.requires.0.few)
@@ -26,30 +25,27 @@ pub overflow_step-y : goal.overflow_step-y
 overflow_step-y c = omega (arith, c.requires.0.few)
 
 pub loop-y-init : goal.loop-y-init
-loop-y-init c = let g = c in (
+loop-y-init c = (
   omega arith,
   omega arith,
-  omega (arith, c.place_of.ensures, next_column g.args.x g.args.x (omega arith)),
-  g.requires.5,
+  omega (arith, c.place_of.ensures, next_column c.args.x c.args.x (omega arith)),
+  c.requires.5,
 )
 
 pub with_value-seen-requires : goal.with_value-seen-requires
 unfolding score
-with_value-seen-requires c = let g = c in
-    let l = c.loop-y in (
-      omega (arith, (score_asked g.requires.0 {a = g.args.x} {b = l.y} (omega arith) (omega arith)).2),
-      within_equal (ap (number g.args.pairs.now) l.invariant.2) (g.requires.2 l.y (omega arith)),
-      record { long = omega (arith, g.requires.3.long); small c.before.before λ z h. g.requires.3.small z (omega arith) },
-      record { long = omega (arith, g.requires.4.long); small c.before.before λ z h. g.requires.4.small z (omega arith) },
-    )
+with_value-seen-requires c = let l = c.loop-y in (
+  omega (arith, (score_asked c.requires.0 {a = c.args.x} {b = l.y} (omega arith) (omega arith)).2),
+  within_equal (ap (number c.args.pairs.now) l.invariant.2) (c.requires.2 l.y (omega arith)),
+  record { long = omega (arith, c.requires.3.long); small = λ z h. c.requires.3.small z (omega arith) },
+  record { long = omega (arith, c.requires.4.long); small = λ z h. c.requires.4.small z (omega arith) },
+)
 
 pub overflow_add-at-in-loop-y : goal.overflow_add-at-in-loop-y
 overflow_add-at-in-loop-y c = omega (arith, c.requires.0.few)
 
 pub overflow_add-at-in-loop-y-2 : goal.overflow_add-at-in-loop-y-2
-overflow_add-at-in-loop-y-2 c = let s = c in
-    let g = s in
-    omega (arith, g.requires.0.few, place_few {a = g.args.x} {b = s.loop-y.y} (omega (arith, g.requires.0.few)) (omega (arith, g.requires.0.few)))
+overflow_add-at-in-loop-y-2 c = omega (arith, c.requires.0.few, place_few {a = c.args.x} {b = c.loop-y.y} (omega (arith, c.requires.0.few)) (omega (arith, c.requires.0.few)))
 
 pub overflow_step-y-in-loop-y : goal.overflow_step-y-in-loop-y
 overflow_step-y-in-loop-y c = omega (arith, c.requires.0.few)
@@ -59,16 +55,13 @@ loop-y-smaller c = omega arith
 
 pub loop-y-preserved : goal.loop-y-preserved
 unfolding score
-loop-y-preserved c = let s = c in
-    let l = s.loop-y in
-    let g = s in (
-      omega arith,
-      omega arith,
-      omega (arith, l.invariant.2, next_column g.args.x l.y (omega arith)),
-      seen_more l.invariant.3 (ap (number g.args.pairs.now) l.invariant.2) c.with_value-seen.ensures.0 c.with_value-seen.ensures.1,
-    )
+loop-y-preserved c = let l = c.loop-y in (
+  omega arith,
+  omega arith,
+  omega (arith, l.invariant.2, next_column c.args.x l.y (omega arith)),
+  seen_more l.invariant.3 (ap (number c.args.pairs.now) l.invariant.2) c.with_value-seen.ensures.0 c.with_value-seen.ensures.1,
+)
 
 pub returns : goal.returns
-returns c = let s = c in
-    let e : s.loop-y.y ≡ s.args.n = omega arith in
-    seen_end e s.loop-y.invariant.3
+returns c = let e : c.loop-y.y ≡ c.args.n = omega arith in
+    seen_end e c.loop-y.invariant.3

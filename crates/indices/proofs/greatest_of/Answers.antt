@@ -7,10 +7,8 @@ use Rattle.indices.proofs.Seen.{seen_greatest}
 use Rattle.indices.proofs.greatest_of.Goals as goal
 
 pub returns : goal.returns
-returns c = let d = c in
-    let g = d in
-    λ y h. omega (
-      zarith,
-      to_z-of_z {w = w32} {z = d.extremes_of-seen.result.greatest} (sfits_of c.struct_told-1.given.1.0.1),
-      seen_greatest g.requires.2 (omega arith) g.requires.3 g.requires.4 d.extremes_of-seen.ensures y h,
-    )
+returns c = λ y h. omega (
+  zarith,
+  to_z-of_z {w = w32} {z = c.extremes_of-seen.result.greatest} (sfits_of c.struct_told-1.given.1.0.1),
+  seen_greatest c.requires.2 (omega arith) c.requires.3 c.requires.4 c.extremes_of-seen.ensures y h,
+)

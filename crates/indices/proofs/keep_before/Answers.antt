@@ -1,44 +1,42 @@
 use mathlib.Core.Path.{sym, ◌∙◌}
-use mathlib.Core.Logic.{⊎_elim}
-use Prim.Native.Nat.{◌-◌}
 use native.Mathlib.Omega.{arith}
 use Rattle.lists.proofs.Tests.{true_T}
-use Rattle.sets.specs.Sets.{has, members}
+use Rattle.sets.specs.Sets.{members}
 use Rattle.sets.proofs.Sets.{has_yes}
 use Rattle.smallest.proofs.Kept.{kept_start, kept_yes, kept_no, kept_sorted, kept_end}
 use Rattle.clusters.specs.PairList.{score}
 use Rattle.indices.specs.Triples.{keep_before}
 use Rattle.indices.proofs.Triples.{sorted_outside}
+use Rattle.indices.proofs.keep_before.Goals.{then-has, else-has}
 use Rattle.indices.proofs.keep_before.Goals as goal
 
 pub loop-b-init : goal.loop-b-init
 loop-b-init c = (omega arith, kept_start)
 
 pub keep_pair-requires : goal.keep_pair-requires
-keep_pair-requires c = let t = c in
-    let s = t in
-    let g = s in
-    let r = s.loop-b.invariant.1 in
-    let (scores, small, low, few, rise) = g.requires.0 in
-    let (long, near, member) = g.requires.1 in (
-      (
+keep_pair-requires c =
+    let r = c.loop-b.invariant.1 in
+    let (scores, small, low, few, rise) = c.requires.scores in
+    let (long, near, member) = c.requires.n_in_bounds in record {
+      scores = (
         scores,
         small,
         low,
         omega arith,
         omega (arith, r.long),
-        kept_sorted r (sorted_outside g.args.n (score g.args.pairs.now) g.args.set g.args.k g.args.a) rise,
-      ),
-      (long, near, member, has_yes g.args.set s.loop-b.b (true_T (sym t.has.ensures ∙ t.if-has.true))),
-    )
+        kept_sorted r (sorted_outside c.args.n (score c.args.pairs.now) c.args.set c.args.k c.args.a) rise,
+      );
+      n_in_bounds = (long, near, member, has_yes c.args.set c.loop-b.b (true_T (sym c.has.ensures ∙ c.if-has.true)));
+    }
 
 pub loop-b-preserved : goal.loop-b-preserved
-loop-b-preserved c = let s = c in
-    let t = c.has.ensures in
-    ⊎_elim
-    (λ w. (omega arith, kept_yes s.loop-b.invariant.1 (sym t ∙ w.0.taken) w.4 w.2.kept-1.0 w.2.ensures))
-    (λ w. (omega arith, kept_no s.loop-b.invariant.1 (sym t ∙ w.0.left) w.1))
-    c.if-has.branch
+loop-b-preserved c =
+    let r = c.loop-b.invariant.1 in
+    let t = sym c.has.ensures in
+    elim c.if-has.branch [
+      | then-has w ↦ (omega arith, kept_yes r (t ∙ w.if-has.true) w.kept-is w.keep_pair.auto.kept w.keep_pair.ensures)
+      | else-has w ↦ (omega arith, kept_no r (t ∙ w.if-has.false) w.kept-is)
+    ]
 
 pub shape_of-kept : goal.shape_of-kept
 shape_of-kept c = c.loop-b.invariant.1.long

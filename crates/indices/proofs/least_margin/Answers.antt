@@ -1,48 +1,47 @@
+use mir.Facts.{to_z-of_z, sfits_to_z}
+use mir.Val.{of_z}
 use mathlib.Core.Path.{sym, ap, ◌∙◌}
 use mathlib.Core.Bool.{Bool, beq}
-use mathlib.Core.Logic.{⊎_elim}
-use Prim.Native.Nat.{◌-◌}
 use native.Mathlib.Omega.{arith}
 use mir.Syntax.{w64}
 use Rattle.lists.proofs.Tests.{true_T}
 use Rattle.integers.specs.Integers.{min_z}
 use Rattle.integers.proofs.Held.{passed}
-use Rattle.integers.proofs.Running.{run_start, run_yes, run_no}
-use Rattle.sets.specs.Sets.{has}
+use Rattle.integers.proofs.Running.{run_start, run_no}
 use Rattle.indices.proofs.Parted.{tables, least_spread}
-use Rattle.indices.proofs.Values.{top_held}
+use Rattle.indices.proofs.Values.{top_held, run_next}
+use Rattle.indices.proofs.least_margin.Goals.{then-has-inner, else-has-inner}
 use Rattle.indices.proofs.least_margin.Goals as goal
 
 pub part-requires : goal.part-requires
-part-requires c = let (inside, outside, numbers) = c.requires.1 in
-    (c.requires.0.0.few, (search (inside, outside), search (inside, outside), numbers))
+part-requires c = let (inside, outside, numbers) = c.requires.room in
+    (c.requires.scores.0.few, (search inside, search outside, numbers))
 
 pub loop-x-init : goal.loop-x-init
 loop-x-init c = (omega arith, run_start top_held)
 
 pub spread-requires : goal.spread-requires
-spread-requires c = let t = c in
-    let h = t in
-    let g = h in
-    let (inside, outside) = tables h.part.ensures g.requires.0.2 in
-    let side = ap (λ (b : Bool). beq b g.args.inner) t.has.ensures in
-    (g.requires.0.0, omega arith, g.requires.0.3 _ (omega arith) (true_T (sym side ∙ t.if-has-inner.true)), search (inside, outside), search (inside, outside))
+spread-requires c =
+    let g = c.requires.scores in
+    let (inside, outside) = tables c.part.ensures g.2 in
+    let side = ap (λ (b : Bool). beq b c.args.inner) c.has.ensures in
+    (g.0, omega arith, g.3 _ (omega arith) (true_T (sym side ∙ c.if-has-inner.true)), search inside, search outside)
 
 pub loop-x-preserved : goal.loop-x-preserved
-loop-x-preserved c = let s = c in
-    let g = s in
-    let t = ap (λ (b : Bool). beq b g.args.inner) c.has.ensures in
-    ⊎_elim
-    (λ w. (
-      omega arith,
-      run_yes s.loop-x.invariant.1 (sym t ∙ w.0.taken) w.5 w.4.ok
-          (w.4.ensures ∙ ap (min_z _) (passed w64 w.3.ok w.3.ensures)),
-    ))
-    (λ w. (omega arith, run_no s.loop-x.invariant.1 (sym t ∙ w.0.left) w.1))
-    c.if-has-inner.branch
+loop-x-preserved c =
+    let l = c.loop-x in
+    let t = sym (ap (λ (b : Bool). beq b c.args.inner) c.has.ensures) in
+    elim c.if-has-inner.branch [
+      | then-has-inner w ↦ (
+        omega arith,
+        run_next l.invariant.1 (sfits_to_z l.auto.least-fits) (t ∙ w.if-has-inner.true) w.least-is w.smaller-least.type_inv
+            (w.smaller-least.ensures ∙ ap (min_z _) (passed w64 w.spread.type_inv w.spread.ensures)),
+      )
+      | else-has-inner w ↦ (omega arith, run_no l.invariant.1 (t ∙ w.if-has-inner.false) (ap (of_z w64) w.least-is))
+    ]
 
 pub returns : goal.returns
-returns c = let s = c in
-    let h = s in
-    let g = h in
-    least_spread g.args.pairs.now g.requires.0.1 _ g.requires.0.2 h.part.ensures (omega arith) g.args.inner g.requires.0.3 s.loop-x.invariant.1
+returns c =
+    let g = c.requires.scores in
+    sym (to_z-of_z {w = w64} (sfits_to_z c.loop-x.auto.least-fits))
+    ∙ least_spread c.args.pairs.now g.1 _ g.2 c.part.ensures (omega arith) c.args.inner g.3 c.loop-x.invariant.1

@@ -1,5 +1,7 @@
 use mathlib.Core.Bool.{beq}
 use Prim.Native.Nat.{◌-◌, ◌≤◌}
+use mir.Syntax.{w64}
+use mir.Val.{of_z}
 use Rattle.integers.specs.Integers.{min_z}
 use Rattle.integers.proofs.Running.{Run}
 use Rattle.sets.specs.Sets.{has}
@@ -10,7 +12,7 @@ use Rattle.indices.proofs.least_margin.Given as goal
 
 abbrev pub invariant-loop-x : goal.invariant-loop-x
 invariant-loop-x l = (l.x ≤ l.n)
-    × Run min_z top (λ x'. beq (has l.set x') l.inner) (λ x'. spread l.n (score l.pairs x') l.inside l.outside) l.x l.least
+    × Run min_z top (λ x'. beq (has l.set x') l.inner) (λ x'. spread l.n (score l.pairs x') l.inside l.outside) l.x (of_z w64 l.least)
 
 abbrev pub decreases-loop-x : goal.decreases-loop-x
 decreases-loop-x l = l.n - l.x

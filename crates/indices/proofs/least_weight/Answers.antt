@@ -25,20 +25,17 @@ pub score-requires : goal.score-requires
 score-requires c = let g = c.requires in score_asked g.0 g.2 g.3
 
 -- the larger of the two that are read
-other-is c (c : After-wide-other) → let a = c.args in
+other-is : (c : After-wide-other) → let a = c.args in
     to_z w64 (of_z w64 c.wide-other.result) ≡ max_z (number a.near.now a.a) (number a.near.now a.b)
-other-is c = let m = c in
-    passed w64 c.wide-other.type_inv (c.wide-other.ensures ∙ passed w32 m.larger_i32.type_inv (m.larger_i32.ensures
-    ∙ ap₂ max_z (to_z-of_z (sfits_of m.larger_i32-arg-1.given)) (to_z-of_z (sfits_of m.larger_i32-arg-2-1.given))))
+other-is c = passed w64 c.wide-other.type_inv (c.wide-other.ensures ∙ passed w32 c.larger_i32.type_inv (c.larger_i32.ensures
+    ∙ ap₂ max_z (to_z-of_z {w = w32} (sfits_of c.larger_i32-arg-1.given)) (to_z-of_z {w = w32} (sfits_of c.larger_i32-arg-2-1.given))))
 
 pub difference-requires : goal.difference-requires
-difference-requires c = let m = c in
-    let g = m in (
-      within_equal (passed w64 c.score.type_inv c.score.ensures) (score_safe g.requires.1 _ _),
-      within_equal (other-is c.before) (within_grow (lit≤ tt) (within_max
-          (fits_within w32 (sfits_of m.larger_i32-arg-1.given)) (fits_within w32 (sfits_of m.larger_i32-arg-2-1.given)))),
-    )
+difference-requires c = (
+  within_equal (passed w64 c.score.type_inv c.score.ensures) (score_safe c.requires.1 _ _),
+  within_equal (other-is c.before) (within_grow (lit≤ tt) (within_max
+      (fits_within w32 (sfits_of c.larger_i32-arg-1.given)) (fits_within w32 (sfits_of c.larger_i32-arg-2-1.given)))),
+)
 
 pub returns : goal.returns
-returns c = let s = c in
-    passed w64 c.difference.type_inv (c.difference.ensures ∙ ap₂ ◌-ℤ◌ (passed w64 s.score.type_inv s.score.ensures) (other-is c.before.before))
+returns c = passed w64 c.difference.type_inv (c.difference.ensures ∙ ap₂ ◌-ℤ◌ (passed w64 c.score.type_inv c.score.ensures) (other-is c.before.before))

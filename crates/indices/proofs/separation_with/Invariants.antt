@@ -1,6 +1,8 @@
 use mathlib.Core.Path.{◌≡◌}
 use Prim.Native.Nat.{◌-◌, ◌≤◌}
 use lib.ListN.{length}
+use mir.Syntax.{w64}
+use mir.Val.{of_z}
 use Rattle.integers.specs.Integers.{min_z}
 use Rattle.integers.proofs.Running.{Run}
 use Rattle.sets.specs.Sets.{has}
@@ -11,7 +13,7 @@ use Rattle.indices.proofs.separation_with.Given as goal
 
 abbrev pub invariant-loop-a : goal.invariant-loop-a
 invariant-loop-a l = (l.a ≤ l.n)
-    × Run min_z top (has l.set) (separation_from l.n (score l.pairs) l.set) l.a l.least
+    × Run min_z top (has l.set) (separation_from l.n (score l.pairs) l.set) l.a (of_z w64 l.least)
     × (length l.inside ≡ length l.initial.inside) × (length l.outside ≡ length l.initial.outside) × (length l.numbers ≡ length l.initial.numbers)
 
 abbrev pub decreases-loop-a : goal.decreases-loop-a
