@@ -11,7 +11,7 @@ use Rattle.integers.specs.Range.{Bounded}
 use Rattle.sets.specs.Sets.{◌∪◌}
 use Rattle.clusters.specs.Farris.{farris, anchored_scores}
 use Rattle.clusters.specs.Groups.{Kind, strong, clean, splits, tree_linkage, lent_scores}
-use Rattle.clusters.specs.Linkage.{Linkage, single, average, Tree, singles, merged_blocks, blocks}
+use Rattle.clusters.specs.Linkage.{single, average, Tree, singles, merged_blocks, blocks}
 use Rattle.clusters.specs.PairList.{row_start, score, in_range}
 use Rattle.clusters.proofs.Exists.{tree_length, count_singles}
 use Rattle.clusters.proofs.PairList.{length_pair_list}
