@@ -1,17 +1,11 @@
 use mathlib.Core.Path.{◌∙◌, ap₂}
-use lib.Dec.{lit≤}
 use lib.IntN.{◌+ℤ◌}
 use mir.Facts.{to_z-of_z}
 use mir.Syntax.{w64}
 use Rattle.integers.specs.Integers.{max_z}
 use Rattle.integers.proofs.Held.{passed}
-use Rattle.integers.proofs.Range.{within_grow}
 use Rattle.links.specs.Table.{joined}
 use Rattle.links.proofs.join.Goals as goal
-
-pub sum-requires : goal.sum-requires
-sum-requires c = let f = c.ranges in
-    simp (to_z-of_z f.x, to_z-of_z f.y) (within_grow (lit≤ tt) c.requires.0, within_grow (lit≤ tt) c.requires.1)
 
 pub returns-then-average : goal.returns-then-average
 unfolding joined
