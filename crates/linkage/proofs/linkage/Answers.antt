@@ -15,16 +15,16 @@ use Rattle.linkage.proofs.linkage.Goals.{Else-blocks-count, Else-refused-ne0, Th
 use Rattle.linkage.proofs.linkage.Goals as goal
 
 -- what the first checks leave
-left : (c : Else-refused-ne0) → let a = c.args in Checked a.n a.pairs.now
+left : (c : Else-refused-ne0) → Checked c.args.n c.args.pairs.now
 unfolding under all
 left c = checked _ _ (scored_checks _ _) tt (sym c.scored_refusal-refused.ensures ∙ c.if-refused-ne0.false) refl refl refl
 
 -- whether the slots are too few
-short : (c : Then-blocks-count) → let a = c.args in short_slice (length a.blocks.now) (a.n - 1) ≡ true
+short : (c : Then-blocks-count) → short_slice (length c.args.blocks.now) (c.args.n - 1) ≡ true
 unfolding short_slice
 short c = lt-ltb _ _ c.if-blocks-count.true
 
-enough : (c : Else-blocks-count) → let a = c.args in short_slice (length a.blocks.now) (a.n - 1) ≡ false
+enough : (c : Else-blocks-count) → short_slice (length c.args.blocks.now) (c.args.n - 1) ≡ false
 unfolding short_slice
 enough c = le-ltb _ _ c.if-blocks-count.false
 

@@ -1,4 +1,4 @@
-use mathlib.Core.Path.{◌≡◌, refl, ◌∙◌}
+use mathlib.Core.Path.{refl, ◌∙◌}
 use Prim.Native.Nat.{◌<◌}
 use native.Mathlib.Omega.{arith}
 use lib.ListN.{length-set, length}
@@ -15,8 +15,3 @@ pub loop-i-preserved : goal.loop-i-preserved
 loop-i-preserved c = let l = c.loop-i in
     let h : l.i < length l.filled = omega arith in
     (omega arith, length-set l.filled l.i c.single.result ∙ l.invariant.1, rw c.single.ensures (singles_next l.filled l.i h l.invariant.2))
-
-pub returns : goal.returns
-returns c = let l = c.loop-i in
-    let e : l.i ≡ c.args.n = omega arith in
-    (refl, rw (← e) l.invariant.2)
