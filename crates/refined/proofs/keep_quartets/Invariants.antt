@@ -1,4 +1,4 @@
-use Prim.Native.Nat.{◌-◌, ◌≤◌}
+use Prim.Native.Nat.{◌≤◌}
 use Rattle.sets.specs.Sets.{has}
 use Rattle.smallest.proofs.Kept.{Kept}
 use Rattle.links.specs.Table.{entry}
@@ -7,6 +7,3 @@ use Rattle.refined.proofs.keep_quartets.Given as goal
 
 abbrev pub invariant-loop-a : goal.invariant-loop-a
 invariant-loop-a l = (l.a ≤ l.n) × Kept (λ ks y. keep_within (entry l.t) l.side l.k l.outside y ks) (has l.side) l.k l.initial.kept l.a l.kept
-
-abbrev pub decreases-loop-a : goal.decreases-loop-a
-decreases-loop-a l = l.n - l.a

@@ -1,4 +1,4 @@
-use Prim.Native.Nat.{◌-◌, ◌≤◌}
+use Prim.Native.Nat.{◌≤◌}
 use Rattle.sets.specs.Sets.{has}
 use Rattle.smallest.proofs.Kept.{Kept}
 use Rattle.links.specs.Table.{entry}
@@ -7,6 +7,3 @@ use Rattle.refined.proofs.keep_within.Given as goal
 
 abbrev pub invariant-loop-a2 : goal.invariant-loop-a2
 invariant-loop-a2 l = (l.a2 ≤ l.a) × Kept (λ ks y. keep_across (entry l.t) l.k l.a y l.outside ks) (has l.side) l.k l.initial.kept l.a2 l.kept
-
-abbrev pub decreases-loop-a2 : goal.decreases-loop-a2
-decreases-loop-a2 l = l.a - l.a2

@@ -1,9 +1,8 @@
-use mathlib.Core.Path.{◌≡◌, refl, sym, ap, ◌∙◌, subst}
+use mathlib.Core.Path.{refl, sym, ap, ◌∙◌}
 use mathlib.Core.Bool.{not}
-use Prim.Native.Nat.{ℕ}
 use native.Mathlib.Omega.{arith}
 use lib.ListN.{length-set}
-use Rattle.refined.proofs.Outside.{Listing, listed_start, listed_next, listed_same}
+use Rattle.refined.proofs.Outside.{listed_start, listed_next, listed_same}
 use Rattle.refined.proofs.outside_of.Goals as goal
 
 -- an entry of the side, and one outside
@@ -21,9 +20,3 @@ loop-b-preserved c = let l = c.loop-b in (
 
 pub loop-b-init : goal.loop-b-init
 loop-b-init c = (listed_start, omega arith, omega arith, refl)
-
-pub returns : goal.returns
-returns c = let s = c in
-    let e : s.loop-b.b ≡ s.args.n = omega arith in
-    let i = subst (λ (b : ℕ). Listing s.args.side b s.loop-b.count s.loop-b.list) e s.loop-b.invariant.0 in
-    (i.count, i.are)

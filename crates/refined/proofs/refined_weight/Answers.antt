@@ -11,5 +11,5 @@ pub weight_of-requires : goal.weight_of-requires
 weight_of-requires c = weight_pass _ _ _ (sym c.weight_refusal-refusal.ensures ∙ c.if-refusal-ne0.false)
 
 pub returns : goal.returns
-returns c = let p = c in
-    weight_answered p.weight_refusal-refusal.ensures c.if-refusal-ne0.false (passed w64 c.weight_of.type_inv c.weight_of.ensures)
+returns c =
+    weight_answered c.weight_refusal-refusal.ensures c.if-refusal-ne0.false (passed w64 c.weight_of.type_inv c.weight_of.ensures)

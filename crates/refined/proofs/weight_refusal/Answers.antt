@@ -16,11 +16,11 @@ is_wrong_side-requires c = let left = checked _ _ (distance_checks _ _) tt (sym 
 
 pub returns-then-is_wrong_side : goal.returns-then-is_wrong_side
 unfolding refined_refusal refined_checks all
-returns-then-is_wrong_side c = let p = c in
-    gives (first_back (distance_checks _ _) _ tt p.distances_refusal-refused.ensures p.if-refused-ne0.false (first_yes (sym c.is_wrong_side.ensures ∙ c.if-is_wrong_side.true)))
+returns-then-is_wrong_side c =
+    gives (first_back (distance_checks _ _) _ tt c.distances_refusal-refused.ensures c.if-refused-ne0.false (first_yes (sym c.is_wrong_side.ensures ∙ c.if-is_wrong_side.true)))
 
 pub returns : goal.returns
 unfolding refined_refusal refined_checks all
-returns c = let p = c in
-    gives (first_back (distance_checks _ _) _ tt p.distances_refusal-refused.ensures p.if-refused-ne0.false
+returns c =
+    gives (first_back (distance_checks _ _) _ tt c.distances_refusal-refused.ensures c.if-refused-ne0.false
     (first_no (sym c.is_wrong_side.ensures ∙ c.if-is_wrong_side.false) no_more))
