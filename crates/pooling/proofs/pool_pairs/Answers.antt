@@ -1,0 +1,78 @@
+use mathlib.Core.Path.{◌≡◌, sym, ap, ◌∙◌, subst₂}
+use mathlib.Core.Bool.{Bool}
+use mathlib.Core.List.{List, ◌++◌}
+use Prim.Native.Nat.{ℕ, ◌+◌}
+use native.Mathlib.Omega.{arith}
+use lib.IntN.{ℤ}
+use lib.ListN.{length, take, length-take}
+use lib.Seq.{take_at}
+use Rattle.clusters.specs.PairList.{row_start, Similarity, pair_list}
+use Rattle.clusters.proofs.PairList.{length_pair_list, row_start_le}
+use Rattle.interface.specs.Sheet.{space, cut, names}
+use Rattle.interface.specs.Calls.{piece_at}
+use Rattle.sheet.proofs.Lines.{line_length}
+use Rattle.pooling.specs.Pools.{AcceptedSheet, PlacesOn}
+use Rattle.pooling.proofs.Sheets.{few, long, in_range_lem, line_names, line_count, line_named, other_count, other_names, place_few, pool_written}
+use Rattle.pooling.proofs.pool_pairs.Goals as goal
+
+-- the places of the first's names on the second
+found : {first second : List ℕ} {n m : ℕ} {scores others : List ℤ} (a : AcceptedSheet first n scores) (b : AcceptedSheet second m others)
+    {end end2 : ℕ} → end ≡ 0 + length (piece_at 10 first 0) → end2 ≡ 0 + length (piece_at 10 second 0) → {places : List ℕ} {all : Bool}
+    → PlacesOn (cut space (take end first)) (cut space (take end2 second)) places all → PlacesOn (names first) (names second) places all
+found a b is is2 {places} {all} p = subst₂ (λ (ns ms : List (List ℕ)). PlacesOn ns ms places all) (line_names a _ is) (line_names b _ is2) p
+
+-- the sums are the pair list of the pool
+sums : (n : ℕ) (v : Similarity) (rest : List ℤ) {out : List ℤ} {count : ℕ} → out ≡ pair_list n v ++ rest → count ≡ row_start n
+    → take count out ≡ pair_list n v
+sums n v rest {count = count} e is = ap (take count) e ∙ take_at (pair_list n v) rest count (length_pair_list n v ∙ sym is)
+
+pub returns-then-n-m : goal.returns-then-n-m
+returns-then-n-m c = other_count c.requires.0 c.requires.1 _ (λ e. omega arith)
+
+pub slice_bounds-places_on-end : goal.slice_bounds-places_on-end
+slice_bounds-places_on-end c = line_length _ _ c.line_end-end.ensures
+
+pub slice_bounds-places_on-end-2 : goal.slice_bounds-places_on-end-2
+slice_bounds-places_on-end-2 c = line_length _ _ c.line_end-end2.ensures
+
+pub places_on-places-requires : goal.places_on-places-requires
+places_on-places-requires c = let (a, b) = c.requires in
+    (few a, line_count a _ c.line_end-end.ensures, omega (arith, line_count b _ c.line_end-end2.ensures))
+
+pub returns-then-not-places : goal.returns-then-not-places
+returns-then-not-places c = let (a, b) = c.requires in
+    other_names a b _ (found a b c.line_end-end.ensures c.line_end-end2.ensures c.places_on-places.ensures) c.if-not-places.true
+
+pub add-requires : goal.add-requires
+add-requires c = let (a, b) = c.requires in
+    let n = c.args.n in
+    let same : n ≡ c.args.m = omega arith in
+    let p = found a b c.line_end-end.ensures c.line_end-end2.ensures c.places_on-places.ensures in
+    (few a, long a, long b ∙ ap row_start (sym same), in_range_lem a, in_range_lem b, p.long, place_few a b same p c.if-not-places.false, row_start_le n (few a))
+
+pub pair_count-count-requires : goal.pair_count-count-requires
+pair_count-count-requires c = few c.requires.0
+
+pub slice_bounds-write_sums-end : goal.slice_bounds-write_sums-end
+slice_bounds-write_sums-end c = line_length _ _ c.line_end-end.ensures
+
+pub slice_bounds-sums-end : goal.slice_bounds-sums-end
+slice_bounds-sums-end c = let k = c.pair_count-count in
+    let long = ap length (sums c.args.n _ _ c.add.ensures k.ensures) ∙ length_pair_list _ _ ∙ sym k.ensures in
+    omega (arith, long, length-take k.result c.add.new.out)
+
+pub slice_bounds-write_sums-end-2 : goal.slice_bounds-write_sums-end-2
+slice_bounds-write_sums-end-2 c = let k = c.pair_count-count.ensures in
+    k ∙ sym (ap length (sums c.args.n _ _ c.add.ensures k) ∙ length_pair_list _ _)
+
+pub write_sums-requires : goal.write_sums-requires
+write_sums-requires c = let a = c.requires.0 in
+    let is = c.line_end-end.ensures in
+    (few a, line_count a _ is, line_named a _ is, ap length (sums c.args.n _ _ c.add.ensures c.pair_count-count.ensures) ∙ length_pair_list _ _)
+
+pub returns : goal.returns
+returns c = let (a, b) = c.requires in
+    let same : c.args.n ≡ c.args.m = omega arith in
+    let is = c.line_end-end.ensures in
+    let p = found a b is c.line_end-end2.ensures c.places_on-places.ensures in
+    pool_written a b same p c.if-not-places.false _ (sums c.args.n _ _ c.add.ensures c.pair_count-count.ensures) _ is c.write_sums.ensures
