@@ -7,7 +7,7 @@ use lib.IntN.{pos, neg_ℤ}
 use lib.Signed.{◌≤ℤ◌, ◌<ℤ◌}
 use lib.Bits.{bit_and}
 use lib.Dec.{T, eqb, eqb→eq, not_T}
-use Rattle.lists.specs.Lists.{below, all}
+use Rattle.lists.specs.Lists.{below}
 use Rattle.lists.proofs.Tests.{cond_elim, T_same, eqb_yes}
 use Rattle.lists.proofs.Lists.{below_lt, lt_below, all_in, in_all, some_fails}
 use Rattle.integers.proofs.Linear.{zarith}

@@ -34,7 +34,7 @@ use Rattle.clusters.proofs.Fillings.{least_is, scored_fills}
 use Rattle.clusters.proofs.Theorems.{group_in_tree, groups_nested, groups_bound}
 use Rattle.clusters.proofs.Reordering.{groups_image}
 use Rattle.answers.specs.declared.Answer.{Answer}
-use Rattle.answers.specs.Answers.{number_of, count_of, answer, slots, filled}
+use Rattle.answers.specs.Answers.{number_of, count_of, answer, filled}
 use Rattle.answers.proofs.Answers.{number_answer, slots_refused}
 use Rattle.interface.specs.Sheet.{entries, pairs}
 use Rattle.interface.specs.Listing.{Line, line_of, group_of, listing, groups_found, pairs_listing, sheet_listing, listing_read}

@@ -1,10 +1,8 @@
 use mathlib.Core.Path.{sym, ◌∙◌}
-use Prim.Native.Nat.{◌-◌}
 use native.Mathlib.Omega.{arith}
 use borrow.Author.Tests.{not-true, not-false}
 use mir.Syntax.{w64}
 use Rattle.integers.proofs.Held.{passed}
-use Rattle.clusters.specs.PairList.{score}
 use Rattle.lists.proofs.Walk.{started, next_below, failed_below, ended_below}
 use Rattle.matrix.proofs.Places.{score_asks}
 use mathlib.Core.Path.{ap}

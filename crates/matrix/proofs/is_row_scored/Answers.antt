@@ -1,6 +1,6 @@
 use mir.Syntax.{w32}
 use mathlib.Core.Path.{◌≡◌, sym, ap, ◌∙◌}
-use Prim.Native.Nat.{ℕ, ◌-◌, ◌<◌}
+use Prim.Native.Nat.{ℕ, ◌<◌}
 use native.Mathlib.Omega.{arith}
 use borrow.Author.Rules.{sfits_of}
 use borrow.Author.Tests.{not-true, not-false}
@@ -9,7 +9,7 @@ use lib.ListN.{length, get_or}
 use mir.Facts.{to_z-of_z}
 use Rattle.lists.proofs.Walk.{started, next_below, failed_below, ended_below}
 use Rattle.pairs.specs.Pairs.{carried, is_scored}
-use Rattle.clusters.specs.PairList.{place, score}
+use Rattle.clusters.specs.PairList.{score}
 use Rattle.clusters.specs.Touched.{row_scored}
 use Rattle.clusters.proofs.PairList.{place_lt}
 use Rattle.matrix.proofs.is_row_scored.Goals.{After-is_scored, In-loop-b}
