@@ -5,8 +5,8 @@ use Rattle.pooling.proofs.add.Goals as goal
 
 -- the row that is written
 pub loop-i-preserved : goal.loop-i-preserved
-loop-i-preserved c = let v = c.loop-i.invariant in let r = c.add_row in
-    (omega arith, r.auto.out ∙ v.1, rows_row v.2 r.ensures)
+loop-i-preserved c = let v = c.loop-i.invariant in
+    (omega arith, c.add_row.auto.out ∙ v.1, rows_row v.2 c.add_row.ensures)
 
 pub loop-i-init : goal.loop-i-init
 loop-i-init c = (omega arith, refl, rows_none)
@@ -16,5 +16,6 @@ add_row-requires c = let p = c.requires in
     (p.0, p.1, p.2, p.3, p.4, p.5, p.6, omega arith, omega arith)
 
 pub returns : goal.returns
-returns c = let s = c in let a = s in let e : s.loop-i.i ≡ a.args.n = omega arith in
-    rows_all a.args.n s.loop-i.invariant.2 e a.requires.7
+returns c =
+    let e : c.loop-i.i ≡ c.args.n = omega arith in
+    rows_all c.args.n c.loop-i.invariant.2 e c.requires.7
