@@ -9,16 +9,16 @@ use Rattle.farzhudyl.proofs.as_number.Goals as goal
 
 pub plus-requires : goal.plus-requires
 unfolding count_of
-plus-requires c = subst (λ (a : Answer). count_of a < 2 ^ 63) c.a-1.given.1 c.requires.1
+plus-requires c = subst (λ (a : Answer). count_of a < 2 ^ 63) c.in-Count.is c.requires.1
 
 pub minus-requires : goal.minus-requires
 unfolding number_of
-minus-requires c = subst (λ (a : Answer). number_of a < 2 ^ 63) c.a-in-Refused-1.given.1 c.requires.0
+minus-requires c = subst (λ (a : Answer). number_of a < 2 ^ 63) c.in-Refused.is c.requires.0
 
 pub returns-in-Count : goal.returns-in-Count
 unfolding c_number
-returns-in-Count c = passed w64 c.plus.type_inv c.plus.ensures ∙ sym (ap c_number c.a-1.given.1)
+returns-in-Count c = passed w64 c.plus.type_inv c.plus.ensures ∙ sym (ap c_number c.in-Count.is)
 
 pub returns-in-Refused : goal.returns-in-Refused
 unfolding c_number
-returns-in-Refused c = passed w64 c.minus.type_inv c.minus.ensures ∙ sym (ap c_number c.a-in-Refused-1.given.1)
+returns-in-Refused c = passed w64 c.minus.type_inv c.minus.ensures ∙ sym (ap c_number c.in-Refused.is)

@@ -8,7 +8,6 @@ use Rattle.reader.proofs.Answers.{accepted_answer, accepted_pairs, few_entries, 
 use Rattle.farzhudyl.proofs.Sheets.{read_sheet}
 use mathlib.Core.Path.{ap}
 use mathlib.Core.Bool.{not}
-use Rattle.farzhudyl.proofs.list_with.Goals.{After-pair_count-count, Else-not-read_rows}
 use Rattle.farzhudyl.proofs.list_with.Goals as goal
 
 pub read_rows-requires : goal.read_rows-requires
@@ -21,34 +20,36 @@ pub returns-then-not-read_rows : goal.returns-then-not-read_rows
 returns-then-not-read_rows c = let r = c in
     rw (to_z-of_z r.ranges.kind) at r.list_checked.ensures
 
--- the sheet is accepted, and its pair list stands in the slots
-accepted : (c : Else-not-read_rows) → let r = c in
-    let a = r.args in
-    PairsRead a.sheet.now a.n a.pairs.now r.read_rows.new.0
-accepted c = c.read_rows.ensures (not-false _ (ap not c.if-not-read_rows.false))
-
-pairs-are : (c : After-pair_count-count) → let r = c in
-    take c.pair_count-count.result r.read_rows.new.0 ≡ pairs r.args.sheet.now
-pairs-are c = accepted_pairs (accepted c.before) c.pair_count-count.ensures
-
 pub pair_count-count-requires : goal.pair_count-count-requires
-pair_count-count-requires c = few_entries _ (accepted_answer (accepted c))
+pair_count-count-requires c =
+    let r = c.read_rows.ensures c.if-not-read_rows.false in
+    let f = accepted_answer r in
+    few_entries _ f
 
 pub slice_bounds-list_pairs-end : goal.slice_bounds-list_pairs-end
-slice_bounds-list_pairs-end c = pairs_fit _ (accepted_answer (accepted c.before)) _ c.pair_count-count.ensures (pairs-are c)
+slice_bounds-list_pairs-end c =
+    let r = c.read_rows.ensures c.if-not-read_rows.false in
+    let f = accepted_answer r in
+    let p : take c.pair_count-count.result c.read_rows.new.pairs ≡ pairs c.args.sheet.now = accepted_pairs r c.pair_count-count.ensures in
+    pairs_fit _ f _ c.pair_count-count.ensures p
 
 pub slice_bounds-list_pairs-end-2 : goal.slice_bounds-list_pairs-end-2
-slice_bounds-list_pairs-end-2 c = let k = c in
-    k.pair_count-count.ensures ∙ sym (pairs_long _ (accepted_answer (accepted c.before)) (pairs-are c))
+slice_bounds-list_pairs-end-2 c =
+    let r = c.read_rows.ensures c.if-not-read_rows.false in
+    let f = accepted_answer r in
+    let p : take c.pair_count-count.result c.read_rows.new.pairs ≡ pairs c.args.sheet.now = accepted_pairs r c.pair_count-count.ensures in
+    c.pair_count-count.ensures ∙ sym (pairs_long _ f p)
 
 pub list_pairs-requires : goal.list_pairs-requires
-list_pairs-requires c = let k = c in
-    let f = accepted_answer (accepted c.before.before) in
-    (some_entries _ f, few_entries _ f, pairs_long _ f (pairs-are c.before))
+list_pairs-requires c =
+    let r = c.read_rows.ensures c.if-not-read_rows.false in
+    let f = accepted_answer r in
+    let p : take c.pair_count-count.result c.read_rows.new.pairs ≡ pairs c.args.sheet.now = accepted_pairs r c.pair_count-count.ensures in
+    (some_entries _ f, few_entries _ f, pairs_long _ f p)
 
 pub returns : goal.returns
-returns c = let l = c in
-    let k = l in
-    let b = k in
-    read_sheet _ _ b.args.out.now b.requires.0 (accepted_answer (accepted c.before.before.before.before.before)) (pairs-are c.before.before.before.before)
-    (rw (to_z-of_z b.ranges.kind) at l.list_pairs.ensures)
+returns c =
+    let r = c.read_rows.ensures c.if-not-read_rows.false in
+    let f = accepted_answer r in
+    let p : take c.pair_count-count.result c.read_rows.new.pairs ≡ pairs c.args.sheet.now = accepted_pairs r c.pair_count-count.ensures in
+    read_sheet _ _ c.args.out.now c.requires.0 f p (rw (to_z-of_z c.ranges.kind) at c.list_pairs.ensures)

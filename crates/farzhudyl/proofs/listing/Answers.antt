@@ -7,47 +7,36 @@ use mir.Facts.{to_z-of_z}
 use Rattle.interface.specs.Refusals.{wrong_kind}
 use Rattle.accept.specs.Names.{NamesRead}
 use Rattle.farzhudyl.proofs.Sheets.{refused_kind}
-use Rattle.farzhudyl.proofs.listing.Goals.{Else-is_wrong, Else-n-eq0, Start}
 use Rattle.farzhudyl.proofs.listing.Goals as goal
-
--- the kind as the calls take it
-right_kind : (c : Else-is_wrong) → wrong_kind (to_z w32 (of_z w32 c.args.kind)) ≡ false
-right_kind c = sym c.is_wrong.ensures ∙ c.if-is_wrong.false
-
-abbrev start : Else-n-eq0 → Start
-start c = c.before.before.before.before.before.before
-
-names : (c : Else-n-eq0) → NamesRead (start c).args.sheet.now c.read_names-names.result.count c.read_names-names.result.next
-names c = c.read_names-names.ensures (omega arith)
 
 pub returns-then-is_wrong : goal.returns-then-is_wrong
 returns-then-is_wrong c = let k = c in
     refused_kind _ _ _ (rw (to_z-of_z k.ranges.kind) at (sym k.is_wrong.ensures ∙ c.if-is_wrong.true))
 
 pub list_checked-requires : goal.list_checked-requires
-list_checked-requires c = right_kind c.before.before.before
+list_checked-requires c = sym c.is_wrong.ensures ∙ c.if-is_wrong.false
 
 pub returns-then-n-eq0 : goal.returns-then-n-eq0
 returns-then-n-eq0 c = let l = c in
     rw (to_z-of_z l.ranges.kind) at l.list_checked.ensures
 
 pub list_8-requires : goal.list_8-requires
-list_8-requires c = let e = c in (right_kind c.before.before.before.before, names c.before.before, omega arith)
+list_8-requires c = let e = c in (sym c.is_wrong.ensures ∙ c.if-is_wrong.false, c.read_names-names.ensures (omega arith), omega arith)
 
 pub returns-then-n-le8 : goal.returns-then-n-le8
 returns-then-n-le8 c = let l = c in
-    rw (to_z-of_z (start c.before.before.before.before.before).ranges.kind) at l.list_8.ensures
+    rw (to_z-of_z l.ranges.kind) at l.list_8.ensures
 
 pub list_16-requires : goal.list_16-requires
-list_16-requires c = let e = c in (right_kind c.before.before.before.before.before, names c.before.before.before, omega arith)
+list_16-requires c = let e = c in (sym c.is_wrong.ensures ∙ c.if-is_wrong.false, c.read_names-names.ensures (omega arith), omega arith)
 
 pub returns-then-n-le16 : goal.returns-then-n-le16
 returns-then-n-le16 c = let l = c in
-    rw (to_z-of_z (start c.before.before.before.before.before.before).ranges.kind) at l.list_16.ensures
+    rw (to_z-of_z l.ranges.kind) at l.list_16.ensures
 
 pub list_32-requires : goal.list_32-requires
-list_32-requires c = let e = c in (right_kind c.before.before.before.before.before, names c.before.before.before)
+list_32-requires c = let e = c in (sym c.is_wrong.ensures ∙ c.if-is_wrong.false, c.read_names-names.ensures (omega arith))
 
 pub returns : goal.returns
 returns c = let l = c in
-    rw (to_z-of_z (start c.before.before.before.before.before.before).ranges.kind) at l.list_32.ensures
+    rw (to_z-of_z l.ranges.kind) at l.list_32.ensures
