@@ -8,6 +8,10 @@ use answers::Answer;
 use std::io;
 use std::io::{Read, Write};
 
+fn write_refusal<R: Print>(rt: &R, number: usize) -> io::Result<()> {
+    println!(rt; "refused {number}")
+}
+
 // Reads until the buffer is full or the input ends, and says how many bytes came.
 fn read_full<R: Read>(reader: &mut R, buffer: &mut [u8]) -> io::Result<usize>
     ensures { IfOk result (λ size. size ≤ length buffer.new) }
@@ -33,6 +37,6 @@ pub fn run<R: Input + Print>(rt: &R, kind: i32) -> io::Result<()> {
     let answer = farzhudyl::listing(kind, &input[..size], &mut output);
     match answer {
         Answer::Count(length) => io::writer(rt).write_all(&output[..length]),
-        Answer::Refused(number) => println!(rt; "refused {number}"),
+        Answer::Refused(number) => write_refusal(rt, number),
     }
 }

@@ -1,13 +1,11 @@
 use mathlib.Core.Path.{◌≡◌, refl, sym, ap, ◌∙◌, subst}
-use mathlib.Core.Bool.{Bool, false, not}
+use mathlib.Core.Bool.{not}
 use mathlib.Core.List.{List}
 use Prim.Native.Nat.{ℕ, ◌≤◌}
-use borrow.Author.Tests.{not-false}
 use lib.IntN.{ℤ}
 use lib.ListN.{length}
 use mir.Facts.{to_z-of_z}
 use Rattle.lists.proofs.Tests.{true_T}
-use Rattle.clusters.specs.PairList.{scores_in_range}
 use Rattle.clusters.specs.Groups.{kind_of}
 use Rattle.interface.specs.Refusals.{wrong_unscored, wrong_distances}
 use Rattle.interface.proofs.Refusals.{gives, first_yes, first_no}
@@ -26,7 +24,6 @@ use Rattle.listing.proofs.Over.{handed_over}
 use Rattle.farzhudyl.specs.Pairs.{pairs_refusal, PairsListed}
 use Rattle.farzhudyl.proofs.Found.{found_slots, found_listing}
 use native.Mathlib.Omega.{arith}
-use Rattle.integers.proofs.Held.{passed}
 use Rattle.farzhudyl.proofs.list_pairs.Goals as goal
 
 -- refused by what the table gives

@@ -1,13 +1,9 @@
 use mathlib.Core.Path.{◌≡◌, sym, ◌∙◌}
 use lib.ListN.{take}
 use mir.Facts.{to_z-of_z}
-use borrow.Author.Tests.{not-false}
 use Rattle.interface.specs.Sheet.{pairs}
-use Rattle.accept.specs.Read.{PairsRead}
 use Rattle.reader.proofs.Answers.{accepted_answer, accepted_pairs, few_entries, some_entries, pairs_long, pairs_fit}
 use Rattle.farzhudyl.proofs.Sheets.{read_sheet}
-use mathlib.Core.Path.{ap}
-use mathlib.Core.Bool.{not}
 use Rattle.farzhudyl.proofs.list_with.Goals as goal
 
 pub read_rows-requires : goal.read_rows-requires

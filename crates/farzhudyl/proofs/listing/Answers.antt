@@ -1,11 +1,6 @@
-use mathlib.Core.Path.{◌≡◌, sym, ◌∙◌}
-use mathlib.Core.Bool.{false}
+use mathlib.Core.Path.{sym, ◌∙◌}
 use native.Mathlib.Omega.{arith}
-use mir.Val.{to_z, of_z}
-use mir.Syntax.{w32}
 use mir.Facts.{to_z-of_z}
-use Rattle.interface.specs.Refusals.{wrong_kind}
-use Rattle.accept.specs.Names.{NamesRead}
 use Rattle.farzhudyl.proofs.Sheets.{refused_kind}
 use Rattle.farzhudyl.proofs.listing.Goals as goal
 
