@@ -10,21 +10,17 @@ second_engine=tests/second-engine/target/release/farzhudyl-second
 
 build_programs() {
     local root=$1 name found=''
+    local -a sources
     shift
-    local -a sources=("$root/crates" "$root/crates.txt")
+    crate_sources "$root"
     for name; do
         if stale "$root/target/bin/$name" "${sources[@]}"; then found=1; fi
     done
     if [ -z "$found" ]; then return 0; fi
     need_rattle
     echo "proving and building, once: $*" >&2
-    for name; do
-        making "$root/target/bin/$name" "${sources[@]}" || exit 2
-        # rt leaves a program alone that it has proved, though it be gone.
-        if [ ! -f "$root/target/bin/$name" ]; then rm -f "$root/target/stamp/$name"; fi
-    done
-    prove_quietly "$root" check "$@" || exit 2
-    for name; do made "$root/target/bin/$name" || exit 2; done
+    # rt also runs it, on no input.
+    for name; do make_by_rt "$root" run "$name" "$name" "$root/target/bin/$name" || exit 2; done
 }
 
 build_show() {

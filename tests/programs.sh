@@ -146,7 +146,8 @@ chmod +x "$room/repo/target/bin/strong" "$room/repo/tests/second-engine/target/r
 up_to_date() { # FILE SOURCE ..
     making "$@" && made "$1"
 }
-up_to_date "$room/repo/target/bin/strong" "$room/repo"/{crates,crates.txt}
+crate_sources "$room/repo"
+up_to_date "$room/repo/target/bin/strong" "${sources[@]}"
 up_to_date "$room/repo/tests/second-engine/target/release/farzhudyl-second" "$room/repo"/tests/second-engine/{src,Cargo.toml,Cargo.lock}
 whole 'engines that differ' 1 "the engines differ at line 2: the engine has \`00000001 1 1\`, the second engine has \`00000001 1 2\`" \
     "$room/repo/run" --second strong </dev/null
