@@ -27,7 +27,7 @@ fn link_engine(root: &Path) {
     println!("cargo:rerun-if-changed={}", library.display());
     assert!(
         library.is_file(),
-        "no {}: `rt staticlib farzhudyl` makes it",
+        "no {}: tests/comparison.sh makes it",
         library.display()
     );
     println!("cargo:rustc-link-search=native={}", folder.display());
