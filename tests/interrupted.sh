@@ -249,13 +249,18 @@ count $? "what an earlier version left is replaced"
 
 # ---- a run of rt that was cut off
 
-# Three crates of the kit, of which the last is a program.
-kit=$(rt doc) && kit=${kit%/docs/*}
-mkdir -p "$room/repo/crates"
-for name in first second third; do cp -R "$kit/examples/$name" "$room/repo/crates"; done
-printf 'third: second check\nsecond: first\nfirst:\n' >"$room/repo/crates.txt"
-(build_programs "$room/repo" third) 2>/dev/null && cp "$room/repo/target/bin/third" "$room/third"
-count $? "a program of the kit"
+# Three crates, of which the last is a program.
+mkdir -p "$room/repo/crates/"{first,second,third}/src
+printf 'third: second\nsecond: first\nfirst:\n' >"$room/repo/crates.txt"
+for crate in 'first same x' 'second again first::same(x)'; do
+    read -r name function value <<<"$crate"
+    printf '%s\n' '#![tactic(auto)]' '' 'ghost use Rattle.std.specs.Prelude.{◌≡◌};' '' "pub fn $function(x: u32) -> u32" \
+        '    ensures { result ≡ x }' '{' "    $value" '}' >"$room/repo/crates/$name/src/lib.rt"
+done
+printf '%s\n' '#![tactic(auto)]' '' 'use std::io;' '' 'fn main(rt: HostRuntime) -> io::Result<()> {' '    let number = second::again(3);' \
+    '    println!(rt; "{number}")' '}' >"$room/repo/crates/third/src/main.rt"
+(build_programs "$room/repo" third) 2>/dev/null && cp "$room/repo/target/bin/third" "$room/third" && [ "$("$room/third")" = 3 ]
+count $? "a program over two libraries"
 cp -a "$room/repo" "$room/whole"
 
 # Damages a copy of the tree, and builds the program again. SAID is whether that is told.
@@ -264,41 +269,64 @@ cut_off() { # NAME SAID COMMAND ..
     shift 2
     rm -rf "$room/repo"
     cp -a "$room/whole" "$room/repo"
-    (cd "$room/repo/target" && "$@")
+    (cd "$room/repo/crates" && "$@")
     (build_programs "$room/repo" third) >"$room/out" 2>"$room/err" </dev/null || ended=$?
-    [ "$ended" = 0 ] && cmp "$room/third" "$room/repo/target/bin/third" && [ "$said" = "$(grep -c 'target/ is not whole' "$room/err")" ]
+    [ "$ended" = 0 ] && cmp "$room/third" "$room/repo/target/bin/third" && [ "$said" = "$(grep -c 'in out/ are not whole' "$room/err")" ]
     count $? "cut off $name (status $ended): $(cat "$room/err")"
 }
-half_linked() {
-    rm stamp/third bin/third.made
-    head -c 100 "$room/third" >bin/third
+without_program() {
+    rm -r ../target/bin third/out/third && rm -r "$@"
 }
-cut_off 'while target/ was removed: a library is gone' 1 rm -r rlib/first.rlib bin stamp/third
-cut_off 'while target/ was removed: half of a library is gone' 1 rm -r rlib/second.rlib/interface bin stamp/third
-cut_off 'while target/ was removed: the stamps are gone' 1 rm -r stamp rlib/first.rlib/format bin
-cut_off 'while target/ was removed: a program is gone' 0 rm -r bin
-cut_off 'while a program was linked' 0 half_linked
+half_of() { # FILE     of the program, which is not known to be whole then
+    rm ../target/bin/third.made
+    head -c 100 "$room/third" >"$1"
+}
+cut_off 'while out/ was removed: all of a crate is gone' 0 without_program first/out
+cut_off 'while out/ was removed: a library is gone' 0 without_program first/out/rlib/first.rlib
+cut_off 'while out/ was removed: half of a library is gone' 1 without_program second/out/rlib/second.rlib/interface
+cut_off 'while out/ was removed: a library has no format' 1 without_program first/out/rlib/first.rlib/format
+cut_off 'while out/ was removed: the stamps are gone' 0 without_program {first,second}/out/rlib/stamp first/out/rlib/first.rlib/format
+cut_off 'while out/ was removed: a program is gone' 0 without_program third/out/third.o
+cut_off 'while target/ was removed: a program is gone' 0 rm -r ../target/bin
+cut_off 'while a program was linked' 0 half_of third/out/third
+cut_off 'while a program was copied' 0 half_of ../target/bin/third
 
-# A library of which half is written; rt is a stand-in.
+# A library of which half is written, by rt or by the copying; rt and cp are stand-ins.
 cat >"$room/bin/rt" <<'STAND_IN'
 #!/bin/sh
-echo half >target/staticlib/libfarzhudyl.a
-if [ -n "$CUT" ]; then kill -s KILL $$; fi
-if [ -n "$MEANWHILE" ]; then sleep 0.1 && touch crates/first/src/lib.rt; fi
-echo whole >target/staticlib/libfarzhudyl.a
+echo half >out/libfarzhudyl_c.a
+if [ "$CUT" = made ]; then kill -s KILL $$; fi
+if [ -n "$MEANWHILE" ]; then sleep 0.1 && touch ../first/src/lib.rt; fi
+echo whole >out/libfarzhudyl_c.a
 STAND_IN
-chmod +x "$room/bin/rt"
+rm "$room/bin/cp"
+cat >"$room/bin/cp" <<'STAND_IN'
+#!/bin/sh
+if [ "$CUT" = copied ]; then
+    echo half >"$3"
+    kill -s KILL "$PPID"
+    exit 1
+fi
+PATH=${PATH#*:} exec cp "$@"
+STAND_IN
+chmod +x "$room/bin/rt" "$room/bin/cp"
+mkdir -p "$room/repo/crates/farzhudyl_c/out"
 library=$room/repo/target/staticlib/libfarzhudyl.a
 found() { # CUT MEANWHILE
     (unset FARZHUDYL_LIB_DIR && export CUT=$1 MEANWHILE=$2 PATH=$room/bin:$PATH && find_library "$room/repo") >/dev/null 2>"$room/err"
 }
-! found 1 '' && [ "$(cat "$library")" = half ]
-count $? "half of a library is written"
+! found made '' && [ "$(cat "$room/repo/crates/farzhudyl_c/out/libfarzhudyl_c.a")" = half ] && [ ! -e "$library" ]
+count $? "half of a library is made"
+! found copied '' 2>/dev/null && [ "$(cat "$library")" = half ]
+count $? "half of a library is copied"
 found '' 1 && [ "$(cat "$library")" = whole ]
 count $? "half of a library is not taken for one: $(cat "$room/err")"
 found '' '' && [ -s "$room/err" ]
 count $? "a library is made again if a crate changed while it was made"
 found '' '' && [ ! -s "$room/err" ]
 count $? "and only then: $(cat "$room/err")"
+touch "$room/repo/crates/"{first/out,farzhudyl_c/out,farzhudyl_c}
+found '' '' && [ ! -s "$room/err" ]
+count $? "what rt keeps in out/ is no change: $(cat "$room/err")"
 
 counted
