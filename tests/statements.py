@@ -2,8 +2,8 @@
 """What a reader is told of the statements is so: no line of a definition or of a contract is wider than 120 columns; each promise of
 docs/PROMISES.md rests on as many lines as it says (scripts/believe); the files that it names are there, and so is every edit that must be refused;
 definitions that nobody need believe say so, and those that must be believed cite no others, nor the tests of the refusal table; no code stands on
-the demands and requests; each request has a file of statements and one of proofs; each call has the contract that is named there; the man page
-has the header's calls and numbers, and the refusals in its words. The last line is `N passed, M failed`."""
+the demands and requests; each request has a file of statements and one of proofs; each call has the contract that is named there, in C too; the man
+page has the header's calls and numbers, and the refusals in its words. The last line is `N passed, M failed`."""
 import glob
 import os
 import re
@@ -62,7 +62,7 @@ hold("every file that docs/PROMISES.md names is there", [f"{c}/{k}/{n}" for c, k
 believed = {"lists", "integers", "sets", "pairs", "clusters", "answers", "interface", "demands", "requests"}
 head = {p: text(p).split("\nuse ")[0].replace("\n-- ", " ") for p in specs}
 hold("what is the code's own vocabulary says so", [p for p in specs if p.split("/")[1] not in believed and "believe" not in head[p]])
-cited = [f"{p}: {c}" for p in specs if p.split("/")[1] in believed for c in re.findall(r"^use Rattle·([a-z]+)", text(p), re.M) if c not in believed]
+cited = [f"{p}: {c}" for p in specs if p.split("/")[1] in believed for c in re.findall(r"^(?:pub )?use Rattle\.(\w+)", text(p), re.M) if c not in believed | {"std"}]
 hold("what must be believed cites nothing else", cited)
 
 worded = [p for p in specs if p.split("/")[1] in ("demands", "requests")]
@@ -70,11 +70,11 @@ hold(
     "what is said in words cites no test of the refusal table",
     [p for p in worded if "specs.Refusals." in text(p)] or ([] if len(worded) > 12 else [f"only {len(worded)} files were found"]),
 )
-stated = dict(re.findall(r"^(\w+):(.*)$", text("crates.txt"), re.M))
+stated = dict(re.findall(r"^(\w+)(?: staticlib)?:(.*)$", text("crates.txt"), re.M))
 hold(
     "no code stands on the demands and requests",
     [f"crates.txt: {c}" for c, needs in stated.items() if c != "requests" and {"demands", "requests"} & set(needs.split())]
-    + [p for p in glob.glob("crates/*/src/*.rt") if re.search(r"Rattle·(demands|requests)", text(p))],
+    + [p for p in glob.glob("crates/*/src/*.rt") if re.search(r"Rattle\.(demands|requests)\b", text(p))],
 )
 rooms = {p.split("/")[3] for p in worded if "/requests/" in p}
 hold("each request has a file of statements and one of proofs", [p for p in rooms if not os.path.exists(f"crates/requests/proofs/{p}")] or ([] if len(rooms) > 5 else ["few were found"]))
@@ -82,7 +82,7 @@ hold("each request has a file of statements and one of proofs", [p for p in room
 named = []
 tables = promises[promises.index("| in C |") : promises.index("## The sheet")] + promises[promises.index("## Wrong versions") :]
 for section in re.findall(r"^\|.*$|^Further ones.*?(?=\n\n)", tables, re.M | re.S):
-    for word in re.findall(r"(?<![\w/:`])(?:([a-z]+)/)?([a-z]+(?:_[a-zA-Z0-9]+)+)(?![\w(/])", section):
+    for word in re.findall(r"(?<![\w/:])(?:([a-z]+)/)?([a-z]+(?:_[a-zA-Z0-9]+)+)(?![\w(/])", re.sub(r"`[^`]*`", "", section)):
         named.append(word)
 edits = {tuple(p[:-5].split("/")[1::2]) for p in glob.glob("crates/*/must-fail/*.edit")}
 edits |= {("forged", p[:-5].split("/")[2]) for p in glob.glob("tests/forged/*.edit")}
@@ -107,6 +107,19 @@ for row in re.findall(r"^\| .*`.*$", calls, re.M):
         if not any(all(re.search(rf"\b{word}\b", contract) for word in words) for contract in contracts):
             unlike.append(f"{function}: {words}")
 hold("every call has the contract that docs/PROMISES.md names", unlike or ([] if seen > 18 else [f"only {seen} were found"]))
+
+
+
+def for_c(crate):
+    """What a crate has for C: its functions and its imports, with the layout left out."""
+    source = text(f"crates/{crate}/src/lib.rt")
+    stated = re.findall(r'^pub (?:extern "C" )?fn (farzhudyl_\w+)(.*?)^\{', source, re.M | re.S)
+    brought = re.findall(r"^ghost use ([\w.]+)\.\{([^}]*)\}", source, re.M)
+    return {(name, re.sub(r"\s", "", rest).replace(",)", ")")) for name, rest in stated}, {(m, n.strip()) for m, names in brought for n in names.split(",")}
+
+
+(faces, cited), (exported, brought) = for_c("farzhudyl"), for_c("farzhudyl_c")
+hold("crate farzhudyl_c exports crate farzhudyl's functions with their contracts", sorted(faces ^ exported) + sorted(brought - cited) or ([] if len(faces) > 8 else ["few were found"]))
 
 header, page = text("include/farzhudyl.h"), text("man/farzhudyl.3")
 code = re.sub(r"/\*.*?\*/", "", header, flags=re.S)
