@@ -1,5 +1,6 @@
 -- The groups and splits of each kind, in written order (document 01, What the engine holds; What is written).
-use Rattle.std.specs.Prelude.{◌≡◌, Bool, not, cond, ◌&&◌, ◌⊎◌, List, [], ◌∷◌, map, ℕ, suc, ◌*◌, ◌-◌, ◌^◌, ◌<◌, ℤ, pos, eqb, leb, ltb}
+use Rattle.std.specs.Prelude.{◌≡◌, Bool, not, cond, ◌&&◌, ◌⊎◌, List, [], ◌∷◌, map, ℕ, suc, ◌*◌, ◌-◌, ◌^◌, ◌<◌, ℤ, pos}
+use Rattle.std.specs.Prelude.{eqb, leb, ltb}
 use Rattle.std.specs.Int.Signed.{le_z}
 use Rattle.lists.specs.Lists.{◌∈◌, below, each, keep}
 use Rattle.integers.specs.Integers.{eq_z}

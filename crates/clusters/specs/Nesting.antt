@@ -1,5 +1,6 @@
 -- The smallest group that two entries share (document 02, 2.1), and the one around a group (2.7).
-use Rattle.std.specs.Prelude.{◌≡◌, Bool, not, cond, ◌&&◌, ◌||◌, ◌≢◌, ◌↔◌, List, [], ◌∷◌, ℕ, zero, suc, ◌<◌, ◌≤◌, eqb, ltb, length, get_or}
+use Rattle.std.specs.Prelude.{◌≡◌, Bool, not, cond, ◌&&◌, ◌||◌, ◌≢◌, ◌↔◌, List, [], ◌∷◌, ℕ, zero, suc, ◌<◌, ◌≤◌, eqb}
+use Rattle.std.specs.Prelude.{ltb, length, get_or}
 use Rattle.lists.specs.Lists.{◌∈◌, all}
 use Rattle.sets.specs.Sets.{has, ◌∋◌, ◌∌◌, members, size, all_entries, Subset}
 

@@ -1,6 +1,7 @@
 -- The pair list (document 01, The sheet): "the lower triangle with own pairs, row by row, n(n+1)/2 signed 32-bit
 -- numbers".
-use Rattle.std.specs.Prelude.{◌≡◌, Bool, true, not, ◌&&◌, List, map, ℕ, suc, ◌+◌, ◌*◌, ◌/◌, max, min, ℤ, pos, neg_ℤ, eqb, length, get_or}
+use Rattle.std.specs.Prelude.{◌≡◌, Bool, true, not, ◌&&◌, List, map, ℕ, suc, ◌+◌, ◌*◌, ◌/◌, max, min, ℤ, pos, neg_ℤ}
+use Rattle.std.specs.Prelude.{eqb, length, get_or}
 use Rattle.std.specs.Int.Signed.{le_z}
 use Rattle.lists.specs.Lists.{below, each, all}
 use Rattle.integers.specs.Integers.{eq_z}

@@ -201,30 +201,30 @@ module _ {kind : ℤ} {sheet bytes : List ℕ} (l : Listed kind sheet bytes) whe
       map-map group_of (line_of n) found ∙ map-id found
 
 -- the slots of a numbers call that is not refused
-module _ {kind : ℤ} {n : ℕ} {l : List ℤ} {lentSets : List ℕ} {lentIndices : List ℤ} {r : Answer} {sets : List ℕ} {indices : List ℤ}
-    (c : NumbersCall kind n l lentSets lentIndices r sets indices) (z : number_of r ≡ 0) where
+module _ {kind : ℤ} {n : ℕ} {l : List ℤ} {lent_sets : List ℕ} {lent_indices : List ℤ} {r : Answer} {sets : List ℕ} {indices : List ℤ}
+    (c : NumbersCall kind n l lent_sets lent_indices r sets indices) (z : number_of r ≡ 0) where
   abbrev found : List Group
   found = groups_found kind n l
 
   numbers_left : Passed kind n l
-  numbers_left = numbers_passed kind n l (length lentSets) (length lentIndices)
-      (not_refused (numbers_refusal kind n l (length lentSets) (length lentIndices)) (length found) c.answered z)
+  numbers_left = numbers_passed kind n l (length lent_sets) (length lent_indices)
+      (not_refused (numbers_refusal kind n l (length lent_sets) (length lent_indices)) (length found) c.answered z)
 
   count_found : count_of r ≡ length found
-  count_found = counted (numbers_refusal kind n l (length lentSets) (length lentIndices)) (length found) c.answered z
+  count_found = counted (numbers_refusal kind n l (length lent_sets) (length lent_indices)) (length found) c.answered z
 
   slots_found : groups_in (count_of r) sets indices ≡ found
   unfolding sets_found indices_found filled
   slots_found =
-      let k = numbers_refusal kind n l (length lentSets) (length lentIndices) in
+      let k = numbers_refusal kind n l (length lent_sets) (length lent_indices) in
       let none = not_refused k (length found) c.answered z in
-      let s = c.setsWritten ∙ ap (λ (j : ℕ). filled 0 j (sets_found kind n l) lentSets) none in
-      let i = c.indicesWritten ∙ ap (λ (j : ℕ). filled (pos 0) j (indices_found kind n l) lentIndices) none in
+      let s = c.sets_written ∙ ap (λ (j : ℕ). filled 0 j (sets_found kind n l) lent_sets) none in
+      let i = c.indices_written ∙ ap (λ (j : ℕ). filled (pos 0) j (indices_found kind n l) lent_indices) none in
       ap₂ (λ (s : List ℕ) (i : List ℤ). groups_in (count_of r) s i) s i
-      ∙ ap (λ (j : ℕ). groups_in j (filled 0 0 (sets_found kind n l) lentSets) (filled (pos 0) 0 (indices_found kind n l) lentIndices)) count_found
+      ∙ ap (λ (j : ℕ). groups_in j (filled 0 0 (sets_found kind n l) lent_sets) (filled (pos 0) 0 (indices_found kind n l) lent_indices)) count_found
       ∙ groups_slots found
-      (replicate (length lentSets - length (sets_found kind n l)) 0)
-      (replicate (length lentIndices - length (indices_found kind n l)) (pos 0))
+      (replicate (length lent_sets - length (sets_found kind n l)) 0)
+      (replicate (length lent_indices - length (indices_found kind n l)) (pos 0))
 
 -- what a call wrote is the groups of a list that passes
 pub wrote : {kind : ℤ} {n : ℕ} {l : List ℤ} {found : List Group} → Wrote kind n l found → found ≡ groups (kind_of kind) n (score l)
@@ -403,7 +403,7 @@ linked_fills {n = n} {l} {lent} c none =
 pub demand_3 : (kind : ℤ) → Demand3 kind
 demand_3 kind = record {
   lines = λ l. (lines l, lines_read l, line_size l);
-  slots = λ {n} {l} {lentIndices} {indices} {lentSets} {sets} {r} c z. (
+  slots = λ {n} {l} {lent_indices} {indices} {lent_sets} {sets} {r} c z. (
     length_groups_in (count_of r) sets indices,
     λ k h none. let at = group_at (count_of r) sets indices k none h in (ap (λ (g : Group). g.set) at, ap (λ (g : Group). g.index) at),
   );

@@ -231,11 +231,11 @@ whatever_fits = record {
       let given = (agree_none (reader_agrees text)).0 (read_passed f) in
       let there : i < entries text = omega (arith, sheet_text_entries (formed f)) in
       ((turned_away.name_in_C c).0.name given there).0 ∙ ap (λ (l : List (List ℕ)). get_or l i []) (sheet_text_names (formed f));
-  numbers = λ {n} {l} f {kind} k {lentSets} {sets} {lentIndices} c.
+  numbers = λ {n} {l} f {kind} k {lent_sets} {sets} {lent_indices} c.
       let j = turned_away.numbers_call c in
       let before : Table = ((1, NoKind kind) ∷ pair_table n l) ++ kind_table kind n l in
       let none = none_both ((1, NoKind kind) ∷ pair_table n l) (kind_table kind n l) ((kind_none k).0, pair_none f) (kind_none k).1 in
-      let last : Table = (13, FewerThan2n n (length lentSets) (length lentIndices)) ∷ [] in (
+      let last : Table = (13, FewerThan2n n (length lent_sets) (length lent_indices)) ∷ [] in (
         λ h g. j.taken.1 (none_both before last none (few h g, tt)),
         λ h. (j.refused 13 (lit< tt)).1 (given_behind before last 13 none (inl (refl, inl h))),
         λ h. (j.refused 13 (lit< tt)).1 (given_behind before last 13 none (inl (refl, inr h))),

@@ -129,13 +129,13 @@ turned_away = record {
   one_way = λ p q. sym (pieces_cut p) ∙ pieces_cut q;
   sheet_call = λ {kind} {sheet} {lent} c. judged_by (sheet_agrees kind sheet (length lent)) _ _ c.answered c.written;
   reader = λ {sheet} c. judged_by (reader_agrees sheet) _ _ c.answered c.written;
-  numbers_call = λ {kind} {n} {l} {lentIndices} {indices} {lentSets} c.
-      let k = numbers_refusal kind n l (length lentSets) (length lentIndices) in
+  numbers_call = λ {kind} {n} {l} {lent_indices} {indices} {lent_sets} c.
+      let k = numbers_refusal kind n l (length lent_sets) (length lent_indices) in
       let many = length (groups_found kind n l) in
-      judged (numbers_agree kind n l (length lentSets) (length lentIndices)) (its_number k many c.answered) λ f.
+      judged (numbers_agree kind n l (length lent_sets) (length lent_indices)) (its_number k many c.answered) λ f.
       let g : k ≢ 0 = λ z. f (its_number k many c.answered ∙ z) in (
-        unfilled 0 k (sets_found kind n l) lentSets c.setsWritten g,
-        unfilled (pos 0) k (indices_found kind n l) lentIndices c.indicesWritten g,
+        unfilled 0 k (sets_found kind n l) lent_sets c.sets_written g,
+        unfilled (pos 0) k (indices_found kind n l) lent_indices c.indices_written g,
         ap count_of c.answered ∙ count_refused k many (above g),
       );
   linkage_call = λ {linkage} {n} {l} {lent} c. judged_by (linkage_agrees n l (length lent)) _ _ c.answered c.written;

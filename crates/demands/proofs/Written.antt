@@ -174,23 +174,23 @@ written = record {
     counted _ _ c.answered z,
     beyond _ _ _ _ c.answered c.written z (length_pair_list (entries sheet) (value sheet) ∙ ap row_start (sym (counted _ _ c.answered z))),
   );
-  numbers = λ {kind} {n} {l} {lentIndices} {indices} {lentSets} {sets} {r} c z.
-      let k = numbers_refusal kind n l (length lentSets) (length lentIndices) in
+  numbers = λ {kind} {n} {l} {lent_indices} {indices} {lent_sets} {sets} {r} c z.
+      let k = numbers_refusal kind n l (length lent_sets) (length lent_indices) in
       let found = groups_found kind n l in
       let many = length found in
       let zero_is = not_refused k many c.answered z in
       let count = counted k many c.answered z in
-      let few = enough kind n l (length lentSets) (length lentIndices) ((turned_away.numbers_call c).taken.0 z) in
+      let few = enough kind n l (length lent_sets) (length lent_indices) ((turned_away.numbers_call c).taken.0 z) in
       let most = groups_most (kind_of kind) n (score l) (score_symm l) in
       let s : length (sets_found kind n l) ≡ many = length-map found (λ (g : Group). g.set) in
       let i : length (indices_found kind n l) ≡ many = length-map found (λ (g : Group). g.index) in
-      let hs : length (sets_found kind n l) ≤ length lentSets = room (λ h. few (inl h)) (omega arith) in
-      let hi : length (indices_found kind n l) ≤ length lentIndices = room (λ h. few (inr h)) (omega arith) in (
-        filled_long 0 k (sets_found kind n l) lentSets c.setsWritten zero_is hs,
-        filled_long (pos 0) k (indices_found kind n l) lentIndices c.indicesWritten zero_is hi,
+      let hs : length (sets_found kind n l) ≤ length lent_sets = room (λ h. few (inl h)) (omega arith) in
+      let hi : length (indices_found kind n l) ≤ length lent_indices = room (λ h. few (inr h)) (omega arith) in (
+        filled_long 0 k (sets_found kind n l) lent_sets c.sets_written zero_is hs,
+        filled_long (pos 0) k (indices_found kind n l) lent_indices c.indices_written zero_is hi,
         λ j h. (
-          filled_nil 0 k (sets_found kind n l) lentSets c.setsWritten zero_is hs j (omega arith),
-          filled_nil (pos 0) k (indices_found kind n l) lentIndices c.indicesWritten zero_is hi j (omega arith),
+          filled_nil 0 k (sets_found kind n l) lent_sets c.sets_written zero_is hs j (omega arith),
+          filled_nil (pos 0) k (indices_found kind n l) lent_indices c.indices_written zero_is hi j (omega arith),
         ),
       );
   listing = λ x. says_lines x;

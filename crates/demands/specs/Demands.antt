@@ -1,6 +1,7 @@
 -- The demands, said of what the calls answer and write. What is said of an answer here is said of its number in C too:
 -- that number determines it (`TurnedAway.in-C`).
-use Rattle.std.specs.Prelude.{◌≡◌, ◌⊎◌, ◌≢◌, ◌↔◌, List, ◌++◌, map, ℕ, ◌^◌, ◌<◌, ◌≤◌, ℤ, pos, neg_ℤ, ◌≤ℤ◌, length, get_or, take, drop}
+use Rattle.std.specs.Prelude.{◌≡◌, ◌⊎◌, ◌≢◌, ◌↔◌, List, ◌++◌, map, ℕ, ◌^◌, ◌<◌, ◌≤◌, ℤ, pos, neg_ℤ, ◌≤ℤ◌, length}
+use Rattle.std.specs.Prelude.{get_or, take, drop}
 use Rattle.std.proofs.Math.Option.{some}
 use Rattle.lists.specs.Lists.{◌∈◌, Distinct}
 use Rattle.sets.specs.Sets.{◌∋◌, ◌∌◌, size, complement, Nested, Disjoint}
@@ -46,8 +47,8 @@ pub data Listed (kind : ℤ) (sheet : List ℕ) : List ℕ → Type 0 where
 pub data Wrote (kind : ℤ) : ℕ → List ℤ → List Group → Type 0 where
   in_lines : {sheet bytes : List ℕ} {ls : List Line} → Listed kind sheet bytes → listing_read bytes ≡ some ls
       → Wrote kind (entries sheet) (pairs sheet) (map group_of ls)
-  in_slots : {n : ℕ} {l lentIndices indices : List ℤ} {lentSets sets : List ℕ} {r : Answer}
-      → NumbersCall kind n l lentSets lentIndices r sets indices
+  in_slots : {n : ℕ} {l lent_indices indices : List ℤ} {lent_sets sets : List ℕ} {r : Answer}
+      → NumbersCall kind n l lent_sets lent_indices r sets indices
       → number_of r ≡ 0 → Wrote kind n l (groups_in (count_of r) sets indices)
 
 -- Demand 2: "Every index written equals the definition of Bryant and Berry in document 01's whole-number form": 003,
@@ -137,8 +138,8 @@ pub record Demand3 (kind : ℤ) : Type 0 where
       → (ls : List Line) × (listing_read bytes ≡ some ls)
       × ((l : Line) → l ∈ ls → l.size ≡ size (entries sheet) l.set)
   -- the numbers call's slots hold as many groups as it counts, each with its index in the slot of the same number
-  pub slots : {n : ℕ} {l lentIndices indices : List ℤ} {lentSets sets : List ℕ} {r : Answer}
-      → NumbersCall kind n l lentSets lentIndices r sets indices → number_of r ≡ 0
+  pub slots : {n : ℕ} {l lent_indices indices : List ℤ} {lent_sets sets : List ℕ} {r : Answer}
+      → NumbersCall kind n l lent_sets lent_indices r sets indices → number_of r ≡ 0
       → let found = groups_in (count_of r) sets indices in
       (length found ≡ count_of r) × ((k : ℕ) → k < count_of r → (none : Group)
       → ((get_or found k none).set ≡ get_or sets k 0) × ((get_or found k none).index ≡ get_or indices k (pos 0)))

@@ -1,5 +1,6 @@
 -- The order of merging, said of the slots that a linkage call wrote.
-use Rattle.std.specs.Prelude.{◌≡◌, ◌⊎◌, ◌≢◌, ◌↔◌, List, [], ◌∷◌, ℕ, ◌+◌, ◌*◌, ◌^◌, ◌<◌, ◌≤◌, ℤ, pos, ◌*ℤ◌, ◌≤ℤ◌, length, get_or, take}
+use Rattle.std.specs.Prelude.{◌≡◌, ◌⊎◌, ◌≢◌, ◌↔◌, List, [], ◌∷◌, ℕ, ◌+◌, ◌*◌, ◌^◌, ◌<◌, ◌≤◌, ℤ, pos, ◌*ℤ◌, ◌≤ℤ◌, length}
+use Rattle.std.specs.Prelude.{get_or, take}
 use Rattle.lists.specs.Lists.{◌∈◌}
 use Rattle.integers.specs.Integers.{sum_of}
 use Rattle.sets.specs.Sets.{◌∋◌, members, size, Subset}

@@ -1,7 +1,8 @@
 -- The sentences of the refusal table (document 01, Where a call is turned away), in words: of bytes, lengths, line
 -- feeds counted, pieces between separators, and numbers with their bounds. No check of interface/specs/Refusals is
 -- named here. What only a request's call checks is said in its file of requests/specs.
-use Rattle.std.specs.Prelude.{◌≡◌, ◌⊎◌, ◌≢◌, List, [], ◌∷◌, ◌++◌, ℕ, suc, ◌+◌, ◌*◌, ◌/◌, ◌<◌, ◌≤◌, ℤ, pos, neg_ℤ, ◌≤ℤ◌, eqb, length, get_or}
+use Rattle.std.specs.Prelude.{◌≡◌, ◌⊎◌, ◌≢◌, List, [], ◌∷◌, ◌++◌, ℕ, suc, ◌+◌, ◌*◌, ◌/◌, ◌<◌, ◌≤◌, ℤ, pos, neg_ℤ, ◌≤ℤ◌}
+use Rattle.std.specs.Prelude.{eqb, length, get_or}
 use Rattle.lists.specs.Lists.{◌∈◌, keep}
 use Rattle.integers.specs.Range.{Within}
 use Rattle.pairs.specs.declared.Carried.{Carried}

@@ -1,7 +1,8 @@
 -- Whatever fits is taken: names and scores that a sheet can have, said by bytes, lengths and numbers, get a listing,
 -- and the pair list that they give is taken by every call on it (those of the requests in their own files). A buffer or
 -- a slice is short only if it measures so.
-use Rattle.std.specs.Prelude.{◌≡◌, ◌⊎◌, ◌≢◌, List, [], ℕ, ◌+◌, ◌-◌, ◌*◌, ◌/◌, ◌<◌, ◌≤◌, ℤ, pos, neg_ℤ, ◌≤ℤ◌, length, get_or, take, drop}
+use Rattle.std.specs.Prelude.{◌≡◌, ◌⊎◌, ◌≢◌, List, [], ℕ, ◌+◌, ◌-◌, ◌*◌, ◌/◌, ◌<◌, ◌≤◌, ℤ, pos, neg_ℤ, ◌≤ℤ◌, length}
+use Rattle.std.specs.Prelude.{get_or, take, drop}
 use Rattle.lists.specs.Lists.{◌∈◌}
 use Rattle.integers.specs.Range.{Within}
 use Rattle.clusters.specs.PairList.{Similarity}
@@ -61,10 +62,10 @@ pub record Taken : Type 0 where
       → take r (drop start (sheet_text ns s)) ≡ get_or ns i []
   -- of a pair list that fits: the numbers call counts with 2n slots in each slice, and gives 13 with fewer in either
   pub numbers : {n : ℕ} {l : List ℤ} → FitsList n l → {kind : ℤ} → ListKind n l kind
-      → {lentSets sets : List ℕ} {lentIndices indices : List ℤ} {r : Answer}
-      → NumbersCall kind n l lentSets lentIndices r sets indices
-      → (2 * n ≤ length lentSets → 2 * n ≤ length lentIndices → number_of r ≡ 0)
-      × (length lentSets < 2 * n → number_of r ≡ 13) × (length lentIndices < 2 * n → number_of r ≡ 13)
+      → {lent_sets sets : List ℕ} {lent_indices indices : List ℤ} {r : Answer}
+      → NumbersCall kind n l lent_sets lent_indices r sets indices
+      → (2 * n ≤ length lent_sets → 2 * n ≤ length lent_indices → number_of r ≡ 0)
+      × (length lent_sets < 2 * n → number_of r ≡ 13) × (length lent_indices < 2 * n → number_of r ≡ 13)
   -- the linkage calls take it if every pair is scored, the anchored call if they are distances
   pub linked : {n : ℕ} {l : List ℤ} → FitsList n l → (HasMark l → ⊥)
       → {linkage : Linkage} {lent after : List ℕ} {r : Answer} → LinkageCall linkage n l lent r after

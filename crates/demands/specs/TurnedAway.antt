@@ -65,10 +65,10 @@ pub record TurnedAway : Type 1 where
       → JudgedBy (sheet_table kind sheet (length lent)) r lent after
   pub reader : {sheet : List ℕ} {lent after : List ℤ} {r : Answer} → ReaderCall sheet lent r after
       → JudgedBy (reader_table sheet) r lent after
-  pub numbers_call : {kind : ℤ} {n : ℕ} {l lentIndices indices : List ℤ} {lentSets sets : List ℕ} {r : Answer}
-      → NumbersCall kind n l lentSets lentIndices r sets indices
-      → Judged (numbers_table kind n l (length lentSets) (length lentIndices)) (number_of r)
-      ((sets ≡ lentSets) × (indices ≡ lentIndices) × (count_of r ≡ 0))
+  pub numbers_call : {kind : ℤ} {n : ℕ} {l lent_indices indices : List ℤ} {lent_sets sets : List ℕ} {r : Answer}
+      → NumbersCall kind n l lent_sets lent_indices r sets indices
+      → Judged (numbers_table kind n l (length lent_sets) (length lent_indices)) (number_of r)
+      ((sets ≡ lent_sets) × (indices ≡ lent_indices) × (count_of r ≡ 0))
   pub linkage_call : {linkage : Linkage} {n : ℕ} {l : List ℤ} {lent after : List ℕ} {r : Answer}
       → LinkageCall linkage n l lent r after → JudgedBy (linkage_table n l (length lent)) r lent after
   pub anchored_call : {n x : ℕ} {l lent after : List ℤ} {r : Answer} → AnchoredCall n x l lent r after

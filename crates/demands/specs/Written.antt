@@ -1,5 +1,6 @@
 -- What the calls write, by bytes and numbers, and what they do not touch. No definition of the writer is named here.
-use Rattle.std.specs.Prelude.{◌≡◌, ◌⊎◌, ◌≢◌, List, [], ◌∷◌, ◌++◌, ℕ, ◌+◌, ◌*◌, ◌/◌, ◌<◌, ◌≤◌, max, min, ℤ, pos, ◌+ℤ◌, ◌-ℤ◌, length, get_or, drop}
+use Rattle.std.specs.Prelude.{◌≡◌, ◌⊎◌, ◌≢◌, List, [], ◌∷◌, ◌++◌, ℕ, ◌+◌, ◌*◌, ◌/◌, ◌<◌, ◌≤◌, max, min, ℤ, pos, ◌+ℤ◌}
+use Rattle.std.specs.Prelude.{◌-ℤ◌, length, get_or, drop}
 use Rattle.std.proofs.Math.Option.{some}
 use Rattle.pairs.specs.declared.Carried.TheVariants.{Scored, Unscored}
 use Rattle.pairs.specs.declared.Pair.{Pair}
@@ -69,9 +70,9 @@ pub record Written : Type 0 where
   pub reader : {sheet : List ℕ} {lent after : List ℤ} {r : Answer} → ReaderCall sheet lent r after
       → number_of r ≡ 0 → let n = count_of r in (n ≡ entries sheet) × Beyond (n * (n + 1) / 2) lent after
   -- the numbers call "fills all further slots with 0"
-  pub numbers : {kind : ℤ} {n : ℕ} {l lentIndices indices : List ℤ} {lentSets sets : List ℕ} {r : Answer}
-      → NumbersCall kind n l lentSets lentIndices r sets indices → number_of r ≡ 0
-      → (length sets ≡ length lentSets) × (length indices ≡ length lentIndices)
+  pub numbers : {kind : ℤ} {n : ℕ} {l lent_indices indices : List ℤ} {lent_sets sets : List ℕ} {r : Answer}
+      → NumbersCall kind n l lent_sets lent_indices r sets indices → number_of r ≡ 0
+      → (length sets ≡ length lent_sets) × (length indices ≡ length lent_indices)
       × ((k : ℕ) → count_of r ≤ k → (get_or sets k 0 ≡ 0) × (get_or indices k (pos 0) ≡ pos 0))
   -- what is listed says, byte by byte, the lines that are read back from it
   pub listing : {kind : ℤ} {sheet bytes : List ℕ} → Listed kind sheet bytes

@@ -79,8 +79,8 @@ module _ {kind : ℤ} {n : ℕ} {l : List ℤ} {sets : List ℕ} {indices : List
   unfolding filled
   numbers_refused f = record {
     answered = (refused (length (groups_found kind n l)) sets sets e f).0;
-    setsWritten = rw (sym e, ne_eqb r 0 f);
-    indicesWritten = rw (sym e, ne_eqb r 0 f);
+    sets_written = rw (sym e, ne_eqb r 0 f);
+    indices_written = rw (sym e, ne_eqb r 0 f);
   }
 
   pub numbers_counted : {found : Found} {sets' : List ℕ} {indices' : List ℤ} → r ≡ 0 → Groups (kind_of kind) n l found
@@ -90,6 +90,6 @@ module _ {kind : ℤ} {n : ℕ} {l : List ℤ} {sets : List ℕ} {indices : List
   unfolding filled answer
   numbers_counted z g s x = record {
     answered = rw (sym e ∙ z) (ap Count (g.count ∙ sym (count_found kind n l)));
-    setsWritten = s ∙ rw (eq-eqb _ 0 (sym e ∙ z), sets_found_lem kind n l, g.sets);
-    indicesWritten = x ∙ rw (eq-eqb _ 0 (sym e ∙ z), indices_found_lem kind n l, g.indices);
+    sets_written = s ∙ rw (eq-eqb _ 0 (sym e ∙ z), sets_found_lem kind n l, g.sets);
+    indices_written = x ∙ rw (eq-eqb _ 0 (sym e ∙ z), indices_found_lem kind n l, g.indices);
   }

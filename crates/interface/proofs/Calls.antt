@@ -158,25 +158,25 @@ examples = record {
 }
 
 -- the numbers call, given 7 and 6 slots, counts 3, puts the three singles, and "fills all further slots with 0"
-pub numbers_example : (lentSets sets : List ℕ) (lentIndices indices : List ℤ) (r : Answer) → length lentSets ≡ 7 → length lentIndices ≡ 6
-    → NumbersCall (pos 1) 3 own lentSets lentIndices r sets indices
+pub numbers_example : (lent_sets sets : List ℕ) (lent_indices indices : List ℤ) (r : Answer) → length lent_sets ≡ 7 → length lent_indices ≡ 6
+    → NumbersCall (pos 1) 3 own lent_sets lent_indices r sets indices
     → (r ≡ Count 3)
     × (sets ≡ 1 ∷ 2 ∷ 4 ∷ 0 ∷ 0 ∷ 0 ∷ 0 ∷ [])
     × (indices ≡ pos 1 ∷ pos 1 ∷ pos 1 ∷ pos 0 ∷ pos 0 ∷ pos 0 ∷ [])
 unfolding answer filled
-numbers_example lentSets sets lentIndices indices r seven six c =
-    let none : numbers_refusal (pos 1) 3 own (length lentSets) (length lentIndices) ≡ 0 =
+numbers_example lent_sets sets lent_indices indices r seven six c =
+    let none : numbers_refusal (pos 1) 3 own (length lent_sets) (length lent_indices) ≡ 0 =
     ap₂ (numbers_refusal (pos 1) 3 own) seven six ∙ examples.passes in (
       c.answered ∙ ap₂ answer none examples.many,
-      c.setsWritten ∙ rw (none, examples.these, seven),
-      c.indicesWritten ∙ rw (none, examples.their, six),
+      c.sets_written ∙ rw (none, examples.these, seven),
+      c.indices_written ∙ rw (none, examples.their, six),
     )
 
 -- refused, it writes nothing
-pub numbers_refused : (lentSets sets : List ℕ) (lentIndices indices : List ℤ) (r : Answer)
-    → NumbersCall (pos 0) 3 own lentSets lentIndices r sets indices → (r ≡ Refused 1) × (sets ≡ lentSets) × (indices ≡ lentIndices)
+pub numbers_refused : (lent_sets sets : List ℕ) (lent_indices indices : List ℤ) (r : Answer)
+    → NumbersCall (pos 0) 3 own lent_sets lent_indices r sets indices → (r ≡ Refused 1) × (sets ≡ lent_sets) × (indices ≡ lent_indices)
 unfolding numbers_refusal numbers_checks first_of wrong_kind eq_z answer filled
-numbers_refused lentSets sets lentIndices indices r c = (c.answered, c.setsWritten, c.indicesWritten)
+numbers_refused lent_sets sets lent_indices indices r c = (c.answered, c.sets_written, c.indices_written)
 
 -- a score looked up in C: put in the slot, or nothing is written; a score below 0 is no refusal, nor is the mark
 pub score_example : (lent r after : ℤ) → ScoreInC 2 (pos 0 ∷ negsuc 4 ∷ pos 0 ∷ []) 0 1 lent r after → (r ≡ pos 0) × (after ≡ negsuc 4)

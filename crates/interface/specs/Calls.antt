@@ -1,6 +1,7 @@
 -- What each call answers and writes (document 01): its whole outcome, which is the function's contract. What was lent
 -- to a call held `lent` before it and holds `after` now.
-use Rattle.std.specs.Prelude.{◌≡◌, Bool, cond, ◌&&◌, List, [], ◌∷◌, map, ℕ, zero, suc, ◌+◌, ◌-◌, ℤ, pos, neg_ℤ, eqb, leb, ltb, length, get_or, take, drop}
+use Rattle.std.specs.Prelude.{◌≡◌, Bool, cond, ◌&&◌, List, [], ◌∷◌, map, ℕ, zero, suc, ◌+◌, ◌-◌, ℤ, pos, neg_ℤ, eqb}
+use Rattle.std.specs.Prelude.{leb, ltb, length, get_or, take, drop}
 use Rattle.lists.specs.Lists.{below}
 use Rattle.pairs.specs.declared.Carried.TheVariants.{Scored}
 use Rattle.pairs.specs.declared.Pair.{Pair}
@@ -64,20 +65,20 @@ sets_found kind n l = sets_of (groups_found kind n l)
 unfoldable pub indices_found : ℤ → ℕ → List ℤ → List ℤ
 indices_found kind n l = indices_of (groups_found kind n l)
 
-pub record NumbersCall (kind : ℤ) (n : ℕ) (l : List ℤ) (lentSets : List ℕ) (lentIndices : List ℤ) (r : Answer)
+pub record NumbersCall (kind : ℤ) (n : ℕ) (l : List ℤ) (lent_sets : List ℕ) (lent_indices : List ℤ) (r : Answer)
     (sets : List ℕ) (indices : List ℤ) : Type 0 where
   pub answered :
-      r ≡ answer (numbers_refusal kind n l (length lentSets) (length lentIndices)) (length (groups_found kind n l))
-  pub setsWritten :
-      sets ≡ filled 0 (numbers_refusal kind n l (length lentSets) (length lentIndices)) (sets_found kind n l) lentSets
-  pub indicesWritten :
+      r ≡ answer (numbers_refusal kind n l (length lent_sets) (length lent_indices)) (length (groups_found kind n l))
+  pub sets_written : sets
+      ≡ filled 0 (numbers_refusal kind n l (length lent_sets) (length lent_indices)) (sets_found kind n l) lent_sets
+  pub indices_written :
       indices
-      ≡ filled (pos 0) (numbers_refusal kind n l (length lentSets) (length lentIndices))
-      (indices_found kind n l) lentIndices
+      ≡ filled (pos 0) (numbers_refusal kind n l (length lent_sets) (length lent_indices))
+      (indices_found kind n l) lent_indices
 
--- the groups in the first `count` slots, each with its index
+-- the groups in the first n slots, each with its index
 unfoldable pub groups_in : ℕ → List ℕ → List ℤ → List Group
-groups_in count sets indices = map (λ k. record { set = get_or sets k 0; index = get_or indices k (pos 0) }) (below count)
+groups_in n sets indices = map (λ k. record { set = get_or sets k 0; index = get_or indices k (pos 0) }) (below n)
 
 -- "A linkage call writes the n − 1 merged blocks in the order of merging", of some tree; it "answers how many slots it
 -- wrote; slots beyond are not touched".
@@ -194,6 +195,6 @@ piece_at c s at = get_or (cut c (drop at s)) 0 []
 
 pub record ValueCall (line : List ℕ) (at : ℕ) (r : ValueRead) : Type 0 where
   pub number : read_number r ≡ cond (is_cell (piece_at space line at)) 0 8
-  pub pair : read_pair r
-      ≡ cond (is_cell (piece_at space line at)) (pair_said (piece_at space line at)) (record { carries = Scored (pos 0) })
+  pub pair : read_pair r ≡ cond (is_cell (piece_at space line at)) (pair_said (piece_at space line at))
+      (record { carries = Scored (pos 0) })
   pub place : read_place r ≡ cond (is_cell (piece_at space line at)) (at + length (piece_at space line at)) 0

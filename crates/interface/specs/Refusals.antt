@@ -2,7 +2,8 @@
 -- each line, in its order; and which call makes which checks. Nobody need believe it: demands/specs/Sentences and
 -- Tables say the same in words, and that both agree is proved (demands/proofs/AgreeTables; of a request's call in its
 -- file of requests/proofs).
-use Rattle.std.specs.Prelude.{Bool, not, cond, ◌&&◌, ◌||◌, List, [], ◌∷◌, ◌++◌, ℕ, ◌+◌, ◌-◌, ◌*◌, ◌^◌, ℤ, pos, eqb, leb, ltb, length, get_or}
+use Rattle.std.specs.Prelude.{Bool, not, cond, ◌&&◌, ◌||◌, List, [], ◌∷◌, ◌++◌, ℕ, ◌+◌, ◌-◌, ◌*◌, ◌^◌, ℤ, pos, eqb, leb}
+use Rattle.std.specs.Prelude.{ltb, length, get_or}
 use Rattle.lists.specs.Lists.{below, all}
 use Rattle.integers.specs.Integers.{eq_z}
 use Rattle.sets.specs.Sets.{size, complement}

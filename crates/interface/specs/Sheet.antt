@@ -1,5 +1,6 @@
 -- The sheet (document 01), as a list of bytes: its names and values, its lines, its pair list.
-use Rattle.std.specs.Prelude.{Bool, true, false, not, cond, ◌&&◌, ◌||◌, List, [], ◌∷◌, ℕ, suc, ◌+◌, ◌-◌, ◌*◌, ℤ, pos, neg_ℤ, eqb, leb, length, get_or}
+use Rattle.std.specs.Prelude.{Bool, true, false, not, cond, ◌&&◌, ◌||◌, List, [], ◌∷◌, ℕ, suc, ◌+◌, ◌-◌, ◌*◌, ℤ, pos}
+use Rattle.std.specs.Prelude.{neg_ℤ, eqb, leb, length, get_or}
 use Rattle.lists.specs.Lists.{below, all}
 use Rattle.integers.specs.Integers.{eq_z}
 use Rattle.pairs.specs.declared.Carried.TheVariants.{Scored, Unscored}

@@ -1,6 +1,7 @@
 -- Sets of the entries 0 .. n − 1, written as numbers: "entry i, counted from 0, weighs 2 to the power i" (What is
 -- written). A set A of the n entries is a number A < 2 ^ n.
-use Rattle.std.specs.Prelude.{◌≡◌, Bool, true, not, cond, ◌&&◌, List, ◌⊎◌, ℕ, zero, suc, ◌+◌, ◌*◌, ◌/◌, ◌%◌, ◌^◌, ◌<◌, eqb, length}
+use Rattle.std.specs.Prelude.{◌≡◌, Bool, true, not, cond, ◌&&◌, List, ◌⊎◌, ℕ, zero, suc, ◌+◌, ◌*◌, ◌/◌, ◌%◌, ◌^◌, ◌<◌}
+use Rattle.std.specs.Prelude.{eqb, length}
 use Rattle.std.specs.Int.Bits.{bit_or}
 use Rattle.lists.specs.Lists.{below, keep}
 
