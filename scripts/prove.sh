@@ -130,7 +130,8 @@ prove_quietly() { # ROOT WORD ..
         echo "the libraries in out/ are not whole, as after a run that was cut off: making them anew" >&2
         rm -rf "$root"/crates/*/out/rlib
     done
-    if [ "$status" != 0 ]; then tail -n 20 <<<"$said" >&2; fi
+    # Lines that only count modules would push out what failed.
+    if [ "$status" != 0 ]; then grep -vE '^(statements|library|crate) [a-z0-9_]+: modules loaded=' <<<"$said" | tail -n 20 >&2; fi
     exec {progress}>&-
     return "$status"
 }

@@ -36,6 +36,7 @@ else
         mkdir -p "../$c/out/rlib"
         echo "rt: $c: begins with what a check kept in another place"
         echo "rt: chose --jobs 2 for $c"
+        if [ -n "${MODULES:-}" ]; then for m in 1 2 3 4 5 6 7 8 9; do echo "library l$m: modules loaded=$m checked=0"; done; fi
     done
 fi
 if [ -n "${PIDS:-}" ]; then
@@ -78,6 +79,8 @@ LAST='no line feed' said 'a last line without a line feed' 0 "${all}no line feed
 said 'quietly' 0 '' 'proving 1 of 2: a\nproving 2 of 2: c\n' prove_quietly "$room/repo" lib c
 ENDS=3 said 'the status is kept' 3 "words: check b in b\n$a_c" 'proving 1 of 2: a\nsaid on standard error\n' prove "$room/repo" check b
 ENDS=3 said 'what failed is shown' 3 '' \
+    "proving 1 of 2: a\n$(printf '%b' "${a_c}said on standard error\nwords: check b in b\n" | sort)\n" prove_quietly "$room/repo" check b
+ENDS=3 MODULES=1 said 'what failed is shown, without the lines that count modules' 3 '' \
     "proving 1 of 2: a\n$(printf '%b' "${a_c}said on standard error\nwords: check b in b\n" | sort)\n" prove_quietly "$room/repo" check b
 FARZHUDYL_PROGRESS=7 said 'on another descriptor' 0 "words: check a in a\n$a_c" 'said on standard error\n' \
     prove "$room/repo" check a 7>"$room/seven"
