@@ -11,7 +11,7 @@ ghost use Rattle.interface.specs.Calls.{LinkageCall};
 use answers::Answer;
 
 // "The blocks of a linkage number at most 32": the first `count` of the sets.
-#[derive(Drop)]
+#[derive(Clone, Copy)]
 pub struct Blocks {
     pub sets: [u32; 32],
     pub count: usize,

@@ -34,7 +34,7 @@ fn place_among(word: &[u8], line: &[u8]) -> usize
 }
 
 // The places of n names among others, and whether all are there.
-#[derive(Drop)]
+#[derive(Clone, Copy)]
 struct Places {
     at: [usize; 32],
     found: bool,

@@ -56,7 +56,7 @@ fn doubled_score(t: &[i64], n: usize, a: usize, a2: usize, b: usize, b2: usize) 
 }
 
 // Entries, rising: the first `count` of the list.
-#[derive(Drop)]
+#[derive(Clone, Copy)]
 pub struct Entries {
     pub list: [usize; 32],
     pub count: usize,

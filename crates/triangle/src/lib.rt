@@ -7,7 +7,7 @@ ghost use Rattle.interface.specs.Calls.{pair_among};
 
 use pairs::{Carried, Pair};
 
-#[derive(Drop)]
+#[derive(Clone, Copy)]
 pub struct Triangle<'a> {
     pub pairs: &'a [i32],
     pub n: usize,

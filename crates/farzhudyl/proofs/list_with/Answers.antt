@@ -1,6 +1,7 @@
 use mathlib.Core.Path.{◌≡◌, sym, ◌∙◌}
 use lib.ListN.{take}
 use mir.Facts.{to_z-of_z}
+use borrow.Author.Rules.{rules}
 use Rattle.interface.specs.Sheet.{pairs}
 use Rattle.reader.proofs.Answers.{accepted_answer, accepted_pairs, few_entries, some_entries, pairs_long, pairs_fit}
 use Rattle.farzhudyl.proofs.Sheets.{read_sheet}
@@ -12,40 +13,36 @@ read_rows-requires c = let b = c in (b.requires.1, b.requires.2)
 pub list_checked-requires : goal.list_checked-requires
 list_checked-requires c = let b = c in rw (to_z-of_z b.ranges.kind) b.requires.0
 
-pub returns-then-not-read_rows : goal.returns-then-not-read_rows
-returns-then-not-read_rows c = let r = c in
-    rw (to_z-of_z r.ranges.kind) at r.list_checked.ensures
-
 pub pair_count-count-requires : goal.pair_count-count-requires
 pair_count-count-requires c =
-    let r = c.read_rows.ensures c.if-not-read_rows.false in
+    let r = c.read_rows.ensures (search rules) in
     let f = accepted_answer r in
     few_entries _ f
 
 pub slice_bounds-list_pairs-end : goal.slice_bounds-list_pairs-end
 slice_bounds-list_pairs-end c =
-    let r = c.read_rows.ensures c.if-not-read_rows.false in
+    let r = c.read_rows.ensures (search rules) in
     let f = accepted_answer r in
     let p : take c.pair_count-count.result c.read_rows.new.pairs ≡ pairs c.args.sheet.now = accepted_pairs r c.pair_count-count.ensures in
     pairs_fit _ f _ c.pair_count-count.ensures p
 
 pub slice_bounds-list_pairs-end-2 : goal.slice_bounds-list_pairs-end-2
 slice_bounds-list_pairs-end-2 c =
-    let r = c.read_rows.ensures c.if-not-read_rows.false in
+    let r = c.read_rows.ensures (search rules) in
     let f = accepted_answer r in
     let p : take c.pair_count-count.result c.read_rows.new.pairs ≡ pairs c.args.sheet.now = accepted_pairs r c.pair_count-count.ensures in
     c.pair_count-count.ensures ∙ sym (pairs_long _ f p)
 
 pub list_pairs-requires : goal.list_pairs-requires
 list_pairs-requires c =
-    let r = c.read_rows.ensures c.if-not-read_rows.false in
+    let r = c.read_rows.ensures (search rules) in
     let f = accepted_answer r in
     let p : take c.pair_count-count.result c.read_rows.new.pairs ≡ pairs c.args.sheet.now = accepted_pairs r c.pair_count-count.ensures in
     (some_entries _ f, few_entries _ f, pairs_long _ f p)
 
 pub returns : goal.returns
 returns c =
-    let r = c.read_rows.ensures c.if-not-read_rows.false in
+    let r = c.read_rows.ensures (search rules) in
     let f = accepted_answer r in
     let p : take c.pair_count-count.result c.read_rows.new.pairs ≡ pairs c.args.sheet.now = accepted_pairs r c.pair_count-count.ensures in
     read_sheet _ _ c.args.out.now c.requires.0 f p (rw (to_z-of_z c.ranges.kind) at c.list_pairs.ensures)
