@@ -4,6 +4,7 @@ use mathlib.Core.List.{List}
 use Prim.Native.Nat.{ℕ, ◌≤◌}
 use lib.IntN.{ℤ}
 use lib.ListN.{length}
+use mir.Syntax.{w32}
 use mir.Facts.{to_z-of_z}
 use Rattle.lists.proofs.Tests.{true_T}
 use Rattle.clusters.specs.Groups.{kind_of}
@@ -15,6 +16,7 @@ use Rattle.answers.proofs.WaysOut.{refused}
 use mathlib.Core.List.{map}
 use Rattle.interface.specs.Calls.{groups_in}
 use Rattle.matrix.specs.Checks.{Checked}
+use Rattle.kinds.specs.Kinds.{Accepted}
 use Rattle.kinds.proofs.Listed.{told, accepted}
 use Rattle.groups.specs.declared.Found.{Found}
 use Rattle.groups.specs.Found.{Groups}
@@ -65,7 +67,7 @@ find-found-requires c =
     let range = true_T (sym c.scores_in_range.ensures ∙ c.if-not-scores_in_range.false) in
     let sixteen = told (λ k. wrong_unscored k c.args.pairs.now) c.ranges.kind c.has_wrong_unscored.ensures c.if-has_wrong_unscored.false in
     let checked : Checked c.args.n c.args.pairs.now = record { some = c.requires.0; few = c.requires.1; long = c.requires.2; range = range } in
-    rw (to_z-of_z c.ranges.kind) (accepted c.args.kind checked sixteen)
+    subst (λ k. Accepted (kind_of k) c.args.n c.args.pairs.now) (sym (to_z-of_z {w = w32} c.ranges.kind)) (accepted c.args.kind checked sixteen)
 
 pub hand_listing-requires : goal.hand_listing-requires
 hand_listing-requires c =

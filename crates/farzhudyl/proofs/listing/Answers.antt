@@ -1,12 +1,15 @@
-use mathlib.Core.Path.{sym, ◌∙◌}
+use mathlib.Core.Path.{◌≡◌, sym, ◌∙◌, subst}
+use mathlib.Core.Bool.{true}
 use native.Mathlib.Omega.{arith}
+use mir.Syntax.{w32}
 use mir.Facts.{to_z-of_z}
+use Rattle.interface.specs.Refusals.{wrong_kind}
 use Rattle.farzhudyl.proofs.Sheets.{refused_kind}
 use Rattle.farzhudyl.proofs.listing.Goals as goal
 
 pub returns-then-is_wrong : goal.returns-then-is_wrong
-returns-then-is_wrong c = let k = c in
-    refused_kind _ _ _ (rw (to_z-of_z k.ranges.kind) at (sym k.is_wrong.ensures ∙ c.if-is_wrong.true))
+returns-then-is_wrong c =
+    refused_kind _ _ _ (subst (λ k. wrong_kind k ≡ true) (to_z-of_z {w = w32} c.ranges.kind) (sym c.is_wrong.ensures ∙ c.if-is_wrong.true))
 
 pub list_checked-requires : goal.list_checked-requires
 list_checked-requires c = sym c.is_wrong.ensures ∙ c.if-is_wrong.false
