@@ -17,9 +17,7 @@ use Rattle.interface.specs.Calls.{piece_at}
 use Rattle.text.proofs.Pieces.{piece_step, piece_on, piece_part}
 use Rattle.text.proofs.Values.{Got}
 use lib.Seq.{take_all}
-use Rattle.accept.specs.declared.CellRead.{CellRead}
-use Rattle.accept.specs.declared.CellRead.TheVariants.{Cell, Unread}
-use Rattle.accept.specs.Places.{part, Run, Half, Said, CellAt, BothAt, IfRead}
+use Rattle.accept.specs.Places.{part, Run, Half, Said, CellAt, BothAt}
 use Rattle.accept.proofs.Parts.{part_length, part_two}
 use Rattle.accept.proofs.Texts.{run_said, run_half}
 
@@ -66,11 +64,6 @@ said_same a e = record {
 pub both_of : {s : List ℕ} {p q stop other k : ℕ} {z : ℤ} → CellAt s p stop z k → q + k < length s → get_or s (q + k) 0 ≡ other → part s p k ≡ part s q k
     → BothAt s p q stop other z k
 both_of c h b e = record { near = c; far = record { inside = h; ended = b; said = said_same c.said e }; same = e }
-
--- the one at the other place
-pub one_read : (s : List ℕ) (p q stop other : ℕ) (x : CellRead) → IfRead x (BothAt s p q stop other) → IfRead x (CellAt s q other)
-one_read s p q stop other (Cell z k) b = b.far
-one_read s p q stop other Unread b = tt
 
 -- digits alone, or with `.5`
 pub some_digits : (k : ℕ) → eqb k 0 ≡ false → 0 < k

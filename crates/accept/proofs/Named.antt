@@ -21,7 +21,8 @@ use Rattle.interface.specs.Calls.{piece_at}
 use Rattle.interface.proofs.Pieces.{some_piece, all_append, all_free, same_bytes_lem}
 use Rattle.sheet.proofs.Lines.{pieces_from}
 use Rattle.accept.specs.Places.{part}
-use Rattle.accept.specs.Names.{is_name_byte, packed, NameRun, LineRead}
+use Rattle.text.specs.Reading.{is_name_byte}
+use Rattle.accept.specs.Names.{packed, NameRun, LineRead}
 use Rattle.accept.proofs.Parts.{part_length, part_more, part_first}
 use Rattle.accept.proofs.Cursors.{Line, TextAt, text_space, line_space, text_feed, line_feed_lem, line_start}
 

@@ -1,14 +1,10 @@
 -- Names as numbers: the code's own vocabulary, which a reader of the statements need not believe.
-use Rattle.std.specs.Prelude.{◌≡◌, Bool, false, List, [], ◌∷◌, ℕ, ◌+◌, ◌*◌, ◌≤◌, T, length}
+use Rattle.std.specs.Prelude.{◌≡◌, false, List, [], ◌∷◌, ℕ, ◌+◌, ◌*◌, ◌≤◌, T, length}
 use Rattle.lists.specs.Lists.{all}
 use Rattle.interface.specs.Sheet.{entries}
 use Rattle.interface.specs.Refusals.{wrong_length, wrong_names, equal_names}
-use Rattle.text.specs.declared.Class.TheVariants.{NameByte}
-use Rattle.text.specs.Reading.{in_class}
+use Rattle.text.specs.Reading.{is_name_byte}
 use Rattle.accept.specs.Places.{part, At}
-
-abbrev pub is_name_byte : ℕ → Bool
-is_name_byte b = in_class NameByte b
 
 -- bytes as the digits of a number in base 256, read on from v
 unfoldable pub packed : ℕ → List ℕ → ℕ

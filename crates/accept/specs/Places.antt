@@ -1,11 +1,9 @@
 -- Cells of a sheet by their places: the code's own vocabulary, which a reader of the statements need not believe.
-use Rattle.std.specs.Prelude.{◌≡◌, true, List, [], ◌∷◌, ℕ, ◌+◌, ◌≤◌, ◌<◌, T, ℤ, length, get_or, take, drop}
+use Rattle.std.specs.Prelude.{◌≡◌, List, [], ◌∷◌, ℕ, ◌+◌, ◌≤◌, ◌<◌, T, ℤ, length, get_or, take, drop}
 use Rattle.lists.specs.Lists.{all}
 use Rattle.pairs.specs.Pairs.{list_number}
 use Rattle.interface.specs.Sheet.{is_digit, is_cell, number_from, pair_said, cut, lines, words}
 use Rattle.interface.specs.Calls.{piece_at}
-use Rattle.accept.specs.declared.CellRead.{CellRead}
-use Rattle.accept.specs.declared.CellRead.TheVariants.{Cell, Unread}
 
 -- k bytes from a place on
 abbrev pub part : List ℕ → (at size : ℕ) → List ℕ
@@ -40,11 +38,6 @@ pub record BothAt (s : List ℕ) (p q stop other : ℕ) (z : ℤ) (k : ℕ) : Ty
   pub near : CellAt s p stop z k
   pub far : CellAt s q other z k
   pub same : part s p k ≡ part s q k
-
--- what is so of a cell that was read
-abbrev pub IfRead : CellRead → (ℤ → ℕ → Type 0) → Type 0
-IfRead (Cell z k) is = is z k
-IfRead Unread is = T true
 
 -- at p starts cell j of value line i
 pub record At (s : List ℕ) (i j p : ℕ) : Type 0 where

@@ -2,21 +2,20 @@
 #![tactic(auto)]
 
 ghost use Rattle.std.specs.Prelude.{◌≡◌, true, not, map, ◌⊎◌, ℕ, suc, ◌+◌, ◌≤◌, ◌<◌, eqb, length, get_or};
+ghost use Rattle.std.specs.Prelude.{IfSome, OnSome};
 ghost use Rattle.std.proofs.lemmas.List.Edits.{sets};
 ghost use Rattle.lists.specs.Lists.{all, below};
 ghost use Rattle.clusters.specs.PairList.{row_start};
 ghost use Rattle.interface.specs.Sheet.{value};
-ghost use Rattle.accept.specs.Places.{Run, Half, CellAt, BothAt, IfRead, At, RowRead};
+ghost use Rattle.accept.specs.Places.{Run, Half, CellAt, BothAt, At, RowRead};
 ghost use Rattle.accept.specs.Names.{NameRun, LineRead, NamesRead};
 ghost use Rattle.accept.specs.Read.{PairsRead};
 
-use answers::ValueRead;
-
-// A value's number in the pair list and the length of its text; or no value is read.
+// A value's number in the pair list, and the length of its text.
 #[derive(Clone, Copy)]
-enum CellRead {
-    Cell(i32, usize),
-    Unread,
+struct Cell {
+    number: i32,
+    size: usize,
 }
 
 // Digits as a number, and how many they are.
@@ -26,85 +25,64 @@ struct Digits {
     size: usize,
 }
 
-// The digits at p, at most 7, as far as the same stand at q; or none of them.
-fn same_digits(sheet: &[u8], p: usize, q: usize) -> Digits
-    requires { (p + 8 ≤ length sheet.now) × (q + 8 ≤ length sheet.now) }
+// The digits at p, at most 7; where the cell is mirrored, as far as the same stand at q, or none of them. Of each kind
+// there is one call, which is inlined with its loop unrolled.
+fn read_digits<const MIRRORED: bool>(sheet: &[u8], p: usize, q: usize) -> Digits
+    requires { (p + 8 ≤ length sheet.now) × (q + 8 ≤ length sheet.now) × ((MIRRORED ≡ true) ⊎ (p ≡ q)) }
     ensures { Run sheet.now p q result.number result.size }
 {
     let mut number: u32 = 0;
-    let mut size: usize = 0;
-    while size < 7 {
+    for size in 0..7 {
         let b = sheet[p + size];
         if !text::is_digit(b) {
             return Digits { number, size };
         }
-        if sheet[q + size] != b {
+        if MIRRORED & (sheet[q + size] != b) {
             return Digits { number: 0, size: 0 };
         }
         number = number * 10 + (b - b'0') as u32;
-        size += 1;
     }
-    Digits { number, size }
-}
-
-// The digits at p, at most 7. Called in one place, as `same_digits` is: each is inlined with its loop unrolled.
-fn read_digits(sheet: &[u8], p: usize) -> Digits
-    requires { p + 8 ≤ length sheet.now }
-    ensures { Run sheet.now p p result.number result.size }
-{
-    let mut number: u32 = 0;
-    let mut size: usize = 0;
-    while size < 7 {
-        let b = sheet[p + size];
-        if !text::is_digit(b) {
-            return Digits { number, size };
-        }
-        number = number * 10 + (b - b'0') as u32;
-        size += 1;
-    }
-    Digits { number, size }
+    Digits { number, size: 7 }
 }
 
 // A cell of any form at p, with the byte stop behind it: for marks, minus signs, and what stands near the sheet's end.
-fn read_any(sheet: &[u8], p: usize, stop: u8) -> CellRead
+fn read_any(sheet: &[u8], p: usize, stop: u8) -> Option<Cell>
     requires { p ≤ length sheet.now }
-    ensures { IfRead result (CellAt sheet.now p stop) }
+    ensures { IfSome result (λ c. CellAt sheet.now p stop c.number c.size) }
 {
     let end = text::piece_end(sheet, stop, p);
     if end >= sheet.len() {
-        return CellRead::Unread;
+        return None;
     }
-    let ValueRead::Value(pair, next) = text::read_value(&sheet[p..end], 0) else {
-        return CellRead::Unread;
+    let Ok((pair, next)) = text::read_value(&sheet[p..end], 0) else {
+        return None;
     };
     let size = next.at;
     if size != end - p {
-        return CellRead::Unread;
+        return None;
     }
     let number = pairs::list_number(pair);
-    CellRead::Cell(number, size)
+    Some(Cell { number, size })
 }
 
 // The same cell at p and at q, each with its byte behind it.
-fn read_any_both(sheet: &[u8], p: usize, q: usize, near: u8, far: u8) -> CellRead
+fn read_any_both(sheet: &[u8], p: usize, q: usize, near: u8, far: u8) -> Option<Cell>
     requires { (p ≤ length sheet.now) × (q ≤ length sheet.now) }
-    ensures { IfRead result (BothAt sheet.now p q near far) }
+    ensures { IfSome result (λ c. BothAt sheet.now p q near far c.number c.size) }
 {
-    let CellRead::Cell(number, size) = read_any(sheet, p, near) else {
-        return CellRead::Unread;
-    };
-    if size >= sheet.len() - q {
-        return CellRead::Unread;
+    let cell = read_any(sheet, p, near)?;
+    if cell.size >= sheet.len() - q {
+        return None;
     }
-    let end = p + size;
-    let other = q + size;
+    let end = p + cell.size;
+    let other = q + cell.size;
     if sheet[other] != far {
-        return CellRead::Unread;
+        return None;
     }
     if !sheet::same_bytes(&sheet[p..end], &sheet[q..other]) {
-        return CellRead::Unread;
+        return None;
     }
-    CellRead::Cell(number, size)
+    Some(cell)
 }
 
 // `.5` stands behind the digits, and its byte behind that.
@@ -126,74 +104,68 @@ fn read_half(
     far: u8,
     number: u32,
     size: usize,
-) -> CellRead
+) -> Option<Cell>
     requires { (p + 10 ≤ length sheet.now) × (q + 10 ≤ length sheet.now) × Run sheet.now p q number size }
-    ensures { IfRead result (BothAt sheet.now p q near far) }
+    ensures { IfSome result (λ c. BothAt sheet.now p q near far c.number c.size) }
 {
     if !is_half(sheet, p + size, near) {
         return read_any_both(sheet, p, q, near, far);
     }
     if !is_half(sheet, q + size, far) {
-        return CellRead::Unread;
+        return None;
     }
     if size == 0 {
-        return CellRead::Unread;
+        return None;
     }
     if (sheet[p] == b'0') & (size != 1) {
-        return CellRead::Unread;
+        return None;
     }
     let halves = (number * 2 + 1) as i32;
     let whole = size + 2;
-    CellRead::Cell(halves, whole)
+    Some(Cell {
+        number: halves,
+        size: whole,
+    })
 }
 
-// A cell at p with a space behind it, and the same text at q with stop behind it. A whole number takes one branch more
-// than its digits; for all else there is a call, so that the next place does not wait for a choice of lengths.
-fn read_both(sheet: &[u8], p: usize, q: usize, stop: u8) -> CellRead
-    requires { (p ≤ length sheet.now) × (q ≤ length sheet.now) }
-    ensures { IfRead result (BothAt sheet.now p q 32 stop) }
+// The same cell at p and at q, each with its byte behind it; or one cell, its own mirror image. A whole number takes
+// one branch more than its digits; for all else there is a call, so that the next place does not wait for a choice of
+// lengths.
+fn read_cell<const MIRRORED: bool>(
+    sheet: &[u8],
+    p: usize,
+    q: usize,
+    near: u8,
+    far: u8,
+) -> Option<Cell>
+    requires { (p ≤ length sheet.now) × (q ≤ length sheet.now) × ((MIRRORED ≡ true) ⊎ (p ≡ q)) }
+    ensures { IfSome result (λ c. BothAt sheet.now p q near far c.number c.size) }
 {
     if (sheet.len() - p < 10) | (sheet.len() - q < 10) {
-        return read_any_both(sheet, p, q, b' ', stop);
+        return read_any_both(sheet, p, q, near, far);
     }
-    let digits = same_digits(sheet, p, q);
+    let digits = read_digits::<MIRRORED>(sheet, p, q);
     let size = digits.size;
     let number = digits.number;
     let end = p + size;
     let other = q + size;
     if (size == 0)
-        | (sheet[end] != b' ')
-        | (sheet[other] != stop)
+        | (sheet[end] != near)
+        | (sheet[other] != far)
         | ((sheet[p] == b'0') & (size != 1))
     {
-        return read_half(sheet, p, q, b' ', stop, number, size);
+        return read_half(sheet, p, q, near, far, number, size);
     }
     let halves = (number * 2) as i32;
-    CellRead::Cell(halves, size)
-}
-
-// A cell at p with stop behind it.
-fn read_one(sheet: &[u8], p: usize, stop: u8) -> CellRead
-    requires { p ≤ length sheet.now }
-    ensures { IfRead result (CellAt sheet.now p stop) }
-{
-    if sheet.len() - p < 10 {
-        return read_any_both(sheet, p, p, stop, stop);
-    }
-    let digits = read_digits(sheet, p);
-    let size = digits.size;
-    let number = digits.number;
-    let end = p + size;
-    if (size == 0) | (sheet[end] != stop) | ((sheet[p] == b'0') & (size != 1)) {
-        return read_half(sheet, p, p, stop, stop, number, size);
-    }
-    let halves = (number * 2) as i32;
-    CellRead::Cell(halves, size)
+    Some(Cell {
+        number: halves,
+        size,
+    })
 }
 
 // Row i up to its own place: cells (i, 0) .. (i, i) go to the slots from start on. Cell (j, i), j < i, has to stand at
-// the cursor of line j, with the same text; the cursor then moves past it. Answers where the row is left, 0 if it is
-// not accepted.
+// the cursor of line j, with the same text; the cursor then moves past it. Answers where the row is left, if it is
+// accepted.
 fn read_row(
     cur: &mut [usize],
     pairs: &mut [i32],
@@ -202,30 +174,26 @@ fn read_row(
     from: usize,
     stop: u8,
     start: usize,
-) -> usize
+) -> Option<usize>
     requires { (i < length cur.old) × (start + i < length pairs.old) × ((stop ≡ 32) ⊎ (stop ≡ 10))
         × At sheet.now i 0 from × ((j : ℕ) → j < i → At sheet.now j i (get_or cur.old j 0)) }
-    ensures row_read { 0 < result → RowRead sheet.now stop i result cur.new }
-    ensures pairs_after { 0 < result →
-        pairs.new ≡ sets pairs.old start (map (value sheet.now i) (below (suc i))) }
+    ensures row_read { IfSome result (λ next. RowRead sheet.now stop i next cur.new) }
+    ensures pairs_after { OnSome result
+        (pairs.new ≡ sets pairs.old start (map (value sheet.now i) (below (suc i)))) }
 {
     let mut at = from;
     for j in 0..i {
         let q = cur[j];
-        let CellRead::Cell(number, size) = read_both(sheet, at, q, stop) else {
-            return 0;
-        };
-        cur[j] = q + size + 1;
-        pairs[start + j] = number;
-        at = at + size + 1;
+        let cell = read_cell::<true>(sheet, at, q, b' ', stop)?;
+        cur[j] = q + cell.size + 1;
+        pairs[start + j] = cell.number;
+        at = at + cell.size + 1;
     }
-    let CellRead::Cell(number, size) = read_one(sheet, at, stop) else {
-        return 0;
-    };
-    pairs[start + i] = number;
-    let next = at + size + 1;
+    let cell = read_cell::<false>(sheet, at, at, stop, stop)?;
+    pairs[start + i] = cell.number;
+    let next = at + cell.size + 1;
     cur[i] = next;
-    next
+    Some(next)
 }
 
 // A name as a number, its bytes the digits in base 256, and its length.
@@ -235,7 +203,7 @@ struct Name {
     size: usize,
 }
 
-// The names: how many, 0 if they are not accepted, and where the value lines start.
+// The names of a sheet: how many, and where the value lines start.
 #[derive(Clone, Copy)]
 pub struct Names {
     pub count: usize,
@@ -282,15 +250,9 @@ fn is_new(known: &[u64], count: usize, packed: u64) -> bool
     good
 }
 
-fn no_names() -> Names
-    ensures { result.count ≡ 0 }
-{
-    Names { count: 0, next: 0 }
-}
-
 // Line 1, name by name.
-fn read_line(sheet: &[u8]) -> Names
-    ensures { 0 < result.count → LineRead sheet.now result.count result.next }
+fn read_line(sheet: &[u8]) -> Option<Names>
+    ensures { IfSome result (λ names. LineRead sheet.now names.count names.next) }
 {
     let mut known = [0u64; 32];
     let mut count: usize = 0;
@@ -301,40 +263,39 @@ fn read_line(sheet: &[u8]) -> Names
         let packed = name.packed;
         let end = at + size;
         if end >= sheet.len() {
-            return no_names();
+            return None;
         }
         if size == 0 {
-            return no_names();
+            return None;
         }
         if !text::is_upper(sheet[at]) {
-            return no_names();
+            return None;
         }
         if count >= 32 {
-            return no_names();
+            return None;
         }
         if !is_new(&known, count, packed) {
-            return no_names();
+            return None;
         }
         known[count] = packed;
         count += 1;
         if sheet[end] == b'\n' {
             let next = end + 1;
-            return Names { count, next };
+            return Some(Names { count, next });
         }
         if sheet[end] != b' ' {
-            return no_names();
+            return None;
         }
         at = end + 1;
     }
 }
 
-// The names of a sheet of the right length: their number, and where the value lines start; or 0, and the reader has to
-// say which check refuses, if any.
-pub fn read_names(sheet: &[u8]) -> Names
-    ensures { 0 < result.count → NamesRead sheet.now result.count result.next }
+// The names of a sheet of the right length; or the reader has to say which check refuses, if any.
+pub fn read_names(sheet: &[u8]) -> Option<Names>
+    ensures { IfSome result (λ names. NamesRead sheet.now names.count names.next) }
 {
     if sheet::wrong_length(sheet) {
-        return no_names();
+        return None;
     }
     read_line(sheet)
 }
@@ -350,10 +311,9 @@ pub fn read_rows(pairs: &mut [i32], sheet: &[u8], n: usize, from: usize) -> bool
     let mut start: usize = 0;
     let last = n - 1;
     for i in 0..last {
-        let next = read_row(&mut cur, pairs, sheet, i, at, b' ', start);
-        if next == 0 {
+        let Some(next) = read_row(&mut cur, pairs, sheet, i, at, b' ', start) else {
             return false;
-        }
+        };
         let end = text::line_end(sheet, next);
         if end >= sheet.len() {
             return false;
@@ -361,23 +321,20 @@ pub fn read_rows(pairs: &mut [i32], sheet: &[u8], n: usize, from: usize) -> bool
         at = end + 1;
         start += i + 1;
     }
-    let next = read_row(&mut cur, pairs, sheet, last, at, b'\n', start);
+    let Some(next) = read_row(&mut cur, pairs, sheet, last, at, b'\n', start) else {
+        return false;
+    };
     next == sheet.len()
 }
 
-// Both, with slots for every sheet: the number of entries, 0 if the sheet is not accepted.
-pub fn accept(pairs: &mut [i32], sheet: &[u8]) -> usize
+// Both, with slots for every sheet: the number of entries, if the sheet is accepted.
+pub fn accept(pairs: &mut [i32], sheet: &[u8]) -> Option<usize>
     requires { 528 ≤ length pairs.old }
-    ensures { 0 < result → PairsRead sheet.now result pairs.old pairs.new }
+    ensures { IfSome result (λ n. PairsRead sheet.now n pairs.old pairs.new) }
 {
-    let names = read_names(sheet);
-    let n = names.count;
-    if n == 0 {
-        return 0;
+    let names = read_names(sheet)?;
+    if !read_rows(pairs, sheet, names.count, names.next) {
+        return None;
     }
-    let from = names.next;
-    if !read_rows(pairs, sheet, n, from) {
-        return 0;
-    }
-    n
+    Some(names.count)
 }

@@ -1,38 +1,52 @@
 // The answers of the calls, and what they say.
 #![tactic(auto)]
 
-use pairs::Pair;
+ghost use Rattle.std.specs.Prelude.{◌≡◌};
+ghost use Rattle.answers.specs.Answers.{number};
 
-// How many slots were written, or the number of the refusal.
-#[derive(Clone, Copy)]
-pub enum Answer {
-    Count(usize),
-    Refused(usize),
+use std::fmt;
+
+// The refusals, each a line of the table (document 01, Where a call is turned away; document 02), in the order of
+// their numbers.
+#[derive(Clone, Copy, Debug, PartialEq, Eq)]
+pub enum Refusal {
+    WrongKind = 1,
+    WrongLength,
+    WrongByte,
+    WrongNames,
+    EqualNames,
+    WrongCount,
+    WrongLines,
+    WrongValues,
+    NotMirrored,
+    WrongListLength,
+    OutOfRange,
+    NoDistances,
+    FewSlots,
+    ShortBuffer,
+    OutOfPlace,
+    Unscored,
+    NamesDiffer,
+    SumOutOfRange,
+    WrongSide,
 }
 
-// The smallest set that two entries share and its line, or the number of the refusal.
-#[derive(Clone, Copy)]
-pub enum Shared {
-    Set(u32, usize),
-    Refused(usize),
+impl Refusal {
+    pub fn number(self) -> u8
+        ensures { result ≡ number self }
+    {
+        self as u8
+    }
 }
 
-// The refined weight of a split, or the number of the refusal.
-#[derive(Clone, Copy)]
-pub enum Refined {
-    Weight(i64),
-    Refused(usize),
+impl fmt::Display for Refusal {
+    fn fmt<W: fmt::Write>(&self, f: &mut fmt::Formatter<W>) -> fmt::Result {
+        write!(f, "{}", self.number())
+    }
 }
 
 // A place in a line.
-#[derive(Clone, Copy)]
+#[derive(Clone, Copy, Debug, PartialEq, Eq)]
 pub struct Cursor {
     pub at: usize,
-}
-
-// A pair and the place after it, or the line is refused.
-#[derive(Clone, Copy)]
-pub enum ValueRead {
-    Value(Pair, Cursor),
-    Refused,
 }

@@ -18,7 +18,8 @@ use Rattle.sets.proofs.Sets.{has_yes, yes_has, clash, in_members, of_members, le
 use Rattle.sets.proofs.Subsets.{strict_size, empty_out}
 use Rattle.clusters.specs.Groups.{Rising}
 use Rattle.clusters.specs.Reordering.{Permutation, image}
-use Rattle.clusters.specs.Nesting.{Hit, first_from, OnLine, strictly_holds, around, StrictlyHolds, Around}
+use Rattle.clusters.specs.Nesting.{first_from, OnLine, strictly_holds, around, StrictlyHolds, Around}
+use Rattle.clusters.specs.declared.Hit.{Hit}
 use Rattle.clusters.proofs.Groups.{before_size}
 use Rattle.clusters.proofs.Reordering.{image_lt, inverse}
 use Rattle.clusters.proofs.Hierarchies.{Hierarchy}

@@ -35,7 +35,20 @@ use Rattle.clusters.specs.PairList.{
 }
 use Rattle.clusters.specs.Indices.{strong_values, strong_index, weight, pairs_of, weights, clean_index, separation_values, separation_index}
 use Rattle.clusters.specs.Fillings.{AllScored, low, high, worst, filled_index}
-use Rattle.clusters.specs.Groups.{Kind, Group, strong, clean, splits, index, speaks_of, positive, listed, sets_by, groups_by, groups}
+use Rattle.clusters.specs.Groups.{
+  Kind,
+  strong,
+  clean,
+  splits,
+  index,
+  speaks_of,
+  positive,
+  listed,
+  sets_by,
+  groups_by,
+  groups,
+}
+use Rattle.clusters.specs.declared.Group.{Group}
 use Rattle.clusters.specs.Refined.{Quartet, quartets, doubled_score, refined_weight}
 use Rattle.clusters.specs.Doubled.{twice, doubled_pair, Doubles, doubled_group}
 use Rattle.clusters.proofs.PairList.{in_pair_list, of_pair_list, pair_list_at}

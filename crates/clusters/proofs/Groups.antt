@@ -25,7 +25,6 @@ use Rattle.sets.proofs.Sets.{has_no, size_le, size_member, size_less}
 use Rattle.clusters.specs.PairList.{Similarity}
 use Rattle.clusters.specs.Groups.{
   Kind,
-  Group,
   HasLine,
   strong,
   clean,
@@ -45,6 +44,7 @@ use Rattle.clusters.specs.Groups.{
   Before,
   Rising,
 }
+use Rattle.clusters.specs.declared.Group.{Group}
 
 -- the least size of the sets that a kind speaks of
 unfoldable pub least_size : Kind → ℕ

@@ -17,7 +17,8 @@ use Rattle.sets.proofs.Subsets.{all_entries_in, all_entries_lt}
 use Rattle.clusters.specs.PairList.{Similarity, Symmetric}
 use Rattle.clusters.specs.Groups.{Kind, HasLine, strong, clean, splits, index, group_sets, groups, written_set}
 use Rattle.clusters.specs.Reordering.{Permutation, Reordered, image}
-use Rattle.clusters.specs.Nesting.{Hit, first_from, holds_both, smallest_shared}
+use Rattle.clusters.specs.Nesting.{first_from, holds_both, smallest_shared}
+use Rattle.clusters.specs.declared.Hit.{Hit}
 use Rattle.clusters.proofs.Groups.{group_set, set_line}
 use Rattle.clusters.proofs.Reindex.{Image}
 use Rattle.clusters.proofs.Reordering.{image_lt, size_image, inverse, groups_image}

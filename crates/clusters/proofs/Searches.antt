@@ -22,7 +22,8 @@ use Rattle.lists.proofs.Lists.{all_in, get_d_in}
 use Rattle.sets.specs.Sets.{◌∋◌, size, Subset}
 use Rattle.sets.proofs.Subsets.{subset_size}
 use Rattle.clusters.specs.Groups.{Before, Rising}
-use Rattle.clusters.specs.Nesting.{Hit, first_from, replaces, smallest_from, OnLine}
+use Rattle.clusters.specs.Nesting.{first_from, replaces, smallest_from, OnLine}
+use Rattle.clusters.specs.declared.Hit.{Hit}
 use Rattle.clusters.proofs.Groups.{before_size, rising_append}
 use Rattle.clusters.proofs.Hierarchies.{Hierarchy, common_nested, chain}
 

@@ -15,7 +15,8 @@ use Rattle.sets.specs.Sets.{has, ◌∋◌, size, all_entries, Subset}
 use Rattle.sets.proofs.Sets.{has_yes, yes_has, one_in, size_single, member_size}
 use Rattle.sets.proofs.Subsets.{all_entries_in, all_entries_lt}
 use Rattle.clusters.specs.Groups.{Rising}
-use Rattle.clusters.specs.Nesting.{Hit, first_from, holds_both, smallest_shared, smallest_of_all, OnLine}
+use Rattle.clusters.specs.Nesting.{first_from, holds_both, smallest_shared, smallest_of_all, OnLine}
+use Rattle.clusters.specs.declared.Hit.{Hit}
 use Rattle.clusters.proofs.Groups.{rising_distinct}
 use Rattle.clusters.proofs.Hierarchies.{Hierarchy, all_entries_unlisted}
 use Rattle.clusters.proofs.Searches.{First, Outcome, Smallest, first_cases, first_in, first_line_lem, line_unique, searches_agree}

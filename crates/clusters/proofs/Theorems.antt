@@ -25,7 +25,21 @@ use Rattle.clusters.specs.Indices.{strong_index}
 use Rattle.clusters.specs.Farris.{farris}
 use Rattle.clusters.specs.Fillings.{Fills}
 use Rattle.clusters.specs.Linkage.{single, average, link, Tree, singles, merged_blocks, blocks}
-use Rattle.clusters.specs.Groups.{Kind, Group, strong, clean, splits, index, listed, groups_by, group_sets, groups, most_groups, tree_linkage, TreeScores}
+use Rattle.clusters.specs.Groups.{
+  Kind,
+  strong,
+  clean,
+  splits,
+  index,
+  listed,
+  groups_by,
+  group_sets,
+  groups,
+  most_groups,
+  tree_linkage,
+  TreeScores,
+}
+use Rattle.clusters.specs.declared.Group.{Group}
 use Rattle.clusters.specs.Stability.{Stable}
 use Rattle.clusters.proofs.Groups.{
   in_group_sets,

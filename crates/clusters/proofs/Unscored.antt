@@ -27,7 +27,6 @@ use Rattle.clusters.specs.Touched.{untouched}
 use Rattle.clusters.specs.Linkage.{single, link, Tree, blocks}
 use Rattle.clusters.specs.Groups.{
   Kind,
-  Group,
   HasLine,
   sets_of,
   strong,
@@ -43,6 +42,7 @@ use Rattle.clusters.specs.Groups.{
   tree_linkage,
   lent_scores,
 }
+use Rattle.clusters.specs.declared.Group.{Group}
 use Rattle.clusters.proofs.Groups.{
   of_listed,
   is_listed,

@@ -4,7 +4,7 @@ use Rattle.pairs.specs.declared.Carried.{Carried}
 use Rattle.pairs.specs.declared.Carried.TheVariants.{Scored, Unscored}
 use Rattle.pairs.specs.Pairs.{carried}
 use Rattle.clusters.specs.PairList.{Similarity}
-use Rattle.clusters.specs.Groups.{Group}
+use Rattle.clusters.specs.declared.Group.{Group}
 
 unfoldable pub twice : ℤ → ℤ
 twice z = z +ℤ z

@@ -10,15 +10,12 @@ use Rattle.clusters.specs.Indices.{strong_index, clean_index, separation_index}
 use Rattle.clusters.specs.Fillings.{Fills, filled_index}
 use Rattle.clusters.specs.Farris.{farris}
 use Rattle.clusters.specs.Linkage.{Linkage, single, average}
+-- a group, or a split by the side that is written, with its index
+use Rattle.clusters.specs.declared.Group.{Group}
 
 -- "kind 1 strong groups (Apresjan clusters), kind 2 clean groups, kind 3 Buneman splits"
 pub data Kind : Type 0 where
   strong clean splits : Kind
-
--- a group, or a split by the side that is written, with its index
-pub record Group : Type 0 where
-  pub set : ℕ
-  pub index : ℤ
 
 -- the sets and the indices of what was found
 abbrev pub sets_of : List Group → List ℕ

@@ -3,11 +3,8 @@ use Rattle.std.specs.Prelude.{◌≡◌, Bool, not, cond, ◌&&◌, ◌||◌, �
 use Rattle.std.specs.Prelude.{ltb, length, get_or}
 use Rattle.lists.specs.Lists.{◌∈◌, all}
 use Rattle.sets.specs.Sets.{has, ◌∋◌, ◌∌◌, members, size, all_entries, Subset}
-
 -- "the set and its line, counted from 1 after the first line"; line 0 where no line was found
-pub record Hit : Type 0 where
-  pub set : ℕ
-  pub line : ℕ
+use Rattle.clusters.specs.declared.Hit.{Hit}
 
 -- "goes down a .. result in its written order and stops at the first set" that passes a test; if none does, `other` and
 -- line 0. The sets of the result stand on the lines from `line` on.

@@ -1,6 +1,6 @@
 -- A table of checks beside a table in words: the same numbers, and as long as no check before it holds, each check holds exactly if its
 -- sentence does. And what is then answered.
-use mathlib.Core.Path.{◌≡◌, refl, sym, ap, ◌∙◌}
+use mathlib.Core.Path.{◌≡◌, refl, sym, ◌∙◌}
 use mathlib.Core.Bool.{Bool, true, false, not, ◌&&◌, ◌||◌}
 use mathlib.Core.Logic.{◌⊎◌, inl, inr, ◌≢◌, ◌↔◌}
 use mathlib.Core.List.{List, [], ◌∷◌, ◌++◌}
@@ -15,9 +15,8 @@ use Rattle.lists.proofs.Tests.{and_T, T_and, or_T, T_or_left, T_or_right, T_true
 use Rattle.lists.proofs.Lists.{all_in, in_all, some_fails}
 use Rattle.integers.specs.Integers.{eq_z}
 use Rattle.integers.proofs.Linear.{eq_z_yes, yes_eq_z}
-use Rattle.answers.specs.declared.Answer.{Answer}
-use Rattle.answers.specs.Answers.{count_of, answer, slots}
-use Rattle.answers.proofs.Answers.{its_number, count_refused, slots_refused}
+use Rattle.answers.specs.Answers.{Answer, Answered, slots}
+use Rattle.answers.proofs.Answers.{count_refused, slots_refused}
 use Rattle.interface.specs.Refusals.{Check, first_of, none}
 use Rattle.demands.specs.Tables.{Table, GivenFirst, NoneGiven, Judged}
 use Rattle.demands.specs.TurnedAway.{JudgedBy}
@@ -151,10 +150,9 @@ judged a e nothing = record {
 
 -- a call whose checks give the number of its answer, and which writes a result to one slice
 pub judged_by : {l : List Check} {t : Table} {A : Type 0} {r : Answer} {lent after : List A} → Agree l t → (c : ℕ) (result : List A)
-    → r ≡ answer (first_of l) c → after ≡ slots (first_of l) result lent → JudgedBy t r lent after
-judged_by {l} {lent = lent} a c result e w = judged a (its_number (first_of l) c e) λ f.
-    let h : 0 < first_of l = above (λ z. f (its_number (first_of l) c e ∙ z)) in
-    (w ∙ slots_refused (first_of l) result lent h, ap count_of e ∙ count_refused (first_of l) c h)
+    → Answered (first_of l) c r → after ≡ slots (first_of l) result lent → JudgedBy t r lent after
+judged_by {l} {r = r} {lent = lent} a c result e w = judged a e.number λ f.
+    let h : 0 < first_of l = above (λ z. f (e.number ∙ z)) in (w ∙ slots_refused (first_of l) result lent h, count_refused r f)
 
 -- tables in words, one behind the other
 pub none_both : (t u : Table) → NoneGiven t → NoneGiven u → NoneGiven (t ++ u)

@@ -24,7 +24,21 @@ use Rattle.clusters.specs.Farris.{farris, unfarris, anchored_scores, distances_b
 use Rattle.sets.specs.Sets.{◌∪◌}
 use Rattle.clusters.specs.Linkage.{Linkage, singles, Tree, merged_blocks, blocks}
 use Rattle.clusters.proofs.Exists.{tree_length}
-use Rattle.clusters.specs.Groups.{Kind, Group, HasLine, strong, clean, splits, kind_of, speaks_of, positive, group_sets, groups, tree_linkage, TreeScores}
+use Rattle.clusters.specs.Groups.{
+  Kind,
+  HasLine,
+  strong,
+  clean,
+  splits,
+  kind_of,
+  speaks_of,
+  positive,
+  group_sets,
+  groups,
+  tree_linkage,
+  TreeScores,
+}
+use Rattle.clusters.specs.declared.Group.{Group}
 use Rattle.clusters.proofs.Farris.{separation_either_side}
 use Rattle.clusters.proofs.PairList.{score_symm, length_pair_list}
 use Rattle.clusters.proofs.Groups.{in_groups, line_by, group_set, groups_rise, rising_distinct, listed_index, groups_sets}
@@ -33,13 +47,13 @@ use Rattle.clusters.proofs.Scored.{AllAllowed}
 use Rattle.clusters.proofs.Fillings.{least_is, scored_fills}
 use Rattle.clusters.proofs.Theorems.{group_in_tree, groups_nested, groups_bound}
 use Rattle.clusters.proofs.Reordering.{groups_image}
-use Rattle.answers.specs.declared.Answer.{Answer}
-use Rattle.answers.specs.Answers.{number_of, count_of, answer, filled}
-use Rattle.answers.proofs.Answers.{number_answer, slots_refused}
+use Rattle.answers.specs.Answers.{number_of, Answer, count_of, Answered, filled}
+use Rattle.answers.proofs.Answers.{slots_refused}
+use Rattle.answers.proofs.Answers.{found_count}
 use Rattle.interface.specs.Sheet.{entries, pairs}
 use Rattle.interface.specs.Listing.{Line, line_of, group_of, listing, groups_found, pairs_listing, sheet_listing, listing_read}
 use Rattle.interface.specs.Refusals.{most_entries, sheet_call_checks, sheet_refusal, numbers_refusal, linkage_refusal, anchored_refusal, back_refusal, sheet_checks, reader_checks, none, check1, kind_checks, check14, wrong_kind, check11}
-use Rattle.interface.specs.Calls.{c_number, CCall, NumbersCall, sets_found, indices_found, groups_in, LinkageCall, AnchoredCall, BackCall}
+use Rattle.interface.specs.Calls.{CCall, NumbersCall, sets_found, indices_found, groups_in, LinkageCall, AnchoredCall, BackCall}
 use Rattle.interface.proofs.Refusals.{few_count, numbered, first_none, none_append}
 use Rattle.interface.proofs.Lines.{Readable, listing_read_lem}
 use Rattle.interface.proofs.Outcomes.{refused_number, counted_number, taken, dropped, not_refused, counted}
@@ -90,23 +104,22 @@ answer_1 kind sheet lent r after c = record {
     agree : Agree (sheet_call_checks kind sheet (length lent)) (sheet_table kind sheet (length lent))
     agree = sheet_agrees kind sheet (length lent)
 
-    is : r ≡ c_number (answer number (length text))
-    is = c.number ∙ ap c_number c.outcome.answered
+    said : Answered number (length text) c.given
+    said = c.outcome.answered
 
     minus : (k : ℕ) → 0 < k → (r ≡ neg_ℤ (pos k)) ↔ (number ≡ k)
     minus k h =
-        let f = refused_number (answer number (length text)) k h in
-        let e = number_answer number (length text) in
-        (λ q. sym e ∙ f.0 (sym is ∙ q), λ z. is ∙ f.1 (e ∙ z))
+        let f = refused_number c.given k h in
+        (λ q. sym said.number ∙ f.0 (sym c.number ∙ q), λ z. c.number ∙ f.1 (said.number ∙ z))
 
     plain : (count : ℕ) → (r ≡ pos count) ↔ ((number ≡ 0) × (length text ≡ count))
     plain count =
-        let f = counted_number (answer number (length text)) count in (
+        let f = counted_number c.given count in (
           λ q.
-              let (z, e) = f.0 (sym is ∙ q) in
-              let none = not_refused number (length text) refl z in
-              (none, sym (counted number (length text) refl z) ∙ e),
-          λ (z, e). is ∙ f.1 (number_answer number (length text) ∙ z, counted number (length text) refl (number_answer number (length text) ∙ z) ∙ e),
+              let (z, e) = f.0 (sym c.number ∙ q) in
+              let none = not_refused number (length text) said z in
+              (none, sym (counted number (length text) said z) ∙ e),
+          λ (z, e). c.number ∙ f.1 (said.number ∙ z, found_count said z ∙ e),
         )
 
     above : {j k : ℕ} → j ≡ k → 0 < k → 0 < j
@@ -347,7 +360,7 @@ module _ {n x : ℕ} {distances lent after : List ℤ} {r : Answer} (a : Anchore
       let S = take (count_of r) after in
       let k' = back_refusal n x S (length lent') in
       let first' : k' ≡ 0 = ap (λ (l : List ℤ). back_refusal n x l (length lent')) scores ∙ passes in
-      let z' = ap number_of b.answered ∙ number_answer k' (row_start n) ∙ first' in
+      let z' = b.answered.number ∙ first' in
       let count' = counted k' (row_start n) b.answered z' in
       let long : length (distances_back n S) ≡ count_of r' = length_pair_list n (unfarris (score S)) ∙ sym count' in
       (z', count' ∙ sym count, taken first' (distances_back n S) lent' b.written long ∙ ap (distances_back n) scores ∙ same)

@@ -14,7 +14,8 @@ use Rattle.integers.proofs.Least.{max_left, max_right, max_is}
 use Rattle.sets.specs.Sets.{◌∋◌, size}
 use Rattle.clusters.specs.PairList.{Similarity, score, score_limit}
 use Rattle.clusters.specs.Indices.{strong_index, weight, clean_index, separation_index}
-use Rattle.clusters.specs.Groups.{Group, strong, kind_of, index}
+use Rattle.clusters.specs.Groups.{strong, kind_of, index}
+use Rattle.clusters.specs.declared.Group.{Group}
 use Rattle.clusters.specs.Triples.{Triple, triple_weight, TripleOf}
 use Rattle.clusters.proofs.Groups.{least_size, speaks_size, of_listed, in_groups}
 use Rattle.clusters.proofs.Strong.{strong_least, strong_attained, separation_least, separation_attained}

@@ -34,8 +34,7 @@ use Rattle.clusters.specs.Linkage.{Quotient, ◌≼◌, between, Linkage, single
 use Rattle.clusters.proofs.Blocks.{Partition, disjoint, of_merged, partition_merged, partition_singles}
 use Rattle.clusters.proofs.Links.{in_between, of_between, sum_between}
 use Rattle.clusters.proofs.Exists.{length_merged, count_singles}
-use Rattle.answers.specs.declared.Answer.{Answer}
-use Rattle.answers.specs.Answers.{number_of, count_of}
+use Rattle.answers.specs.Answers.{number_of, Answer, count_of}
 use Rattle.interface.specs.Sheet.{same_bytes}
 use Rattle.interface.specs.Calls.{LinkageCall}
 use Rattle.interface.proofs.Pieces.{same_bytes_lem}

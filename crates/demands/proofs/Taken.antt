@@ -16,9 +16,7 @@ use Rattle.lists.proofs.Lists.{in_all}
 use Rattle.integers.specs.Range.{Within}
 use Rattle.clusters.specs.PairList.{Similarity, row_start, pair_list, scores_in_range}
 use Rattle.clusters.proofs.PairList.{length_pair_list, of_pair_list, pair_list_at}
-use Rattle.answers.specs.declared.Answer.{Answer}
-use Rattle.answers.specs.Answers.{number_of, count_of, answer}
-use Rattle.answers.proofs.Answers.{its_number}
+use Rattle.answers.specs.Answers.{number_of, Answer, count_of}
 use Rattle.interface.specs.Sheet.{is_name, entries, value, pairs, has_equal}
 use Rattle.interface.specs.Listing.{sheet_listing}
 use Rattle.interface.specs.SheetText.{sheet_text}
@@ -42,7 +40,7 @@ use Rattle.interface.specs.Refusals.{
   reader_refusal,
   kind_checks,
 }
-use Rattle.interface.specs.Calls.{CCall, ReaderCall, c_number}
+use Rattle.interface.specs.Calls.{ReaderCall, c_number}
 use Rattle.interface.proofs.Refusals.{first_none, none_append, first_append, first_at, passes, right_count, under}
 use Rattle.interface.proofs.Accepted.{Passed, not_not}
 use Rattle.interface.proofs.Names.{distinct_names}
@@ -161,12 +159,6 @@ module _ {ns : List (List ℕ)} {s : Similarity} (f : FitsSheet ns s) where
       rw a (first_append (sheet_checks text) (check16_of kind (pairs text) ∷ check12 kind (entries text) (pairs text) ∷ check14 buffer (sheet_listing kind text) ∷ []) tt
       ∙ rw ((first_none (sheet_checks text) tt).1 accepted, b, c))
 
-  in_C : {kind : ℤ} → FitsKind (length ns) s kind → {lent after : List ℕ} {r : ℤ} → CCall kind (sheet_text ns s) lent r after
-      → let long = length (sheet_listing kind (sheet_text ns s)) in r ≡ c_number (answer (cond (ltb (length lent) long) 14 0) long)
-  in_C {kind} k {lent} c =
-      let long = length (sheet_listing kind text) in
-      c.number ∙ ap c_number c.outcome.answered ∙ ap (λ (j : ℕ). c_number (answer j long)) (refusal_is k (length lent))
-
   -- the reader
   read : {lent after : List ℤ} {r : Answer} → ReaderCall (sheet_text ns s) lent r after
       → let n = length ns in let l = take (n * (n + 1) / 2) after in
@@ -174,7 +166,7 @@ module _ {ns : List (List ℕ)} {s : Similarity} (f : FitsSheet ns s) where
   unfolding reader_refusal reader_checks all row_start
   read {lent} {after} {r} c =
       let z : reader_refusal text ≡ 0 = read_passed in
-      let none = its_number (reader_refusal text) (entries text) c.answered ∙ z in
+      let none = c.answered.number ∙ z in
       let is : take (row_start n) after ≡ pair_list n s =
       taken z (pairs text) lent c.written (ap length (sheet_text_pairs formed) ∙ length_pair_list n s) ∙ sheet_text_pairs formed in (
         none,
@@ -215,15 +207,17 @@ pub neither_entry : {n i j : ℕ} → i < n → j < n → NoEntries n i j → �
 neither_entry h g = ⊎_elim (λ x. omega arith) (λ x. omega arith)
 
 pub whatever_fits : Taken
-unfolding c_number answer
+unfolding c_number
 whatever_fits = record {
   listed = λ {ns} {s} f {kind} k {lent} c h.
       let long = length (sheet_listing kind (sheet_text ns s)) in
-      in_C f k c ∙ ap (λ (b : Bool). c_number (answer (cond b 14 0) long)) (le-ltb (length lent) long h);
+      let z = refusal_is f k (length lent) ∙ ap (λ (b : Bool). cond b 14 0) (le-ltb (length lent) long h) in
+      c.number ∙ ap c_number (c.outcome.answered.is_found z);
   short = λ {ns} {s} f {kind} k {lent} c h.
       let long = length (sheet_listing kind (sheet_text ns s)) in
-      in_C f k c ∙ ap (λ (b : Bool). c_number (answer (cond b 14 0) long)) (lt-ltb (length lent) long h);
-  room = λ {kind} {sheet} {lent} c h e. roomy kind sheet (length lent) h (sym (its_number _ _ c.outcome.answered)
+      let e = refusal_is f k (length lent) ∙ ap (λ (b : Bool). cond b 14 0) (lt-ltb (length lent) long h) in
+      c.number ∙ (refused_number c.given 14 (lit< tt)).1 (c.outcome.answered.number ∙ e);
+  room = λ {kind} {sheet} {lent} c h e. roomy kind sheet (length lent) h (sym c.outcome.answered.number
       ∙ (refused_number c.given 14 (lit< tt)).0 (sym c.number ∙ e));
   read = λ f c. read f c;
   name = λ {ns} {s} f {i} c h.

@@ -3,7 +3,7 @@ use mathlib.Core.Path.{◌≡◌, refl, sym, ap, ap₂, ◌∙◌, subst}
 use mathlib.Core.Bool.{cond}
 use mathlib.Core.Logic.{◌≢◌}
 use mathlib.Core.List.{List, [], ◌∷◌}
-use Prim.Native.Nat.{ℕ, zero, suc, ◌<◌}
+use Prim.Native.Nat.{ℕ, ◌<◌}
 use native.Mathlib.Omega.{arith}
 use borrow.Author.Tests.{ne_eqb}
 use lib.IntN.{pos, ℤ}
@@ -12,10 +12,11 @@ use Rattle.lists.proofs.Tests.{T_true, T_false}
 use Rattle.pairs.specs.declared.Carried.{Carried}
 use Rattle.pairs.specs.declared.Pair.{Pair}
 use Rattle.pairs.specs.declared.Carried.TheVariants.{Scored, Unscored}
-use Rattle.answers.specs.declared.Answer.{Answer}
-use Rattle.answers.specs.declared.ValueRead.{ValueRead}
-use Rattle.answers.specs.Answers.{number_of, count_of, answer, filled}
-use Rattle.answers.proofs.Answers.{its_number, count_refused}
+use Rattle.answers.specs.Answers.{number_of, Answer, count_of, filled}
+use Rattle.std.specs.Prelude.{Ok, Err}
+use Rattle.answers.specs.Shared.{Shared, shared_line}
+use Rattle.answers.specs.Values.{ValueRead}
+use Rattle.answers.proofs.Answers.{count_refused}
 use Rattle.interface.specs.Sheet.{is_lone_minus, is_cell, value_of, pair_said, cut, names, entries}
 use Rattle.interface.specs.Refusals.{
   first_of,
@@ -29,7 +30,7 @@ use Rattle.interface.specs.Refusals.{
   reader_refusal,
   score_refusal,
 }
-use Rattle.interface.specs.Calls.{c_number, has_name, name_of, name_start, start_of, behind, piece_at, ValueCall, sets_found, indices_found}
+use Rattle.interface.specs.Calls.{c_number, line_answer, has_name, name_of, name_start, start_of, behind, piece_at, ValueCall, sets_found, indices_found}
 use Rattle.demands.specs.Sentences.{CellSays, points, lone_minus, count, Pieces}
 use Rattle.demands.specs.Tables.{NoneGiven, reader_table}
 use Rattle.demands.specs.TurnedAway.{NameHanded, ValueHanded, TurnedAway, NumberInC}
@@ -37,7 +38,7 @@ use Rattle.interface.proofs.Pieces.{some_piece}
 use Rattle.interface.proofs.Values.{signed_lone}
 use Rattle.demands.proofs.InPoints.{says_written, says_value}
 use Rattle.demands.proofs.Cells.{says_cell}
-use Rattle.demands.proofs.Agree.{Says, and_says, not_says, like, eq_says, lt_says, agree_none, above, judged, judged_by}
+use Rattle.demands.proofs.Agree.{Says, and_says, not_says, like, eq_says, lt_says, agree_none, judged, judged_by}
 use Rattle.demands.proofs.AgreeText.{cut_pieces, pieces_cut, parted, formed_says}
 use Rattle.demands.proofs.AgreeTables.{
   reader_agrees,
@@ -110,12 +111,11 @@ in_C a e = record {
   refused = λ k h. let f = refused_number a k h in (λ q. f.0 (sym e ∙ q), λ z. e ∙ f.1 z);
 }
 
-pub said_in_C : (k c : ℕ) {r : ℤ} → r ≡ c_number (answer k c) → NumberInC k c r
-unfolding number_of count_of answer
-said_in_C zero c e = in_C (answer zero c) e
-said_in_C (suc k) c e =
-    let said = in_C (answer (suc k) c) e in
-    record { counted = λ d. (λ q. let (z, _) = (said.counted d).0 q in absurd (omega arith), λ (z, _). absurd (omega arith)); refused = said.refused }
+-- and of a set's line
+pub line_in_C : (a : Shared) {r : ℤ} → r ≡ c_number (line_answer a) → NumberInC (number_of a) (shared_line a) r
+unfolding line_answer shared_line count_of
+line_in_C (Ok found) e = in_C (Ok found.line) e
+line_in_C (Err refusal) e = in_C (Err refusal) e
 
 -- a slice that a call fills with 0: refused, nothing is written
 unfilled : {A : Type 0} (nil : A) (k : ℕ) (result lent : List A) {after : List A} → after ≡ filled nil k result lent → k ≢ 0 → after ≡ lent
@@ -129,14 +129,14 @@ turned_away = record {
   one_way = λ p q. sym (pieces_cut p) ∙ pieces_cut q;
   sheet_call = λ {kind} {sheet} {lent} c. judged_by (sheet_agrees kind sheet (length lent)) _ _ c.answered c.written;
   reader = λ {sheet} c. judged_by (reader_agrees sheet) _ _ c.answered c.written;
-  numbers_call = λ {kind} {n} {l} {lent_indices} {indices} {lent_sets} c.
+  numbers_call = λ {kind} {n} {l} {lent_indices} {indices} {lent_sets} {sets} {r} c.
       let k = numbers_refusal kind n l (length lent_sets) (length lent_indices) in
       let many = length (groups_found kind n l) in
-      judged (numbers_agree kind n l (length lent_sets) (length lent_indices)) (its_number k many c.answered) λ f.
-      let g : k ≢ 0 = λ z. f (its_number k many c.answered ∙ z) in (
+      judged (numbers_agree kind n l (length lent_sets) (length lent_indices)) c.answered.number λ f.
+      let g : k ≢ 0 = λ z. f (c.answered.number ∙ z) in (
         unfilled 0 k (sets_found kind n l) lent_sets c.sets_written g,
         unfilled (pos 0) k (indices_found kind n l) lent_indices c.indices_written g,
-        ap count_of c.answered ∙ count_refused k many (above g),
+        count_refused r f,
       );
   linkage_call = λ {linkage} {n} {l} {lent} c. judged_by (linkage_agrees n l (length lent)) _ _ c.answered c.written;
   anchored_call = λ {n} {x} {l} {lent} c. judged_by (anchored_agrees n x l (length lent)) _ _ c.answered c.written;

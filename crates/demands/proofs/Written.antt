@@ -20,12 +20,12 @@ use Rattle.integers.proofs.Halves.{half_twice, even_half}
 use Rattle.pairs.specs.Pairs.{mark, carried, pair_of}
 use Rattle.pairs.proofs.Pairs.{marked, unmarked}
 use Rattle.clusters.specs.PairList.{Similarity, pair_list, row_start, score, place, has_length, in_range, are_distances}
-use Rattle.clusters.specs.Groups.{Group, kind_of}
+use Rattle.clusters.specs.Groups.{kind_of}
+use Rattle.clusters.specs.declared.Group.{Group}
 use Rattle.clusters.specs.Farris.{distances_back, unfarris, farris, is_anchored, anchored_scores}
 use Rattle.clusters.proofs.PairList.{row_lt, pair_list_at, length_pair_list, score_symm, score_row}
 use Rattle.clusters.proofs.Theorems.{groups_most}
-use Rattle.answers.specs.declared.Answer.{Answer}
-use Rattle.answers.specs.Answers.{number_of, answer, slots, filled}
+use Rattle.answers.specs.Answers.{number_of, Answer, Answered, slots, filled}
 use Rattle.interface.specs.Sheet.{entries, value, pairs, line_feed}
 use Rattle.interface.specs.Listing.{groups_found, Line, digit, digits, hexadecimal, decimal, signed_points, line_text, first_text, first_line, listing, listing_read}
 use Rattle.interface.specs.Refusals.{numbers_refusal, most_entries, wrong_anchor, short_slice, not_anchored, back_checks, back_refusal}
@@ -46,12 +46,12 @@ use Rattle.interface.proofs.Accepted.{not_not}
 use Rattle.demands.proofs.Agree.{Under, denied_under, Says, and_says, not_says, eq_says, le_says, lt_says}
 
 -- a call whose checks give k, which answers c and writes a result: nothing beyond it is touched
-beyond : {A : Type 0} {r : Answer} (k c : ℕ) (result lent : List A) {after : List A} → r ≡ answer k c → after ≡ slots k result lent
+beyond : {A : Type 0} {r : Answer} (k c : ℕ) (result lent : List A) {after : List A} → Answered k c r → after ≡ slots k result lent
     → (z : number_of r ≡ 0) → {m : ℕ} → length result ≡ m → Beyond m lent after
 beyond k c result lent e w z long = dropped (not_refused k c e z) result lent w long
 
 -- a call that writes the pair list of s and is not refused
-pub at_row : (n : ℕ) (s : Similarity) (lent : List ℤ) (k c : ℕ) {r : Answer} {after : List ℤ} → r ≡ answer k c → number_of r ≡ 0
+pub at_row : (n : ℕ) (s : Similarity) (lent : List ℤ) (k c : ℕ) {r : Answer} {after : List ℤ} → Answered k c r → number_of r ≡ 0
     → after ≡ slots k (pair_list n s) lent → (i j : ℕ) → i < n → j ≤ i → lower after i j ≡ s i j
 unfolding row_start
 at_row n s lent k c e none w i j h below =

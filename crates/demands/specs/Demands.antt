@@ -10,11 +10,11 @@ use Rattle.clusters.specs.Indices.{clean_index, separation_index}
 use Rattle.clusters.specs.Fillings.{Fills, LeastFilling}
 use Rattle.clusters.specs.Farris.{farris}
 use Rattle.clusters.specs.Linkage.{single, average, singles, Tree, blocks}
-use Rattle.clusters.specs.Groups.{Kind, strong, clean, splits, kind_of, Group}
+use Rattle.clusters.specs.Groups.{Kind, strong, clean, splits, kind_of}
+use Rattle.clusters.specs.declared.Group.{Group}
 use Rattle.clusters.specs.Groups.{sets_of, HasLine, written_set, Rising, most_groups}
 use Rattle.clusters.specs.Reordering.{Permutation, Reordered, image}
-use Rattle.answers.specs.declared.Answer.{Answer}
-use Rattle.answers.specs.Answers.{number_of, count_of}
+use Rattle.answers.specs.Answers.{number_of, Answer, count_of}
 use Rattle.interface.specs.Sheet.{entries, pairs}
 use Rattle.interface.specs.Listing.{Line, group_of, sheet_listing, listing_read}
 use Rattle.interface.specs.Calls.{SheetCall, CCall, NumbersCall, groups_in, LinkageCall, AnchoredCall, BackCall}

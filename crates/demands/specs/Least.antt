@@ -6,7 +6,7 @@ use Rattle.integers.specs.Integers.{sum_of}
 use Rattle.sets.specs.Sets.{◌∋◌, ◌∌◌}
 use Rattle.clusters.specs.PairList.{Similarity, score}
 use Rattle.clusters.specs.Indices.{strong_index, clean_index, separation_index}
-use Rattle.clusters.specs.Groups.{Group}
+use Rattle.clusters.specs.declared.Group.{Group}
 use Rattle.clusters.specs.Triples.{Triple, triple_weight, TripleOf, ChosenTriples}
 use Rattle.demands.specs.Demands.{Wrote, Proper}
 

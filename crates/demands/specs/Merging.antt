@@ -6,8 +6,7 @@ use Rattle.integers.specs.Integers.{sum_of}
 use Rattle.sets.specs.Sets.{◌∋◌, members, size, Subset}
 use Rattle.clusters.specs.PairList.{Similarity, score}
 use Rattle.clusters.specs.Linkage.{Linkage, single, average, Tree, merged_blocks}
-use Rattle.answers.specs.declared.Answer.{Answer}
-use Rattle.answers.specs.Answers.{number_of, count_of}
+use Rattle.answers.specs.Answers.{number_of, Answer, count_of}
 use Rattle.interface.specs.Calls.{LinkageCall}
 
 -- what stands before slot k: "start from the n single entries", and the slots before it

@@ -7,8 +7,7 @@ use Rattle.lists.specs.Lists.{◌∈◌}
 use Rattle.integers.specs.Range.{Within}
 use Rattle.clusters.specs.PairList.{Similarity}
 use Rattle.clusters.specs.Linkage.{Linkage}
-use Rattle.answers.specs.declared.Answer.{Answer}
-use Rattle.answers.specs.Answers.{number_of, count_of}
+use Rattle.answers.specs.Answers.{number_of, Answer, count_of}
 use Rattle.interface.specs.Listing.{sheet_listing}
 use Rattle.interface.specs.SheetText.{sheet_text}
 use Rattle.interface.specs.Calls.{CCall, NumbersCall, LinkageCall, AnchoredCall, ReaderCall, NameInC, ScoreInC}

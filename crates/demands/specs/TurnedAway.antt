@@ -4,10 +4,8 @@ use Rattle.std.specs.Prelude.{◌≡◌, ◌↔◌, List, [], ◌∷◌, ℕ, �
 use Rattle.pairs.specs.declared.Carried.{Carried}
 use Rattle.pairs.specs.declared.Carried.TheVariants.{Scored}
 use Rattle.clusters.specs.Linkage.{Linkage}
-use Rattle.answers.specs.declared.Answer.{Answer}
-use Rattle.answers.specs.Answers.{number_of, count_of}
-use Rattle.answers.specs.declared.ValueRead.{ValueRead}
-use Rattle.answers.specs.Values.{read_number, read_pair, read_place}
+use Rattle.answers.specs.Answers.{number_of, Answer, count_of}
+use Rattle.answers.specs.Values.{ValueRead, read_pair, read_place}
 use Rattle.interface.specs.Sheet.{names, entries}
 use Rattle.interface.specs.Calls.{SheetCall, InC, NumbersCall, LinkageCall, AnchoredCall, BackCall}
 use Rattle.interface.specs.Calls.{ReaderCall, NameCall, NameInC, ScoreInC, ValueCall}
@@ -42,9 +40,9 @@ pub record ValueHanded (line : List ℕ) (at : ℕ) (r : ValueRead) : Type 0 whe
   pub others : List (List ℕ)
   pub parted : Pieces 32 (drop at line) (piece ∷ others)
   pub value : (c : Carried) → CellSays piece c
-      → (read_number r ≡ 0) × (read_pair r ≡ record { carries = c }) × (read_place r ≡ at + length piece)
+      → (number_of r ≡ 0) × (read_pair r ≡ record { carries = c }) × (read_place r ≡ at + length piece)
   pub refused : (Cell piece → ⊥)
-      → (read_number r ≡ 8) × (read_pair r ≡ record { carries = Scored (pos 0) }) × (read_place r ≡ 0)
+      → (number_of r ≡ 8) × (read_pair r ≡ record { carries = Scored (pos 0) }) × (read_place r ≡ 0)
 
 -- "answers the listing's length in bytes, or minus the refusal number": the number in C of an answer with this
 -- refusal's number, 0 for none, and this count. It determines both.

@@ -5,8 +5,7 @@ use Rattle.std.proofs.Math.Option.{some}
 use Rattle.pairs.specs.declared.Carried.TheVariants.{Scored, Unscored}
 use Rattle.pairs.specs.declared.Pair.{Pair}
 use Rattle.clusters.specs.Linkage.{Linkage}
-use Rattle.answers.specs.declared.Answer.{Answer}
-use Rattle.answers.specs.Answers.{number_of, count_of}
+use Rattle.answers.specs.Answers.{number_of, Answer, count_of}
 use Rattle.interface.specs.Sheet.{entries}
 use Rattle.interface.specs.Listing.{Line, listing_read}
 use Rattle.interface.specs.Calls.{SheetCall, NumbersCall, LinkageCall, AnchoredCall, BackCall, ReaderCall}

@@ -12,14 +12,11 @@ use Rattle.integers.specs.Range.{Within, Bounded}
 use Rattle.integers.proofs.Held.{passed}
 use Rattle.integers.proofs.Range.{within_grow, within_sum, within_difference}
 use Rattle.clusters.specs.PairList.{score, one_point, point_limit, score_limit, in_range}
-use Rattle.clusters.specs.Farris.{farris, anchored_scores, distances_back}
+use Rattle.clusters.specs.Farris.{farris, unfarris, anchored_scores, distances_back}
 use Rattle.clusters.proofs.PairList.{of_pair_list}
 use Rattle.clusters.proofs.Farris.{score_back}
 use Rattle.clusters.proofs.Scored.{range_limit}
 use Rattle.clusters.proofs.Bounds.{score_within}
-use Rattle.farris.specs.declared.Way.{Way}
-use Rattle.farris.specs.declared.Way.TheVariants.{Anchored, Back}
-use Rattle.farris.specs.Ways.{converted, Convertible}
 
 -- the results of two calls, numbers of 32 bits, and the result of a call that adds them: each may be added or subtracted
 pub addend : {u : ℤ} → mag u < 2 ^ hbits w64 → Within (2 ^ 31) u → Within (2 ^ 61) (to_z w64 (of_z w64 u))
@@ -37,10 +34,13 @@ unfolding farris
 farris_within l x a b t = within_difference (within_sum (score_within (range_limit l t) a x) (score_within (range_limit l t) b x)) (score_within (range_limit l t) a b)
 
 -- what is written fits 32 bits
-pub converted_small : (w : Way) (n : ℕ) (l : List ℤ) (a b : ℕ) → Convertible w n l → a < n → b < n → Within (2 ^ 31 - 1) (converted w (score l) a b)
-unfolding converted Convertible one_point point_limit score_limit
-converted_small (Anchored x) n l a b (_, t) h k = within_grow (omega arith) (farris_within l x a b t)
-converted_small Back n l a b t h k = within_grow (omega arith)
+pub anchored_small : (l : List ℤ) (x a b : ℕ) → T (in_range l) → Within (2 ^ 31 - 1) (farris (score l) x a b)
+unfolding one_point point_limit score_limit
+anchored_small l x a b t = within_grow (omega arith) (farris_within l x a b t)
+
+pub back_small : (n : ℕ) (l : List ℤ) (a b : ℕ) → T (in_range (distances_back n l)) → a < n → b < n → Within (2 ^ 31 - 1) (unfarris (score l) a b)
+unfolding one_point point_limit score_limit
+back_small n l a b t h k = within_grow (omega arith)
     (subst (Within score_limit) (score_back n l a b h k) (score_within (range_limit (distances_back n l) t) a b))
 
 pub anchored_bounded : (n x : ℕ) (l : List ℤ) → T (in_range l) → Bounded (2 ^ 31) (anchored_scores n x l)

@@ -1,3 +1,4 @@
 pub mod Bounds
 pub mod Refusals
+pub mod Ranges
 pub mod Distances

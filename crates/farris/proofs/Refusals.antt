@@ -1,5 +1,5 @@
 -- What the anchored and the way-back call may rely on once no check refuses them.
-use mathlib.Core.Path.{◌≡◌, refl}
+use mathlib.Core.Path.{◌≡◌, refl, sym}
 use mathlib.Core.Bool.{◌||◌}
 use mathlib.Core.List.{List}
 use Prim.Native.Nat.{ℕ, ◌≤◌, ◌<◌}
@@ -17,14 +17,15 @@ use Rattle.interface.proofs.Anchored.{in_place, anchored_passes}
 use Rattle.matrix.proofs.Checks.{sized}
 use Rattle.farris.proofs.Distances.{anchored_ranged}
 
-pub anchor_passes : (n x : ℕ) (l : List ℤ) (room : ℕ) → anchored_refusal n x l room ≡ 0
-    → (n ≤ 32) × (length l ≡ row_start n) × ((x < n) × T (in_range l)) × (row_start n ≤ room)
-anchor_passes n x l room e = let p = anchored_passes n x l room e in (right_count n p.count, p.long, (p.anchor, p.range), p.room)
+pub anchor_passes : (n x : ℕ) (l : List ℤ) (room : ℕ) → 0 ≡ anchored_refusal n x l room
+    → (n ≤ 32) × (length l ≡ row_start n) × (x < n) × T (in_range l) × (row_start n ≤ room)
+anchor_passes n x l room e = let p = anchored_passes n x l room (sym e) in (right_count n p.count, p.long, p.anchor, p.range, p.room)
 
-pub back_passes : (n x : ℕ) (l : List ℤ) (room : ℕ) → back_refusal n x l room ≡ 0
+pub back_passes : (n x : ℕ) (l : List ℤ) (room : ℕ) → 0 ≡ back_refusal n x l room
     → (n ≤ 32) × (length l ≡ row_start n) × T (in_range (distances_back n l)) × (row_start n ≤ room)
 unfolding back_refusal back_checks not_anchored under all
-back_passes n x l room e =
+back_passes n x l room z =
+    let e = sym z in
     let checks = back_checks n x l room in
     let (few, long) = sized n l checks tt e refl refl in
     let c₁₅ = T_false {b = wrong_anchor n x || short_slice room (row_start n) || not_anchored n x l} (passes 15 checks tt e) in

@@ -6,22 +6,15 @@ ghost use Rattle.std.proofs.lemmas.List.Edits.{sets};
 ghost use Rattle.lists.specs.Lists.{all, below};
 ghost use Rattle.integers.specs.Integers.{eq_z, even};
 ghost use Rattle.integers.specs.Range.{Within};
-ghost use Rattle.clusters.specs.PairList.{row_start, place, score, pair_list, in_range, are_distances};
+ghost use Rattle.clusters.specs.PairList.{Similarity, row_start, place, score, pair_list, in_range, are_distances};
 ghost use Rattle.clusters.specs.Farris.{farris, unfarris, anchored_scores, distances_back, is_anchored};
 ghost use Rattle.interface.specs.Refusals.{wrong_anchor, short_slice, anchored_refusal, back_refusal};
 ghost use Rattle.interface.specs.Calls.{AnchoredCall, BackCall};
-ghost use Rattle.answers.specs.Answers.{answer, slots};
+ghost use Rattle.answers.specs.Answers.{number_of};
 ghost use Rattle.farris.specs.Distances.{is_distance};
-ghost use Rattle.farris.specs.Ways.{converted, Convertible};
+ghost use Rattle.farris.specs.Values.{Callable, Fitting, Gives};
 
-use answers::Answer;
-
-// To the anchored scores, at an anchor, or back.
-#[derive(Clone, Copy)]
-enum Way {
-    Anchored(usize),
-    Back,
-}
+use answers::Refusal;
 
 // The score of a and b in any list; it has 32 bits, so sums of a few do not wrap.
 fn listed_score(pairs: &[i32], a: usize, b: usize) -> i64
@@ -50,39 +43,30 @@ fn distance_back(n: usize, scores: &[i32], a: usize, b: usize) -> i64
     integers::half(integers::difference(own, integers::sum(between, between)))
 }
 
-// The value at a and b, either way.
-fn converted(way: Way, n: usize, pairs: &[i32], a: usize, b: usize) -> i64
-    requires { (n ≤ 32) × (length pairs.now ≡ row_start n) × Convertible way n pairs.now × (a < n) × (b < n) }
-    ensures { result ≡ converted way (score pairs.now) a b }
-{
-    match way {
-        Way::Anchored(x) => anchored_score(n, x, pairs, a, b),
-        Way::Back => distance_back(n, pairs, a, b),
-    }
-}
-
-// Row a of the list, converted.
-fn convert_row(way: Way, n: usize, pairs: &[i32], a: usize, out: &mut [i32])
-    requires { (n ≤ 32) × (length pairs.now ≡ row_start n) × Convertible way n pairs.now × (a < n)
-        × (row_start n ≤ length out.old) }
-    ensures { out.new ≡
-        sets out.old (row_start a) (map (converted way (score pairs.now) a) (below (suc a))) }
+// Row a of the list: the value of a and each entry up to a.
+fn fill_row<F: Fn(usize, usize) -> i64>(value: &F, n: usize, a: usize, out: &mut [i32])
+    requires room { (n ≤ 32) × (a < n) × (row_start n ≤ length out.old) }
+    requires callable { Callable n (F.pre value.now) }
+    requires fitting { Fitting n (F.post value.now) }
+    ensures { (S : Similarity) → Gives n (F.post value.now) S
+        → out.new ≡ sets out.old (row_start a) (map (S a) (below (suc a))) }
 {
     let start = matrix::row_start(a);
     for b in 0..a + 1 {
-        out[start + b] = integers::narrow(converted(way, n, pairs, a, b));
+        out[start + b] = integers::narrow(value(a, b));
     }
 }
 
-// A pair list that passed its checks, converted.
-fn convert(way: Way, n: usize, pairs: &[i32], out: &mut [i32])
-    requires { (n ≤ 32) × (length pairs.now ≡ row_start n) × Convertible way n pairs.now
-        × (row_start n ≤ length out.old) }
-    ensures { out.new ≡
-        pair_list n (converted way (score pairs.now)) ++ drop (row_start n) out.old }
+// The pair list of the values.
+fn fill<F: Fn(usize, usize) -> i64>(value: F, n: usize, out: &mut [i32])
+    requires room { (n ≤ 32) × (row_start n ≤ length out.old) }
+    requires callable { Callable n (F.pre value) }
+    requires fitting { Fitting n (F.post value) }
+    ensures { (S : Similarity) → Gives n (F.post value) S
+        → out.new ≡ pair_list n S ++ drop (row_start n) out.old }
 {
     for a in 0..n {
-        convert_row(way, n, pairs, a, out);
+        fill_row(&value, n, a, out);
     }
 }
 
@@ -93,23 +77,7 @@ pub fn anchor(n: usize, x: usize, pairs: &[i32], out: &mut [i32])
     ensures { out.new ≡
         anchored_scores n x pairs.now ++ drop (row_start n) out.old }
 {
-    convert(Way::Anchored(x), n, pairs, out);
-}
-
-// The answer of either call whose table gives this number; if that is 0, the list is converted.
-fn answered(refusal: usize, way: Way, n: usize, pairs: &[i32], out: &mut [i32]) -> Answer
-    requires { refusal ≡ 0 → (n ≤ 32) × (length pairs.now ≡ row_start n) × Convertible way n pairs.now
-        × (row_start n ≤ length out.old) }
-    ensures value { result ≡ answer refusal (row_start n) }
-    ensures out_after { out.new ≡
-        slots refusal (pair_list n (converted way (score pairs.now))) out.old }
-{
-    if refusal != 0 {
-        return Answer::Refused(refusal);
-    }
-    let count = matrix::pair_count(n);
-    convert(way, n, pairs, out);
-    Answer::Count(count)
+    fill(|a, b| anchored_score(n, x, pairs, a, b), n, out);
 }
 
 // Check 15, of every call on a list with an anchor: the anchor, and the room for the result.
@@ -123,26 +91,24 @@ fn is_out_of_place(n: usize, x: usize, room: usize) -> bool
     room < matrix::pair_count(n)
 }
 
-// The first number of the anchored call's table whose condition holds, 0 if none does.
-fn anchored_refusal(n: usize, x: usize, pairs: &[i32], room: usize) -> usize
-    ensures { result ≡ anchored_refusal n x pairs.now room }
+// The checks of the anchored call.
+fn check_anchored(n: usize, x: usize, pairs: &[i32], room: usize) -> Result<(), Refusal>
+    ensures { number_of result ≡ anchored_refusal n x pairs.now room }
 {
-    let refused = matrix::distances_refusal(n, pairs);
-    if refused != 0 {
-        return refused;
-    }
+    matrix::check_distances(n, pairs)?;
     if is_out_of_place(n, x, room) {
-        return 15;
+        return Err(Refusal::OutOfPlace);
     }
-    0
+    Ok(())
 }
 
 // The anchored call.
-pub fn anchored_scores(n: usize, x: usize, pairs: &[i32], out: &mut [i32]) -> Answer
+pub fn anchored_scores(n: usize, x: usize, pairs: &[i32], out: &mut [i32]) -> Result<usize, Refusal>
     ensures { AnchoredCall n x pairs.now out.old result out.new }
 {
-    let refusal = anchored_refusal(n, x, pairs, out.len());
-    answered(refusal, Way::Anchored(x), n, pairs, out)
+    check_anchored(n, x, pairs, out.len())?;
+    anchor(n, x, pairs, out);
+    Ok(matrix::pair_count(n))
 }
 
 // What 11 and 12 ask of one distance.
@@ -157,12 +123,7 @@ fn is_row_back(n: usize, scores: &[i32], a: usize) -> bool
     requires { (n ≤ 32) × (length scores.now ≡ row_start n) × (a < n) }
     ensures { result ≡ all (λ b. is_distance (unfarris (score scores.now) a b)) (below (suc a)) }
 {
-    for b in 0..a + 1 {
-        if !is_distance(distance_back(n, scores, a, b)) {
-            return false;
-        }
-    }
-    true
+    (0..a + 1).all(|b| is_distance(distance_back(n, scores, a, b)))
 }
 
 // What is found back passes checks 11 and 12.
@@ -171,12 +132,7 @@ fn are_distances_back(n: usize, scores: &[i32]) -> bool
     ensures { result ≡
         (in_range (distances_back n scores.now) && are_distances n (distances_back n scores.now)) }
 {
-    for a in 0..n {
-        if !is_row_back(n, scores, a) {
-            return false;
-        }
-    }
-    true
+    (0..n).all(|a| is_row_back(n, scores, a))
 }
 
 // What anchored scores have at entry a: S(a,x) is 0, and S(a,a) is even.
@@ -194,12 +150,7 @@ fn are_anchored_entries(n: usize, x: usize, scores: &[i32]) -> bool
     ensures { result ≡
         all (λ a. eq_z (score scores.now a x) (pos 0) && even (score scores.now a a)) (below n) }
 {
-    for a in 0..n {
-        if !is_anchored_entry(n, x, scores, a) {
-            return false;
-        }
-    }
-    true
+    (0..n).all(|a| is_anchored_entry(n, x, scores, a))
 }
 
 // The list is the anchored scores, at x, of distances.
@@ -210,27 +161,25 @@ fn is_anchored(n: usize, x: usize, scores: &[i32]) -> bool
     are_anchored_entries(n, x, scores) && are_distances_back(n, scores)
 }
 
-// The first number of the way back's table whose condition holds, 0 if none does.
-fn back_refusal(n: usize, x: usize, scores: &[i32], room: usize) -> usize
-    ensures { result ≡ back_refusal n x scores.now room }
+// The checks of the way back.
+fn check_back(n: usize, x: usize, scores: &[i32], room: usize) -> Result<(), Refusal>
+    ensures { number_of result ≡ back_refusal n x scores.now room }
 {
-    let refused = matrix::length_refusal(n, scores);
-    if refused != 0 {
-        return refused;
-    }
+    matrix::check_length(n, scores)?;
     if is_out_of_place(n, x, room) {
-        return 15;
+        return Err(Refusal::OutOfPlace);
     }
     if !is_anchored(n, x, scores) {
-        return 15;
+        return Err(Refusal::OutOfPlace);
     }
-    0
+    Ok(())
 }
 
 // The way back.
-pub fn distances_back(n: usize, x: usize, scores: &[i32], out: &mut [i32]) -> Answer
+pub fn distances_back(n: usize, x: usize, scores: &[i32], out: &mut [i32]) -> Result<usize, Refusal>
     ensures { BackCall n x scores.now out.old result out.new }
 {
-    let refusal = back_refusal(n, x, scores, out.len());
-    answered(refusal, Way::Back, n, scores, out)
+    check_back(n, x, scores, out.len())?;
+    fill(|a, b| distance_back(n, scores, a, b), n, out);
+    Ok(matrix::pair_count(n))
 }

@@ -1,68 +1,60 @@
 // The sheet call, and the face in C of every call.
 #![tactic(auto)]
 
-ghost use Rattle.std.specs.Prelude.{◌≡◌, false, ◌^◌, ◌<◌, ◌≤◌, pos, neg_ℤ, length};
+ghost use Rattle.std.specs.Prelude.{◌≡◌, ◌^◌, ◌<◌, ◌≤◌, pos, neg_ℤ, length};
 ghost use Rattle.clusters.specs.PairList.{row_start};
 ghost use Rattle.clusters.specs.Linkage.{single, average};
-ghost use Rattle.answers.specs.Answers.{number_of, count_of};
-ghost use Rattle.interface.specs.Refusals.{wrong_kind};
+ghost use Rattle.answers.specs.Answers.{number, count_of};
 ghost use Rattle.interface.specs.Calls.{SheetCall, c_number, InC, CCall, NumbersCall, LinkageCall};
 ghost use Rattle.interface.specs.Calls.{AnchoredCall, BackCall, ReaderCall, NameInC, ScoreInC, SharedInC, PoolCall};
 ghost use Rattle.interface.specs.Calls.{RefinedInC};
+ghost use Rattle.kinds.specs.Kinds.{number_for};
 ghost use Rattle.accept.specs.Names.{NamesRead};
 ghost use Rattle.farzhudyl.specs.Pairs.{PairsListed};
 
-use answers::{Answer, Refined, Shared};
+use answers::Refusal;
+use kinds::Kind;
 
 // The listing of a pair list, or the first of checks 11, 16, 12 and 14 that refuses.
-fn list_pairs(kind: i32, n: usize, pairs: &[i32], out: &mut [u8]) -> Answer
+fn list_pairs(kind: Kind, n: usize, pairs: &[i32], out: &mut [u8]) -> Result<usize, Refusal>
     requires { (1 ≤ n) × (n ≤ 32) × (length pairs.now ≡ row_start n) }
-    ensures { PairsListed kind n pairs.now out.old result out.new }
+    ensures { PairsListed (number_for kind) n pairs.now out.old result out.new }
 {
     if !matrix::scores_in_range(pairs) {
-        return Answer::Refused(11);
+        return Err(Refusal::OutOfRange);
     }
-    if kinds::has_wrong_unscored(kind, pairs) {
-        return Answer::Refused(16);
+    if kind.has_wrong_unscored(pairs) {
+        return Err(Refusal::Unscored);
     }
-    if kinds::are_wrong_distances(kind, n, pairs) {
-        return Answer::Refused(12);
+    if kind.are_wrong_distances(n, pairs) {
+        return Err(Refusal::NoDistances);
     }
-    let found = groups::find(kind, n, pairs);
-    let sets = found.sets;
-    let indices = found.indices;
-    let count = found.count;
-    listing::hand_listing(&sets, &indices, count, out)
+    let found = groups::of_kind(kind, n, pairs);
+    listing::hand_listing(found.as_slice(), out)
 }
 
-// The listing of a sheet, of a kind that there is, or the refusal: check by check.
-fn list_checked(kind: i32, sheet: &[u8], out: &mut [u8]) -> Answer
-    requires { wrong_kind kind ≡ false }
-    ensures { SheetCall kind sheet.now out.old result out.new }
+// The listing of a sheet, or the refusal: check by check.
+fn list_checked(kind: Kind, sheet: &[u8], out: &mut [u8]) -> Result<usize, Refusal>
+    ensures { SheetCall (number_for kind) sheet.now out.old result out.new }
 {
     let mut pairs = [0i32; 528];
-    let reading = reader::read_checked(sheet, &mut pairs);
-    match reading {
-        Answer::Refused(number) => Answer::Refused(number),
-        Answer::Count(n) => {
-            let count = matrix::pair_count(n);
-            list_pairs(kind, n, &pairs[..count], out)
-        }
-    }
+    let n = reader::read_checked(sheet, &mut pairs)?;
+    let count = matrix::pair_count(n);
+    list_pairs(kind, n, &pairs[..count], out)
 }
 
 // The same in one pass where that will do, with slots for the pair list: the n names are read, and the value lines
 // start at from.
 fn list_with(
     pairs: &mut [i32],
-    kind: i32,
+    kind: Kind,
     sheet: &[u8],
     n: usize,
     from: usize,
     out: &mut [u8],
-) -> Answer
-    requires { (wrong_kind kind ≡ false) × NamesRead sheet.now n from × (row_start n ≤ length pairs.old) }
-    ensures { SheetCall kind sheet.now out.old result out.new }
+) -> Result<usize, Refusal>
+    requires { NamesRead sheet.now n from × (row_start n ≤ length pairs.old) }
+    ensures { SheetCall (number_for kind) sheet.now out.old result out.new }
 {
     if !accept::read_rows(pairs, sheet, n, from) {
         return list_checked(kind, sheet, out);
@@ -71,84 +63,56 @@ fn list_with(
     list_pairs(kind, n, &pairs[..count], out)
 }
 
-// The same, with slots for at most 8, 16 and 32 entries: an array is cleared whole.
-fn list_8(kind: i32, sheet: &[u8], n: usize, from: usize, out: &mut [u8]) -> Answer
-    requires { (wrong_kind kind ≡ false) × NamesRead sheet.now n from × (n ≤ 8) }
-    ensures { SheetCall kind sheet.now out.old result out.new }
+// The same, with N slots: an array is cleared whole.
+fn list_in<const N: usize>(
+    kind: Kind,
+    sheet: &[u8],
+    n: usize,
+    from: usize,
+    out: &mut [u8],
+) -> Result<usize, Refusal>
+    requires { NamesRead sheet.now n from × (row_start n ≤ N) × (N ≤ 528) }
+    ensures { SheetCall (number_for kind) sheet.now out.old result out.new }
 {
-    let mut pairs = [0i32; 36];
-    list_with(&mut pairs, kind, sheet, n, from, out)
-}
-
-fn list_16(kind: i32, sheet: &[u8], n: usize, from: usize, out: &mut [u8]) -> Answer
-    requires { (wrong_kind kind ≡ false) × NamesRead sheet.now n from × (n ≤ 16) }
-    ensures { SheetCall kind sheet.now out.old result out.new }
-{
-    let mut pairs = [0i32; 136];
-    list_with(&mut pairs, kind, sheet, n, from, out)
-}
-
-fn list_32(kind: i32, sheet: &[u8], n: usize, from: usize, out: &mut [u8]) -> Answer
-    requires { (wrong_kind kind ≡ false) × NamesRead sheet.now n from }
-    ensures { SheetCall kind sheet.now out.old result out.new }
-{
-    let mut pairs = [0i32; 528];
+    let mut pairs = [0i32; N];
     list_with(&mut pairs, kind, sheet, n, from, out)
 }
 
 // The sheet call: the listing's length, and the listing in the first bytes; or the refusal, and nothing is written.
-pub fn listing(kind: i32, sheet: &[u8], out: &mut [u8]) -> Answer
+pub fn listing(kind: i32, sheet: &[u8], out: &mut [u8]) -> Result<usize, Refusal>
     ensures { SheetCall kind sheet.now out.old result out.new }
 {
-    if kinds::is_wrong(kind) {
-        return Answer::Refused(1);
-    }
-    let names = accept::read_names(sheet);
+    let kind = Kind::try_from(kind)?;
+    let Some(names) = accept::read_names(sheet) else {
+        return list_checked(kind, sheet, out);
+    };
     let n = names.count;
     let from = names.next;
-    if n == 0 {
-        return list_checked(kind, sheet, out);
-    }
     if n <= 8 {
-        return list_8(kind, sheet, n, from, out);
+        return list_in::<36>(kind, sheet, n, from, out);
     }
     if n <= 16 {
-        return list_16(kind, sheet, n, from, out);
+        return list_in::<136>(kind, sheet, n, from, out);
     }
-    list_32(kind, sheet, n, from, out)
+    list_in::<528>(kind, sheet, n, from, out)
 }
 
-fn plus(length: usize) -> i64
-    requires { length < 2 ^ 63 }
-    ensures { result ≡ pos length }
+// A refusal as minus its number.
+fn minus_number(refusal: Refusal) -> i64
+    ensures { result ≡ neg_ℤ (pos (number refusal)) }
 {
-    length as i64
-}
-
-fn minus(number: usize) -> i64
-    requires { number < 2 ^ 63 }
-    ensures { result ≡ neg_ℤ (pos number) }
-{
-    0 - number as i64
+    -i64::from(refusal.number())
 }
 
 // An answer as the number that C is given.
-fn as_number(a: Answer) -> i64
-    requires { (number_of a < 2 ^ 63) × (count_of a < 2 ^ 63) }
-    ensures { result ≡ c_number a }
+fn as_number(answer: Result<usize, Refusal>) -> i64
+    requires { count_of answer < 2 ^ 63 }
+    ensures { result ≡ c_number answer }
 {
-    match a {
-        Answer::Count(length) => plus(length),
-        Answer::Refused(number) => minus(number),
+    match answer {
+        Ok(count) => count as i64,
+        Err(refusal) => minus_number(refusal),
     }
-}
-
-// A refusal's number as it is.
-fn as_i32(number: usize) -> i32
-    requires { number < 2 ^ 31 }
-    ensures { result ≡ pos number }
-{
-    number as i32
 }
 
 // The faces in C, which crate farzhudyl_c exports and include/farzhudyl.h declares: a count is answered as it is, a
@@ -221,11 +185,10 @@ pub fn farzhudyl_name(sheet: &[u8], entry: usize, start: &mut usize) -> usize
 pub fn farzhudyl_score(n: usize, pairs: &[i32], a: usize, b: usize, score: &mut i64) -> i32
     ensures { ScoreInC n pairs.now a b score.old result score.new }
 {
-    let number = triangle::score_refusal(n, pairs, a, b);
-    if number != 0 {
-        return as_i32(number);
+    if let Err(refusal) = triangle::check_score(n, pairs, a, b) {
+        return i32::from(refusal.number());
     }
-    *score = integers::wide(pairs::list_number(triangle::pair_of(pairs, n, a, b)));
+    *score = i64::from(pairs::list_number(triangle::pair_of(pairs, n, a, b)));
     0
 }
 
@@ -240,15 +203,14 @@ pub fn farzhudyl_smallest_shared(
 ) -> i64
     ensures { SharedInC kind n pairs.now a b result set.new }
 {
-    let answer = shared::smallest_shared(kind, n, pairs, a, b);
-    match answer {
-        Shared::Set(found, line) => {
-            *set = found;
-            plus(line)
+    match shared::smallest_shared(kind, n, pairs, a, b) {
+        Ok(found) => {
+            *set = found.set;
+            found.line as i64
         }
-        Shared::Refused(number) => {
+        Err(refusal) => {
             *set = 0;
-            minus(number)
+            minus_number(refusal)
         }
     }
 }
@@ -264,15 +226,14 @@ pub fn farzhudyl_pool(first: &[u8], second: &[u8], out: &mut [u8]) -> i64
 pub fn farzhudyl_refined_weight(n: usize, pairs: &[i32], side: u32, weight: &mut i64) -> i32
     ensures { RefinedInC n pairs.now side result weight.new }
 {
-    let answer = refined::refined_weight(n, pairs, side);
-    match answer {
-        Refined::Weight(found) => {
+    match refined::refined_weight(n, pairs, side) {
+        Ok(found) => {
             *weight = found;
             0
         }
-        Refined::Refused(number) => {
+        Err(refusal) => {
             *weight = 0;
-            as_i32(number)
+            i32::from(refusal.number())
         }
     }
 }

@@ -1,4 +1,3 @@
 pub mod Candidates
-pub mod Filled
 pub mod Listing
 pub mod WaysOut

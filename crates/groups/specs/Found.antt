@@ -1,16 +1,11 @@
--- The code's own vocabulary, which nobody need believe: groups as the code holds them.
-use Rattle.std.specs.Prelude.{◌≡◌, Bool, ◌&&◌, List, map, ℕ, ◌≤◌, eqb, ℤ, length, take}
+-- The code's own vocabulary, which nobody need believe: the sets that are looked at, and those that are found among
+-- them.
+use Rattle.std.specs.Prelude.{Bool, ◌&&◌, List, map, ℕ, eqb}
 use Rattle.std.specs.Int.Bits.{bit_and}
 use Rattle.lists.specs.Lists.{keep}
-use Rattle.clusters.specs.Groups.{Kind, strong, clean, splits, speaks_of, index, listed, group_sets}
-use Rattle.clusters.specs.PairList.{score}
-use Rattle.groups.specs.declared.Found.{Found}
-
-abbrev pub sets_of : Found → List ℕ
-sets_of f = take f.count f.sets
-
-abbrev pub indices_of : Found → List ℤ
-indices_of f = take f.count f.indices
+use Rattle.clusters.specs.PairList.{Similarity}
+use Rattle.clusters.specs.Groups.{Kind, strong, clean, splits, speaks_of, index, listed}
+use Rattle.clusters.specs.declared.Group.{Group}
 
 -- a set that may be listed: the kind speaks of it, and a strong group shares no entry with those touched
 unfoldable pub is_candidate : Kind → ℕ → (touched : ℕ) → ℕ → Bool
@@ -18,15 +13,10 @@ is_candidate strong n touched A = speaks_of strong n A && eqb (bit_and A touched
 is_candidate clean n touched A = speaks_of clean n A
 is_candidate splits n touched A = speaks_of splits n A
 
--- they are the listed ones of these sets, each with its index
-pub record Listed (kind : Kind) (n : ℕ) (l : List ℤ) (sets : List ℕ) (f : Found) : Type 0 where
-  pub are : sets_of f ≡ keep (listed kind n (score l)) sets
-  pub indices : indices_of f ≡ map (index kind n (score l)) (keep (listed kind n (score l)) sets)
-  pub count : f.count ≡ length (keep (listed kind n (score l)) sets)
+-- the group that a listed set is
+abbrev pub group_of : Kind → ℕ → Similarity → ℕ → Group
+group_of kind n s A = record { set = A; index = index kind n s A }
 
--- they are the groups of a kind, each with its index: at most 2n − 2, so at most 62 of 32 entries
-pub record Groups (kind : Kind) (n : ℕ) (l : List ℤ) (f : Found) : Type 0 where
-  pub sets : sets_of f ≡ group_sets kind n (score l)
-  pub indices : indices_of f ≡ map (index kind n (score l)) (group_sets kind n (score l))
-  pub count : f.count ≡ length (group_sets kind n (score l))
-  pub few : f.count ≤ 62
+-- the listed ones of these sets, each with its index
+abbrev pub listed_among : Kind → ℕ → Similarity → List ℕ → List Group
+listed_among kind n s sets = map (group_of kind n s) (keep (listed kind n s) sets)

@@ -9,3 +9,4 @@ pub mod Halves
 pub mod Range
 pub mod Held
 pub mod Running
+pub mod Operators

@@ -5,9 +5,6 @@ use mathlib.Core.Logic.{◌⊎◌, inl, inr}
 use lib.Dec.{T}
 use lib.IntN.{ℤ}
 use lib.Signed.{◌≤ℤ◌, ◌<ℤ◌, le_z, le_z_yes, clash_ℤ}
-use mir.Syntax.{Width}
-use mir.Val.{SFits, of_z, to_z}
-use mir.Facts.{to_z-of_z}
 use Rattle.lists.proofs.Tests.{T_true, true_T, T_false, false_T, T_or_not}
 use Rattle.integers.proofs.Linear.{le_z_no}
 
@@ -26,10 +23,6 @@ false_le_z {a} {b} h = go (T_or_not (le_z a b))
     go : T (le_z a b) ⊎ T (not (le_z a b)) → le_z a b ≡ false
     go (inl t) = clash_ℤ h (le_z_yes t)
     go (inr t) = T_false t
-
--- a test of two parameters, which the code reads back from their bits
-pub le_z_read : {w : Width} {a b : ℤ} {t : Bool} → SFits w a → SFits w b → le_z (to_z w (of_z w a)) (to_z w (of_z w b)) ≡ t → le_z a b ≡ t
-le_z_read f g e = rw (to_z-of_z f, to_z-of_z g) at e
 
 -- what `a && b` answers for two calls a and b: the second is made only if the first holds
 pub and_second : {a b p q : Bool} → a ≡ p → a ≡ true → b ≡ q → b ≡ p && q

@@ -1,6 +1,6 @@
 // Whole numbers with a sign: definitions in specs/, laws in proofs/. The code is all signed arithmetic that the engine
 // does.
-#![tactic(auto)]
+#![tactic(auto, using(crate::proofs::Operators::operators))]
 
 ghost use Rattle.std.specs.Prelude.{◌≡◌, ◌-◌, ◌^◌, ◌≤◌, pos, nat_abs, ◌+ℤ◌, ◌-ℤ◌, ◌*ℤ◌};
 ghost use Rattle.std.specs.Int.Signed.{le_z};
@@ -10,7 +10,7 @@ ghost use Rattle.integers.specs.Range.{Within};
 pub fn wide(x: i32) -> i64
     ensures { result ≡ x }
 {
-    x as i64
+    i64::from(x)
 }
 
 pub fn narrow(x: i64) -> i32
@@ -29,32 +29,32 @@ pub fn at_most(x: i64, y: i64) -> bool
 pub fn is_equal(x: i64, y: i64) -> bool
     ensures { result ≡ eq_z x y }
 {
-    at_most(x, y) && at_most(y, x)
+    x == y
 }
 
 pub fn smaller(x: i64, y: i64) -> i64
     ensures { result ≡ min_z x y }
 {
-    if x <= y { x } else { y }
+    x.min(y)
 }
 
 pub fn larger(x: i64, y: i64) -> i64
     ensures { result ≡ max_z x y }
 {
-    if x <= y { y } else { x }
+    x.max(y)
 }
 
 // The same of 32-bit numbers, of which a processor compares several at once.
 pub fn smaller_i32(a: i32, b: i32) -> i32
     ensures { result ≡ min_z a b }
 {
-    if a <= b { a } else { b }
+    a.min(b)
 }
 
 pub fn larger_i32(a: i32, b: i32) -> i32
     ensures { result ≡ max_z a b }
 {
-    if a <= b { b } else { a }
+    a.max(b)
 }
 
 pub fn difference_i32(a: i32, b: i32) -> i32
@@ -90,9 +90,10 @@ pub fn magnitude(x: i64) -> usize
     requires { Within (2 ^ 61) x }
     ensures { result ≡ nat_abs x }
 {
-    larger(x, difference(0, x)) as usize
+    x.unsigned_abs() as usize
 }
 
+#[tactic(auto, unfolding(crate::specs::Integers::half))]
 pub fn half(x: i64) -> i64
     ensures { result ≡ half x }
 {
@@ -103,6 +104,5 @@ pub fn is_even(x: i64) -> bool
     requires { Within (2 ^ 61) x }
     ensures { result ≡ even x }
 {
-    let h = half(x);
-    is_equal(sum(h, h), x)
+    x % 2 == 0
 }

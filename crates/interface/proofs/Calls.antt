@@ -1,5 +1,5 @@
 -- Examples of the calls on a pair list, by computing: the numbers call's slots, the refusals of each call, scores looked up.
-use mathlib.Core.Path.{◌≡◌, refl, ap₂, ◌∙◌}
+use mathlib.Core.Path.{◌≡◌, refl, ap, ap₂, ◌∙◌}
 use mathlib.Core.Bool.{xor}
 use mathlib.Core.List.{List, [], ◌∷◌}
 use Prim.Native.Nat.{ℕ}
@@ -18,9 +18,10 @@ use Rattle.clusters.specs.Fillings.{low, high, worst, filled_index}
 use Rattle.clusters.specs.Farris.{unfarris, distances_back, is_anchored}
 use Rattle.clusters.specs.Groups.{kind_of, index, proper, speaks_of, listed, sets, groups, positive, sets_by, groups_by}
 use Rattle.clusters.specs.Bench.{own}
-use Rattle.answers.specs.declared.Answer.{Answer}
-use Rattle.answers.specs.declared.Answer.TheVariants.{Count, Refused}
-use Rattle.answers.specs.Answers.{answer, filled}
+use Rattle.std.specs.Prelude.{Ok, Err}
+use Rattle.answers.specs.declared.Refusal.TheVariants.{WrongKind}
+use Rattle.answers.specs.Answers.{Answer, filled}
+use Rattle.answers.proofs.Answers.{refused_with}
 use Rattle.interface.specs.Listing.{groups_found}
 use Rattle.interface.specs.Refusals.{
   first_of,
@@ -160,23 +161,23 @@ examples = record {
 -- the numbers call, given 7 and 6 slots, counts 3, puts the three singles, and "fills all further slots with 0"
 pub numbers_example : (lent_sets sets : List ℕ) (lent_indices indices : List ℤ) (r : Answer) → length lent_sets ≡ 7 → length lent_indices ≡ 6
     → NumbersCall (pos 1) 3 own lent_sets lent_indices r sets indices
-    → (r ≡ Count 3)
+    → (r ≡ Ok 3)
     × (sets ≡ 1 ∷ 2 ∷ 4 ∷ 0 ∷ 0 ∷ 0 ∷ 0 ∷ [])
     × (indices ≡ pos 1 ∷ pos 1 ∷ pos 1 ∷ pos 0 ∷ pos 0 ∷ pos 0 ∷ [])
-unfolding answer filled
+unfolding filled
 numbers_example lent_sets sets lent_indices indices r seven six c =
     let none : numbers_refusal (pos 1) 3 own (length lent_sets) (length lent_indices) ≡ 0 =
     ap₂ (numbers_refusal (pos 1) 3 own) seven six ∙ examples.passes in (
-      c.answered ∙ ap₂ answer none examples.many,
+      c.answered.is_found none ∙ ap Ok examples.many,
       c.sets_written ∙ rw (none, examples.these, seven),
       c.indices_written ∙ rw (none, examples.their, six),
     )
 
 -- refused, it writes nothing
 pub numbers_refused : (lent_sets sets : List ℕ) (lent_indices indices : List ℤ) (r : Answer)
-    → NumbersCall (pos 0) 3 own lent_sets lent_indices r sets indices → (r ≡ Refused 1) × (sets ≡ lent_sets) × (indices ≡ lent_indices)
-unfolding numbers_refusal numbers_checks first_of wrong_kind eq_z answer filled
-numbers_refused lent_sets sets lent_indices indices r c = (c.answered, c.sets_written, c.indices_written)
+    → NumbersCall (pos 0) 3 own lent_sets lent_indices r sets indices → (r ≡ Err WrongKind) × (sets ≡ lent_sets) × (indices ≡ lent_indices)
+unfolding numbers_refusal numbers_checks first_of wrong_kind eq_z filled
+numbers_refused lent_sets sets lent_indices indices r c = (refused_with WrongKind c.answered.number, c.sets_written, c.indices_written)
 
 -- a score looked up in C: put in the slot, or nothing is written; a score below 0 is no refusal, nor is the mark
 pub score_example : (lent r after : ℤ) → ScoreInC 2 (pos 0 ∷ negsuc 4 ∷ pos 0 ∷ []) 0 1 lent r after → (r ≡ pos 0) × (after ≡ negsuc 4)

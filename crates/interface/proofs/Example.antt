@@ -17,10 +17,9 @@ use Rattle.clusters.specs.PairList.{row_start, place, score, pair_list, one_poin
 use Rattle.clusters.specs.Indices.{strong_values, strong_index}
 use Rattle.clusters.specs.Fillings.{low, high, worst, filled_index}
 use Rattle.clusters.specs.Groups.{kind_of, index, proper, speaks_of, positive, listed, sets, sets_by, groups_by, groups}
-use Rattle.answers.specs.declared.Answer.{Answer}
-use Rattle.answers.specs.declared.Answer.TheVariants.{Count}
-use Rattle.answers.specs.Answers.{answer, slots}
-use Rattle.answers.proofs.Answers.{its_number, slots_refused, slots_written}
+use Rattle.std.specs.Prelude.{Ok}
+use Rattle.answers.specs.Answers.{Answer, slots}
+use Rattle.answers.proofs.Answers.{slots_refused, slots_written}
 use Rattle.interface.specs.Sheet.{
   is_upper,
   is_digit,
@@ -314,12 +313,11 @@ computed = record {
 -- the C call on a sheet whose listing is this text of k bytes, with a buffer of as many
 listed_as : (s t : List ℕ) (k : ℕ) → sheet_listing (pos 1) s ≡ t → sheet_refusal (pos 1) s k ≡ 0 → length t ≡ k
     → (lent after : List ℕ) (r : ℤ) → length lent ≡ k → CCall (pos 1) s lent r after → (r ≡ pos k) × (after ≡ t)
-unfolding c_number answer
+unfolding c_number
 listed_as s t k written passes size lent after r long c =
     let none : sheet_refusal (pos 1) s (length lent) ≡ 0 = ap (sheet_refusal (pos 1) s) long ∙ passes in
     let all : length lent ≤ length t = omega (arith, size) in (
-      c.number ∙ ap c_number c.outcome.answered
-          ∙ ap₂ (λ (k : ℕ) (t : List ℕ). c_number (answer k (length t))) none written ∙ ap pos size,
+      c.number ∙ ap c_number (c.outcome.answered.is_found none) ∙ ap (λ (t : List ℕ). pos (length t)) written ∙ ap pos size,
       c.outcome.written ∙ ap₂ (λ (k : ℕ) (t : List ℕ). slots k t lent) none written ∙ slots_written t lent
           ∙ ap (λ (l : List ℕ). t ++ l) (drop_of_length-le lent all) ∙ append-nil t,
     )
@@ -350,7 +348,7 @@ refused_with c m lent after r long call =
     let k = sheet_refusal c.kind c.sheet (length lent) in
     let first : k ≡ c.number = ap (sheet_refusal c.kind c.sheet) long ∙ given in
     let text = sheet_listing c.kind c.sheet in (
-      call.number ∙ (refused_number call.given c.number more).1 (its_number k (length text) call.outcome.answered ∙ first),
+      call.number ∙ (refused_number call.given c.number more).1 (call.outcome.answered.number ∙ first),
       call.outcome.written ∙ slots_refused k text lent (omega arith),
     )
 
@@ -363,10 +361,9 @@ signed_pairs = computed.signed_is
 
 -- and so by the reader, which touches no further slot
 pub reader_example : (lent after : List ℤ) (r : Answer) → ReaderCall signed lent r after
-    → (r ≡ Count 2) × (after ≡ (pos 0 ∷ negsuc 9 ∷ pos 0 ∷ []) ++ drop 3 lent)
-unfolding answer
+    → (r ≡ Ok 2) × (after ≡ (pos 0 ∷ negsuc 9 ∷ pos 0 ∷ []) ++ drop 3 lent)
 reader_example lent after r c = (
-  c.answered ∙ ap₂ answer computed.signed_passes computed.signed_two,
+  c.answered.is_found computed.signed_passes ∙ ap Ok computed.signed_two,
   c.written ∙ ap₂ (λ (k : ℕ) (l : List ℤ). slots k l lent) computed.signed_passes computed.signed_is
       ∙ slots_written (pos 0 ∷ negsuc 9 ∷ pos 0 ∷ []) lent,
 )

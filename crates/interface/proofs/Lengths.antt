@@ -11,7 +11,7 @@ use Rattle.lists.proofs.Lists.{each_map}
 use Rattle.sets.specs.Sets.{size}
 use Rattle.sets.proofs.Sets.{size_le}
 use Rattle.clusters.specs.PairList.{one_point}
-use Rattle.clusters.specs.Groups.{Group}
+use Rattle.clusters.specs.declared.Group.{Group}
 use Rattle.interface.specs.Sheet.{line_feed}
 use Rattle.interface.specs.Listing.{line_of, hexadecimal, decimal, points_text, signed_points, first_text, line_text, first_line, listing}
 use Rattle.interface.proofs.Digits.{length_digits, length_decimal}

@@ -12,6 +12,9 @@ use lib.ListN.{length}
 use Rattle.lists.specs.Lists.{all}
 use Rattle.lists.proofs.Tests.{and_T, cond_elim, eqb_no, or_none}
 use Rattle.clusters.specs.PairList.{row_start, has_length}
+use Rattle.answers.specs.declared.Refusal.{Refusal}
+use Rattle.answers.specs.Answers.{number}
+use Rattle.answers.proofs.Answers.{number_above}
 use Rattle.interface.specs.Refusals.{Check, first_of, none, most_entries, wrong_count, wrong_anchor, wrong_entries}
 
 -- down the table l, which gives r
@@ -126,6 +129,14 @@ module _ (l m : List (ℕ × Bool)) {k : ℕ} (t : T (numbered l)) (e : k ≡ fi
 
   pub first_back : {r : ℕ} → k ≡ 0 → Gives m r → Gives (l ++ m) r
   first_back z g = record { is = g.is ∙ sym (first_append l m t ∙ rw (sym e, eq-eqb k 0 z)) }
+
+-- the same of a refusal that the checks of the first table gave, and of none
+module _ (l m : List (ℕ × Bool)) (t : T (numbered l)) where
+  pub refused_front : (e : Refusal) → number e ≡ first_of l → number e ≡ first_of (l ++ m)
+  refused_front e h = gives (first_front l m t h (λ z. let a = number_above e in omega (arith, a, z)))
+
+  pub passed_back : {r : ℕ} → 0 ≡ first_of l → Gives m r → r ≡ first_of (l ++ m)
+  passed_back h g = gives (first_back l m t h refl g)
 
 -- a number that does not stand in a table is not given
 abbrev pub apart : ℕ → List Check → Bool

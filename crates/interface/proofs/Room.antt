@@ -14,7 +14,8 @@ use Rattle.integers.specs.Range.{Within, Bounded}
 use Rattle.integers.proofs.Linear.{up, dn}
 use Rattle.integers.proofs.Range.{within_grow, up_le}
 use Rattle.clusters.specs.PairList.{score, one_point, point_limit, score_limit, has_unscored}
-use Rattle.clusters.specs.Groups.{Kind, Group, strong, clean, splits, kind_of, index, groups}
+use Rattle.clusters.specs.Groups.{Kind, strong, clean, splits, kind_of, index, groups}
+use Rattle.clusters.specs.declared.Group.{Group}
 use Rattle.clusters.proofs.PairList.{score_symm}
 use Rattle.clusters.proofs.Scored.{range_limit, scored_in_range}
 use Rattle.clusters.proofs.Bounds.{strong_within, clean_within, separation_within}

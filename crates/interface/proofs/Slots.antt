@@ -8,7 +8,8 @@ use lib.ListN.{length, length-map, get_or, get_or-append, get_or-map}
 use lib.Seq.{ext_get_or}
 use Rattle.lists.specs.Lists.{below}
 use Rattle.lists.proofs.Lists.{count_below, get_d_below}
-use Rattle.clusters.specs.Groups.{Group, sets_of, indices_of}
+use Rattle.clusters.specs.Groups.{sets_of, indices_of}
+use Rattle.clusters.specs.declared.Group.{Group}
 use Rattle.interface.specs.Calls.{groups_in}
 
 pub length_groups_in : (count : ℕ) (sets : List ℕ) (indices : List ℤ) → length (groups_in count sets indices) ≡ count

@@ -1,26 +1,23 @@
 -- What each call answers and writes (document 01): its whole outcome, which is the function's contract. What was lent
 -- to a call held `lent` before it and holds `after` now.
-use Rattle.std.specs.Prelude.{◌≡◌, Bool, cond, ◌&&◌, List, [], ◌∷◌, map, ℕ, zero, suc, ◌+◌, ◌-◌, ℤ, pos, neg_ℤ, eqb}
-use Rattle.std.specs.Prelude.{leb, ltb, length, get_or, take, drop}
+use Rattle.std.specs.Prelude.{◌≡◌, Ok, Err, Bool, cond, ◌&&◌, List, [], ◌∷◌, map, ℕ, zero, suc, ◌+◌, ◌-◌, ℤ, pos, neg_ℤ}
+use Rattle.std.specs.Prelude.{eqb, leb, ltb, length, get_or, take, drop}
 use Rattle.lists.specs.Lists.{below}
 use Rattle.pairs.specs.declared.Carried.TheVariants.{Scored}
 use Rattle.pairs.specs.declared.Pair.{Pair}
 use Rattle.pairs.specs.Pairs.{list_number, pair_of}
 use Rattle.clusters.specs.PairList.{Similarity, row_start, score, has_length}
-use Rattle.clusters.specs.Groups.{Group, sets_of, indices_of}
+use Rattle.clusters.specs.Groups.{sets_of, indices_of}
+use Rattle.clusters.specs.declared.Group.{Group}
 use Rattle.clusters.specs.Farris.{anchored_scores, distances_back}
 use Rattle.clusters.specs.Linkage.{Linkage, Tree, merged_blocks}
-use Rattle.clusters.specs.Nesting.{Hit, smallest_shared}
+use Rattle.clusters.specs.Nesting.{smallest_shared}
+use Rattle.clusters.specs.declared.Hit.{Hit}
 use Rattle.clusters.specs.Refined.{refined_weight}
-use Rattle.answers.specs.declared.Answer.{Answer}
-use Rattle.answers.specs.declared.Answer.TheVariants.{Count, Refused}
-use Rattle.answers.specs.Answers.{answer, slots, filled}
-use Rattle.answers.specs.declared.Shared.{Shared}
-use Rattle.answers.specs.Shared.{shared_number, shared_set, shared_line, shared_answer}
-use Rattle.answers.specs.declared.Refined.{Refined}
-use Rattle.answers.specs.Refined.{refined_number, answered_weight, refined_answer}
-use Rattle.answers.specs.declared.ValueRead.{ValueRead}
-use Rattle.answers.specs.Values.{read_number, read_pair, read_place}
+use Rattle.answers.specs.Answers.{number, number_of, Answer, Answered, slots, filled}
+use Rattle.answers.specs.Shared.{Shared, shared_set}
+use Rattle.answers.specs.Refined.{Refined, answered_weight}
+use Rattle.answers.specs.Values.{ValueRead, read_pair, read_place}
 use Rattle.interface.specs.Sheet.{space, cut, names, entries, is_cell, pair_said, pairs}
 use Rattle.interface.specs.Listing.{groups_found, sheet_listing}
 use Rattle.interface.specs.Pool.{pool_text}
@@ -40,13 +37,13 @@ use Rattle.interface.specs.Refusals.{
 
 -- The sheet call: the listing's length, and the listing in the first bytes.
 pub record SheetCall (kind : ℤ) (sheet lent : List ℕ) (r : Answer) (after : List ℕ) : Type 0 where
-  pub answered : r ≡ answer (sheet_refusal kind sheet (length lent)) (length (sheet_listing kind sheet))
+  pub answered : Answered (sheet_refusal kind sheet (length lent)) (length (sheet_listing kind sheet)) r
   pub written : after ≡ slots (sheet_refusal kind sheet (length lent)) (sheet_listing kind sheet) lent
 
 -- "The C call answers the listing's length in bytes, or minus the refusal number": for each case of an answer
 unfoldable pub c_number : Answer → ℤ
-c_number (Count length) = pos length
-c_number (Refused number) = neg_ℤ (pos number)
+c_number (Ok length) = pos length
+c_number (Err refusal) = neg_ℤ (pos (number refusal))
 
 -- a call in C: the number of an answer of which the call's outcome holds
 pub record InC (Outcome : Answer → Type 0) (r : ℤ) : Type 0 where
@@ -68,7 +65,7 @@ indices_found kind n l = indices_of (groups_found kind n l)
 pub record NumbersCall (kind : ℤ) (n : ℕ) (l : List ℤ) (lent_sets : List ℕ) (lent_indices : List ℤ) (r : Answer)
     (sets : List ℕ) (indices : List ℤ) : Type 0 where
   pub answered :
-      r ≡ answer (numbers_refusal kind n l (length lent_sets) (length lent_indices)) (length (groups_found kind n l))
+      Answered (numbers_refusal kind n l (length lent_sets) (length lent_indices)) (length (groups_found kind n l)) r
   pub sets_written : sets
       ≡ filled 0 (numbers_refusal kind n l (length lent_sets) (length lent_indices)) (sets_found kind n l) lent_sets
   pub indices_written :
@@ -84,23 +81,23 @@ groups_in n sets indices = map (λ k. record { set = get_or sets k 0; index = ge
 -- wrote; slots beyond are not touched".
 pub record LinkageCall (linkage : Linkage) (n : ℕ) (l : List ℤ) (lent : List ℕ) (r : Answer) (after : List ℕ)
     : Type 0 where
-  pub answered : r ≡ answer (linkage_refusal n l (length lent)) (n - 1)
+  pub answered : Answered (linkage_refusal n l (length lent)) (n - 1) r
   pub merges : List (ℕ × ℕ)
   pub tree : linkage_refusal n l (length lent) ≡ 0 → Tree linkage n (score l) merges
   pub written : after ≡ slots (linkage_refusal n l (length lent)) (merged_blocks merges) lent
 
 -- "the anchored call and the way back write a list in the order of the pair list"
 pub record AnchoredCall (n x : ℕ) (l lent : List ℤ) (r : Answer) (after : List ℤ) : Type 0 where
-  pub answered : r ≡ answer (anchored_refusal n x l (length lent)) (row_start n)
+  pub answered : Answered (anchored_refusal n x l (length lent)) (row_start n) r
   pub written : after ≡ slots (anchored_refusal n x l (length lent)) (anchored_scores n x l) lent
 
 pub record BackCall (n x : ℕ) (l lent : List ℤ) (r : Answer) (after : List ℤ) : Type 0 where
-  pub answered : r ≡ answer (back_refusal n x l (length lent)) (row_start n)
+  pub answered : Answered (back_refusal n x l (length lent)) (row_start n) r
   pub written : after ≡ slots (back_refusal n x l (length lent)) (distances_back n l) lent
 
 -- The reader: the number of entries, and the pair list in the first slots.
 pub record ReaderCall (sheet : List ℕ) (lent : List ℤ) (r : Answer) (after : List ℤ) : Type 0 where
-  pub answered : r ≡ answer (reader_refusal sheet) (entries sheet)
+  pub answered : Answered (reader_refusal sheet) (entries sheet) r
   pub written : after ≡ slots (reader_refusal sheet) (pairs sheet) lent
 
 -- "The name of an entry is handed back as its own part of the sheet; the answer is the empty part if checks 2 to 9
@@ -159,33 +156,35 @@ unfoldable pub shared_found : ℤ → ℕ → List ℤ → (i j : ℕ) → Hit
 shared_found kind n l i j = smallest_shared n i j (sets_found kind n l)
 
 pub record SharedCall (kind : ℤ) (n : ℕ) (l : List ℤ) (i j : ℕ) (r : Shared) : Type 0 where
-  pub answered :
-      r
-      ≡ shared_answer (shared_refusal kind n l i j) (shared_found kind n l i j).set (shared_found kind n l i j).line
+  pub answered : Answered (shared_refusal kind n l i j) (shared_found kind n l i j) r
 
 -- in C: the line is answered as a count is, a refusal as minus its number; the set goes to a slot, on refusal too
+unfoldable pub line_answer : Shared → Answer
+line_answer (Ok found) = Ok found.line
+line_answer (Err refusal) = Err refusal
+
 pub record SharedInC (kind : ℤ) (n : ℕ) (l : List ℤ) (i j : ℕ) (r : ℤ) (set : ℕ) : Type 0 where
   pub given : Shared
   pub outcome : SharedCall kind n l i j given
-  pub answered : r ≡ c_number (answer (shared_number given) (shared_line given))
+  pub answered : r ≡ c_number (line_answer given)
   pub written : set ≡ shared_set given
 
 -- The pool of two sheets (document 02, 2.4), which "is written as a sheet": its length, and the pool in the first
 -- bytes.
 pub record PoolCall (first second lent : List ℕ) (r : Answer) (after : List ℕ) : Type 0 where
-  pub answered : r ≡ answer (pool_refusal first second (length lent)) (length (pool_text first second))
+  pub answered : Answered (pool_refusal first second (length lent)) (length (pool_text first second)) r
   pub written : after ≡ slots (pool_refusal first second (length lent)) (pool_text first second) lent
 
 -- The refined weight of a split (document 02, 2.5), of which "one side as a set" is handed in.
 pub record RefinedCall (n : ℕ) (l : List ℤ) (A : ℕ) (r : Refined) : Type 0 where
-  pub answered : r ≡ refined_answer (refined_refusal n l A) (refined_weight n (score l) A)
+  pub answered : Answered (refined_refusal n l A) (refined_weight n (score l) A) r
 
 -- in C, since a weight may be negative: the refusal's number is answered, 0 for none, and the weight goes to a slot, on
 -- refusal too
 pub record RefinedInC (n : ℕ) (l : List ℤ) (A : ℕ) (r weight : ℤ) : Type 0 where
   pub given : Refined
   pub outcome : RefinedCall n l A given
-  pub answered : r ≡ pos (refined_number given)
+  pub answered : r ≡ pos (number_of given)
   pub written : weight ≡ answered_weight given
 
 -- The value reader: "a value is read with the place after it, or the line is refused". What is read is the piece of the
@@ -194,7 +193,7 @@ unfoldable pub piece_at : ℕ → List ℕ → ℕ → List ℕ
 piece_at c s at = get_or (cut c (drop at s)) 0 []
 
 pub record ValueCall (line : List ℕ) (at : ℕ) (r : ValueRead) : Type 0 where
-  pub number : read_number r ≡ cond (is_cell (piece_at space line at)) 0 8
+  pub number : number_of r ≡ cond (is_cell (piece_at space line at)) 0 8
   pub pair : read_pair r ≡ cond (is_cell (piece_at space line at)) (pair_said (piece_at space line at))
       (record { carries = Scored (pos 0) })
   pub place : read_place r ≡ cond (is_cell (piece_at space line at)) (at + length (piece_at space line at)) 0

@@ -5,7 +5,8 @@ use Rattle.std.proofs.Math.Option.{Option, none, some}
 use Rattle.lists.specs.Lists.{each, all}
 use Rattle.sets.specs.Sets.{size}
 use Rattle.clusters.specs.PairList.{one_point, score}
-use Rattle.clusters.specs.Groups.{Group, kind_of, groups}
+use Rattle.clusters.specs.Groups.{kind_of, groups}
+use Rattle.clusters.specs.declared.Group.{Group}
 use Rattle.interface.specs.Sheet.{line_feed, space, minus, is_digit, number_from, cut}
 use Rattle.interface.specs.Sheet.{whole_part, half_text, is_whole_or_half, half_points}
 use Rattle.interface.specs.Sheet.{lines, entries, pairs, same_bytes}

@@ -69,9 +69,6 @@ check1_groups kind = (1, wrong_group_kind kind)
 unfoldable pub wrong_length : List ℕ → Bool
 wrong_length s = eqb (length s) 0 || ltb most_bytes (length s)
 
-abbrev pub check2 : List ℕ → Check
-check2 s = (2, wrong_length s)
-
 -- whole sheet | 3 | "a byte that is not A to Z, 0 to 9, minus, space or line feed"; "the point joins the bytes that
 -- check 3 allows" (document 02, 2.6)
 unfoldable pub is_allowed : ℕ → Bool
@@ -80,22 +77,13 @@ is_allowed b = is_upper b || is_digit b || eqb b minus || eqb b point || eqb b s
 unfoldable pub wrong_byte : List ℕ → Bool
 wrong_byte s = not (all is_allowed s)
 
-abbrev pub check3 : List ℕ → Check
-check3 s = (3, wrong_byte s)
-
 -- line 1 | 4 | "no line feed, or not one or more names as above"
 unfoldable pub wrong_names : List ℕ → Bool
 wrong_names s = eqb (length (lines s)) 1 || not (all is_name (names s))
 
-abbrev pub check4 : List ℕ → Check
-check4 s = (4, wrong_names s)
-
 -- line 1 | 5 | "two equal names"
 unfoldable pub equal_names : List ℕ → Bool
 equal_names s = has_equal (names s)
-
-abbrev pub check5 : List ℕ → Check
-check5 s = (5, equal_names s)
 
 -- entries | 6 | "n is 0 or over 32"
 unfoldable pub wrong_count : ℕ → Bool
@@ -111,22 +99,12 @@ wrong_lines s =
     not (eqb (length (lines s)) (entries s + 2))
     || not (eqb (length (get_or (lines s) (entries s + 1) [])) 0)
 
-abbrev pub check7 : List ℕ → Check
-check7 s = (7, wrong_lines s)
-
 -- value lines | 8 | "a line without exactly n well-formed values and single spaces between"
 unfoldable pub is_row : ℕ → List (List ℕ) → Bool
 is_row n ws = eqb (length ws) n && all is_cell ws
 
 unfoldable pub wrong_values : List ℕ → Bool
 wrong_values s = not (all (λ i. is_row (entries s) (words s i)) (below (entries s)))
-
-abbrev pub check8 : List ℕ → Check
-check8 s = (8, wrong_values s)
-
--- value lines | 9 | "two mirrored values differ"
-abbrev pub check9 : List ℕ → Check
-check9 s = (9, not (mirrored (entries s) (value s)))
 
 -- pair list | 10 | "length is not n(n+1)/2"
 abbrev pub check10 : ℕ → List ℤ → Check
@@ -205,17 +183,17 @@ abbrev pub check19 : ℕ → (side : ℕ) → Check
 check19 n A = (19, wrong_side n A)
 
 -- Which call makes which: parts that several calls make, and each call's list, in which 16 stands "right after 11".
--- of a sheet: "if checks 2 to 9 refuse the sheet" (The sheet), and with 11
+-- of a sheet: "if checks 2 to 9 refuse the sheet" (The sheet), and with 11; 9 is "two mirrored values differ"
 unfoldable pub reader_checks : List ℕ → List Check
 reader_checks s =
-    check2 s
-    ∷ check3 s
-    ∷ check4 s
-    ∷ check5 s
+    (2, wrong_length s)
+    ∷ (3, wrong_byte s)
+    ∷ (4, wrong_names s)
+    ∷ (5, equal_names s)
     ∷ check6 (entries s)
-    ∷ check7 s
-    ∷ check8 s
-    ∷ check9 s
+    ∷ (7, wrong_lines s)
+    ∷ (8, wrong_values s)
+    ∷ (9, not (mirrored (entries s) (value s)))
     ∷ []
 
 unfoldable pub sheet_checks : List ℕ → List Check

@@ -1,5 +1,5 @@
--- The number of a kind as the code reads it, the sizes that a kind speaks of, and what the code for the indices asks.
-use mathlib.Core.Path.{◌≡◌, sym, ◌∙◌, subst}
+-- The sizes that a kind speaks of, and what the code for the indices asks.
+use mathlib.Core.Path.{◌≡◌, subst}
 use mathlib.Core.Bool.{Bool, true, false, not, cond, ◌&&◌}
 use mathlib.Core.List.{List}
 use Prim.Native.Nat.{ℕ, ◌^◌, ◌≤◌, ◌<◌}
@@ -7,9 +7,6 @@ use native.Mathlib.Omega.{arith}
 use borrow.Author.Tests.{lt-leb, le-leb}
 use lib.Dec.{T, leb, ltb, lit≤}
 use lib.IntN.{ℤ, pos}
-use mir.Facts.{to_z-of_z}
-use mir.Syntax.{w32}
-use mir.Val.{SFits, of_z, to_z}
 use Rattle.lists.proofs.Tests.{false_T}
 use Rattle.integers.specs.Integers.{eq_z}
 use Rattle.integers.proofs.Range.{within_grow}
@@ -27,13 +24,6 @@ use Rattle.matrix.specs.Checks.{Checked}
 use Rattle.matrix.specs.Rows.{Scores}
 use Rattle.indices.specs.Asked.{Proper, SmallRow}
 use Rattle.kinds.specs.Kinds.{Scored, Accepted}
-
--- what a test said of the kind as passed
-pub told : {r t : Bool} {kind : ℤ} (test : ℤ → Bool) → SFits w32 kind → r ≡ test (to_z w32 (of_z w32 kind)) → r ≡ t → test kind ≡ t
-told test f e p = sym (rw (to_z-of_z f) at e) ∙ p
-
-pub told_number : {r t : Bool} {kind : ℤ} (number : ℤ) → SFits w32 kind → r ≡ eq_z (to_z w32 (of_z w32 kind)) number → r ≡ t → eq_z kind number ≡ t
-told_number number = told (λ k. eq_z k number)
 
 module _ {least n A m : ℕ} (most : n ≤ 32) (low : A < 2 ^ n) (e : m ≡ size 32 A) where
   pub too_small : m < least → false ≡ leb least (size n A) && proper n A

@@ -1,17 +1,37 @@
 -- The code's own vocabulary, which nobody need believe: kinds as the code holds them, and what the checks leave to
 -- each.
-use Rattle.std.specs.Prelude.{not, List, ℕ, T, ℤ}
+use Rattle.std.specs.Prelude.{◌≡◌, true, false, not, List, ℕ, T, ℤ, pos, Result, MatchResult}
 use Rattle.clusters.specs.PairList.{has_unscored}
 use Rattle.clusters.specs.Groups.{strong, clean, splits}
 use Rattle.clusters.specs.Groups as Groups
+use Rattle.interface.specs.Refusals.{wrong_kind, wrong_group_kind}
 use Rattle.matrix.specs.Checks.{Checked}
 use Rattle.kinds.specs.declared.Kind.{Kind}
 use Rattle.kinds.specs.declared.Kind.TheVariants.{Strong, Clean, Splits}
+use Rattle.answers.specs.declared.Refusal.{Refusal}
+use Rattle.answers.specs.declared.Refusal.TheVariants.{WrongKind}
 
 unfoldable pub kind_for : Kind → Groups.Kind
 kind_for Strong = strong
 kind_for Clean = clean
 kind_for Splits = splits
+
+-- the number of a kind, as the calls take it
+abbrev pub number_for : Kind → ℤ
+number_for Strong = pos 1
+number_for Clean = pos 2
+number_for Splits = pos 3
+
+-- the kind of this number, or check 1 refuses the number
+abbrev pub KindRead : ℤ → Result Kind Refusal → Type 0
+KindRead number r =
+    MatchResult r (λ kind. number_for kind ≡ number) (λ e. (e ≡ WrongKind) × (wrong_kind number ≡ true))
+
+-- the same in a call that only kinds of groups are for
+abbrev pub GroupKindRead : ℤ → Result Kind Refusal → Type 0
+GroupKindRead number r =
+    MatchResult r (λ kind. (number_for kind ≡ number) × (wrong_group_kind number ≡ false))
+    (λ e. (e ≡ WrongKind) × (wrong_group_kind number ≡ true))
 
 -- what 16 leaves: only strong groups are found among unscored pairs
 abbrev pub Scored : Groups.Kind → List ℤ → Type 0

@@ -1,6 +1,6 @@
 -- Links: of single entries, of a union of two blocks, and their size.
 use mathlib.Core.Path.{◌≡◌, refl, sym, ap, ap₂, ◌∙◌, subst}
-use mathlib.Core.Bool.{Bool, true, false, cond}
+use mathlib.Core.Bool.{cond}
 use mathlib.Core.Logic.{◌⊎◌, inl, inr}
 use mathlib.Core.List.Memᴰ
 use mathlib.Core.List.{List, [], ◌∷◌}
@@ -25,6 +25,8 @@ use Rattle.sets.proofs.Sets.{has_yes, yes_has, no_has, in_or_out, clash, ∪_lef
 use Rattle.clusters.specs.PairList.{Similarity}
 use Rattle.clusters.specs.Linkage.{between, link}
 use Rattle.clusters.proofs.Links.{in_between, of_between, sum_between}
+use Rattle.links.specs.declared.Method.{Method}
+use Rattle.links.specs.declared.Method.TheVariants.{Single, Average}
 use Rattle.links.specs.Table.{joined}
 use Rattle.linkage.specs.Blocks.{linkage_of}
 
@@ -48,10 +50,10 @@ sum_single n a h f =
     ∙ sum_one n a h f
 
 -- the link of two single entries is their score
-pub link_single : (avg : Bool) (n : ℕ) (s : Similarity) (a b : ℕ) → a < n → b < n → (link (linkage_of avg) n s (2 ^ a) (2 ^ b)).num ≡ s a b
+pub link_single : (method : Method) (n : ℕ) (s : Similarity) (a b : ℕ) → a < n → b < n → (link (linkage_of method) n s (2 ^ a) (2 ^ b)).num ≡ s a b
 unfolding link linkage_of
-link_single true n s a b ha hb = sum_between n s (2 ^ a) (2 ^ b) ∙ sum_single n a ha (λ u. sum_of (members n (2 ^ b)) (s u)) ∙ sum_single n b hb (s a)
-link_single false n s a b ha hb =
+link_single Average n s a b ha hb = sum_between n s (2 ^ a) (2 ^ b) ∙ sum_single n a ha (λ u. sum_of (members n (2 ^ b)) (s u)) ∙ sum_single n b hb (s a)
+link_single Single n s a b ha hb =
     let (u, w, _, _, ku, kw, e) = of_between n s (2 ^ a) (2 ^ b)
     (greatest_of (between n s (2 ^ a) (2 ^ b)) (in_between n s (2 ^ a) (2 ^ b) ha hb (one_in a) (one_in b))) in
     e ∙ ap₂ s (one_only a ku) (one_only b kw)
@@ -120,12 +122,12 @@ greatest_union n s A B W (a, ha, ka) (b, hb, kb) (w, hw, kw) =
     low u v hu hv kv e (inr k) = omega (zarith, e, greatest_ge (between n s B W) (in_between n s B W hu hv k kv), max_right G H)
 
 -- the link of a union of two blocks that share no entry
-pub link_union : (avg : Bool) (n : ℕ) (s : Similarity) (A B W : ℕ) → ((i : ℕ) → i < n → A ∋ i → B ∌ i) → Some n A → Some n B → Some n W
-    → (link (linkage_of avg) n s (A ∪ B) W).num ≡ joined avg (link (linkage_of avg) n s A W).num (link (linkage_of avg) n s B W).num
+pub link_union : (method : Method) (n : ℕ) (s : Similarity) (A B W : ℕ) → ((i : ℕ) → i < n → A ∋ i → B ∌ i) → Some n A → Some n B → Some n W
+    → (link (linkage_of method) n s (A ∪ B) W).num ≡ joined method (link (linkage_of method) n s A W).num (link (linkage_of method) n s B W).num
 unfolding link linkage_of joined
-link_union true n s A B W apart _ _ _ =
+link_union Average n s A B W apart _ _ _ =
     sum_between n s (A ∪ B) W ∙ sum_union n A B apart (λ u. sum_of (members n W) (s u)) ∙ sym (ap₂ ◌+ℤ◌ (sum_between n s A W) (sum_between n s B W))
-link_union false n s A B W apart a b w = greatest_union n s A B W a b w
+link_union Single n s A B W apart a b w = greatest_union n s A B W a b w
 
 -- a sum of bounded numbers
 within_sum_of : {k : ℕ} (l : List ℕ) (f : ℕ → ℤ) → ((x : ℕ) → x ∈ l → Within k (f x)) → Within (length l * k) (sum_of l f)
@@ -134,16 +136,16 @@ within_sum_of [] f h = within (omega arith) (omega arith)
 within_sum_of (x ∷ l) f h = within_grow (omega arith) (within_sum (h x (Memᴰ.head refl)) (within_sum_of l f (λ y m. h y (Memᴰ.tail m))))
 
 -- with scores of up to 2 ^ 31, the numerators of the links of 32 entries stay far below what 64 bits hold
-pub link_within : (avg : Bool) (n : ℕ) (s : Similarity) (U W : ℕ) → n ≤ 32 → ((a b : ℕ) → a < n → b < n → Within (2 ^ 31) (s a b)) → Some n U → Some n W
-    → Within (2 ^ 42) (link (linkage_of avg) n s U W).num
+pub link_within : (method : Method) (n : ℕ) (s : Similarity) (U W : ℕ) → n ≤ 32 → ((a b : ℕ) → a < n → b < n → Within (2 ^ 31) (s a b)) → Some n U → Some n W
+    → Within (2 ^ 42) (link (linkage_of method) n s U W).num
 unfolding link linkage_of size
-link_within true n s U W h k _ _ =
+link_within Average n s U W h k _ _ =
     let hu : size n U ≤ 32 = omega (arith, size_le n U) in
     let hw : size n W ≤ 32 = omega (arith, size_le n W) in
     let one : 2 ^ 31 ≤ 2 ^ 31 = lit≤ tt in
     rw sum_between (within_grow (omega (arith, mul-le-mul hu (mul-le-mul hw one)))
     (within_sum_of (members n U) (λ u. sum_of (members n W) (s u))
     (λ u m. within_sum_of (members n W) (s u) (λ w l. k u w (of_members n U m).0 (of_members n W l).0))))
-link_within false n s U W h k (u, hu, ku) (w, hw, kw) =
+link_within Single n s U W h k (u, hu, ku) (w, hw, kw) =
     let (a, b, ha, hb, _, _, e) = of_between n s U W (greatest_of (between n s U W) (in_between n s U W hu hw ku kw)) in
     rw e (within_grow (lit≤ tt) (k a b ha hb))

@@ -1,13 +1,16 @@
 -- The code's own vocabulary, which nobody need believe: what the functions below the linkage calls compute.
-use Rattle.std.specs.Prelude.{◌≡◌, Bool, cond, List, ◌++◌, ℕ, ◌-◌, ◌^◌, ◌≤◌, ℤ, length, drop}
+use Rattle.std.specs.Prelude.{◌≡◌, List, ◌++◌, ℕ, ◌-◌, ◌^◌, ◌≤◌, ℤ, length, drop}
 use Rattle.integers.specs.Range.{Bounded}
 use Rattle.sets.specs.Sets.{size}
 use Rattle.clusters.specs.PairList.{row_start, score}
 use Rattle.clusters.specs.Linkage.{Linkage, Tree, merged_blocks}
+use Rattle.links.specs.declared.Method.{Method}
+use Rattle.links.specs.declared.Method.TheVariants.{Single, Average}
 
 -- the weight of a block, its share in the denominators of its links: "divided by the product of the sizes (average)"
-unfoldable pub weight : Bool → ℕ → ℕ
-weight average A = cond average (size 32 A) 1
+unfoldable pub weight : Method → ℕ → ℕ
+weight Single A = 1
+weight Average A = size 32 A
 
 -- what a linkage asks: the pair list of 1 to 32 entries, and a slot for each merge
 abbrev pub Mergeable : ℕ → List ℤ → List ℕ → Type 0

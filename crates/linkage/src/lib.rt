@@ -8,7 +8,8 @@ ghost use Rattle.linkage.specs.Blocks.{blocks_of, merged_at, linkage_of};
 ghost use Rattle.linkage.specs.Steps.{weight, Mergeable, Merged};
 ghost use Rattle.interface.specs.Calls.{LinkageCall};
 
-use answers::Answer;
+use answers::Refusal;
+use links::{Found, Method};
 
 // "The blocks of a linkage number at most 32": the first `count` of the sets.
 #[derive(Clone, Copy)]
@@ -46,10 +47,13 @@ impl Blocks {
     }
 }
 
-fn weight(average: bool, set: u32) -> usize
-    ensures { result ≡ weight average set }
+fn weight(method: Method, set: u32) -> usize
+    ensures { result ≡ weight method set }
 {
-    if average { sets::size(set) } else { 1 }
+    match method {
+        Method::Single => 1,
+        Method::Average => sets::size(set),
+    }
 }
 
 // The weights of the blocks that remain: the union's at the first's place, the last block's at the second's.
@@ -63,95 +67,72 @@ fn merge_weights(weights: &mut [usize; 32], union: usize, i: usize, j: usize, la
 }
 
 // All merges of a tree, with the links in a cleared table: each merged block goes into the next slot.
-fn merge_with(table: &mut [i64], average: bool, n: usize, pairs: &[i32], out: &mut [u32])
+fn merge_with(table: &mut [i64], method: Method, n: usize, pairs: &[i32], out: &mut [u32])
     requires { Mergeable n pairs.now out.old × (n * 32 ≤ length table.old) × Cleared table.old }
-    ensures { Merged (linkage_of average) n pairs.now out.old out.new }
+    ensures { Merged (linkage_of method) n pairs.now out.old out.new }
 {
     let mut blocks = Blocks::singles(n);
     let mut weights = [1usize; 32];
     links::fill(pairs, n, table);
-    let mut k = 0;
-    while 1 < blocks.count {
+    for k in 0..n - 1 {
         let last = blocks.count - 1;
-        let found = links::greatest(blocks.count, &weights, table);
-        let i = found.i;
-        let j = found.j;
-        links::join_rows(average, blocks.count, i, j, table);
+        let Found { i, j, .. } = links::greatest(blocks.count, &weights, table);
+        links::join_rows(method, blocks.count, i, j, table);
         links::move_row(last, j, table);
         blocks = blocks.merge(i, j);
         let union = blocks.sets[i];
-        merge_weights(&mut weights, weight(average, union), i, j, last);
+        merge_weights(&mut weights, weight(method, union), i, j, last);
         out[k] = union;
-        k += 1;
     }
 }
 
-// The same, with a table for at most 8, 16 and 32 entries: an array is cleared whole.
-fn merge_8(average: bool, n: usize, pairs: &[i32], out: &mut [u32])
-    requires { Mergeable n pairs.now out.old × (n ≤ 8) }
-    ensures { Merged (linkage_of average) n pairs.now out.old out.new }
+// The same, in a table of N numbers: an array is cleared whole.
+fn merge_in<const N: usize>(method: Method, n: usize, pairs: &[i32], out: &mut [u32])
+    requires { Mergeable n pairs.now out.old × (n * 32 ≤ N) × (N ≤ 1024) }
+    ensures { Merged (linkage_of method) n pairs.now out.old out.new }
 {
-    let mut table = [0i64; 256];
-    merge_with(&mut table, average, n, pairs, out);
-}
-
-fn merge_16(average: bool, n: usize, pairs: &[i32], out: &mut [u32])
-    requires { Mergeable n pairs.now out.old × (n ≤ 16) }
-    ensures { Merged (linkage_of average) n pairs.now out.old out.new }
-{
-    let mut table = [0i64; 512];
-    merge_with(&mut table, average, n, pairs, out);
-}
-
-fn merge_32(average: bool, n: usize, pairs: &[i32], out: &mut [u32])
-    requires { Mergeable n pairs.now out.old }
-    ensures { Merged (linkage_of average) n pairs.now out.old out.new }
-{
-    let mut table = [0i64; 1024];
-    merge_with(&mut table, average, n, pairs, out);
+    let mut table = [0i64; N];
+    merge_with(&mut table, method, n, pairs, out);
 }
 
 // All merges of a tree: each merged block goes into the next slot.
-pub fn merge_all(average: bool, n: usize, pairs: &[i32], out: &mut [u32])
+pub fn merge_all(method: Method, n: usize, pairs: &[i32], out: &mut [u32])
     requires { Mergeable n pairs.now out.old }
-    ensures { Merged (linkage_of average) n pairs.now out.old out.new }
+    ensures { Merged (linkage_of method) n pairs.now out.old out.new }
 {
     if n <= 8 {
-        merge_8(average, n, pairs, out);
+        merge_in::<256>(method, n, pairs, out);
         return;
     }
     if n <= 16 {
-        merge_16(average, n, pairs, out);
+        merge_in::<512>(method, n, pairs, out);
         return;
     }
-    merge_32(average, n, pairs, out);
+    merge_in::<1024>(method, n, pairs, out);
 }
 
 // The checks of a linkage call, in the table's order, and the merges.
-fn linkage(average: bool, n: usize, pairs: &[i32], blocks: &mut [u32]) -> Answer
-    ensures { LinkageCall (linkage_of average) n pairs.now
+fn linkage(method: Method, n: usize, pairs: &[i32], blocks: &mut [u32]) -> Result<usize, Refusal>
+    ensures { LinkageCall (linkage_of method) n pairs.now
         blocks.old result blocks.new }
 {
-    let refused = matrix::scored_refusal(n, pairs);
-    if refused != 0 {
-        return Answer::Refused(refused);
-    }
+    matrix::check_scored(n, pairs)?;
     let count = n - 1;
     if blocks.len() < count {
-        return Answer::Refused(15);
+        return Err(Refusal::OutOfPlace);
     }
-    merge_all(average, n, pairs, blocks);
-    Answer::Count(count)
+    merge_all(method, n, pairs, blocks);
+    Ok(count)
 }
 
-pub fn single_linkage(n: usize, pairs: &[i32], blocks: &mut [u32]) -> Answer
+pub fn single_linkage(n: usize, pairs: &[i32], blocks: &mut [u32]) -> Result<usize, Refusal>
     ensures { LinkageCall single n pairs.now blocks.old result blocks.new }
 {
-    linkage(false, n, pairs, blocks)
+    linkage(Method::Single, n, pairs, blocks)
 }
 
-pub fn average_linkage(n: usize, pairs: &[i32], blocks: &mut [u32]) -> Answer
+pub fn average_linkage(n: usize, pairs: &[i32], blocks: &mut [u32]) -> Result<usize, Refusal>
     ensures { LinkageCall average n pairs.now blocks.old result blocks.new }
 {
-    linkage(true, n, pairs, blocks)
+    linkage(Method::Average, n, pairs, blocks)
 }

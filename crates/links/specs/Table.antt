@@ -1,11 +1,13 @@
 -- The code's own vocabulary, which nobody need believe: the table of the links between the blocks left, rows of 32
 -- numbers. The link of two blocks is a quotient; the table has its numerator, and the denominator is the product of two
 -- weights.
-use Rattle.std.specs.Prelude.{◌≡◌, Bool, cond, ◌≢◌, List, ℕ, ◌+◌, ◌*◌, ◌^◌, ◌≤◌, ◌<◌, ℤ, pos, ◌+ℤ◌, length, get_or, set}
+use Rattle.std.specs.Prelude.{◌≡◌, ◌≢◌, List, ℕ, ◌+◌, ◌*◌, ◌^◌, ◌≤◌, ◌<◌, ℤ, pos, ◌+ℤ◌, length, get_or, set}
 use Rattle.integers.specs.Integers.{max_z}
 use Rattle.integers.specs.Range.{Within}
 use Rattle.clusters.specs.Linkage.{Quotient, ◌≼◌}
 use Rattle.links.specs.declared.Found.{Found}
+use Rattle.links.specs.declared.Method.{Method}
+use Rattle.links.specs.declared.Method.TheVariants.{Single, Average}
 
 -- what the table has for the blocks at the places a and b
 abbrev pub entry : List ℤ → ℕ → ℕ → ℤ
@@ -39,12 +41,13 @@ pub record Written (i : ℕ) (g : ℕ → ℤ) (k : ℕ) (t₀ t : List ℤ) : T
 
 -- the numerator for a union of two blocks: "the greatest score between the blocks (single) or the sum of scores"
 -- (average)
-unfoldable pub joined : Bool → ℤ → ℤ → ℤ
-joined average x y = cond average (x +ℤ y) (max_z x y)
+unfoldable pub joined : Method → ℤ → ℤ → ℤ
+joined Single x y = max_z x y
+joined Average x y = x +ℤ y
 
 -- those for the union of the blocks at i and j
-unfoldable pub joined_row : Bool → ℕ → ℕ → List ℤ → ℕ → ℤ
-joined_row average i j t q = joined average (entry t i q) (entry t j q)
+unfoldable pub joined_row : Method → ℕ → ℕ → List ℤ → ℕ → ℤ
+joined_row method i j t q = joined method (entry t i q) (entry t j q)
 
 -- the link of the blocks at a and b, by the table and the weights
 unfoldable pub quotient_at : List ℕ → List ℤ → ℕ → ℕ → Quotient

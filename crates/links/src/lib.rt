@@ -20,6 +20,14 @@ ghost use Rattle.links.specs.Table.{
   FoundBefore,
 };
 
+// How the link of a union to another block is made: of the scores between the two, the greatest (single linkage) or the
+// sum, which the sizes divide (average linkage).
+#[derive(Clone, Copy)]
+pub enum Method {
+    Single,
+    Average,
+}
+
 pub fn get(t: &[i64], a: usize, b: usize) -> i64
     requires { (a < 32) × (b < 32) × (a * 32 + b < length t.now) }
     ensures { result ≡ entry t.now a b }
@@ -56,25 +64,24 @@ pub fn fill(pairs: &[i32], n: usize, t: &mut [i64])
     }
 }
 
-fn join(average: bool, x: i64, y: i64) -> i64
+fn join(method: Method, x: i64, y: i64) -> i64
     requires { Within (2 ^ 47) x × Within (2 ^ 47) y }
-    ensures { result ≡ joined average x y }
+    ensures { result ≡ joined method x y }
 {
-    if average {
-        integers::sum(x, y)
-    } else {
-        integers::larger(x, y)
+    match method {
+        Method::Single => integers::larger(x, y),
+        Method::Average => integers::sum(x, y),
     }
 }
 
 // The links of the union of the blocks at i and j to all others, put at i. No test leaves out i and j: what comes to
 // stand there is no link.
-pub fn join_rows(average: bool, count: usize, i: usize, j: usize, t: &mut [i64])
+pub fn join_rows(method: Method, count: usize, i: usize, j: usize, t: &mut [i64])
     requires { (i < j) × (j < count) × (count ≤ 32) × Small count t.old }
-    ensures { Written i (joined_row average i j t.old) count t.old t.new }
+    ensures { Written i (joined_row method i j t.old) count t.old t.new }
 {
     for q in 0..count {
-        put(t, i, q, join(average, get(t, i, q), get(t, j, q)));
+        put(t, i, q, join(method, get(t, i, q), get(t, j, q)));
     }
 }
 

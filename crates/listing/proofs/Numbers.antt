@@ -1,18 +1,16 @@
 -- Digits put into a buffer, the last one first; a number in points, even or odd.
 use mathlib.Core.Path.{◌≡◌, refl, ap, ◌∙◌}
-use mathlib.Core.List.{List, [], ◌∷◌, ◌++◌, append_assoc, append-nil}
+use mathlib.Core.List.{List, [], ◌∷◌, ◌++◌, append-nil}
 use Prim.Native.Nat.{ℕ, suc, ◌+◌, ◌-◌, ◌/◌, ◌%◌, ◌<◌}
-use native.Mathlib.Numerals.{add-one}
 use native.Mathlib.Omega.{arith}
 use borrow.Author.Tests.{ne_eqb}
-use lib.ListN.{length, set, length-append}
+use lib.ListN.{set}
 use lib.Seq.{sets}
 use Rattle.clusters.specs.PairList.{one_point}
 use Rattle.interface.specs.Sheet.{half_text}
 use Rattle.interface.specs.Listing.{digit, digits, decimal, points_text}
 use Rattle.interface.proofs.Digits.{length_digits}
-use Rattle.listing.specs.Put.{Put}
-use Rattle.listing.proofs.Puts.{sets_last, then}
+use Rattle.listing.proofs.Puts.{sets_last}
 
 -- of i digits the last is stored, and i − 1 are left
 pub digits_turn : (base i n : ℕ) (l : List ℕ) (at : ℕ) → 0 < i
@@ -24,26 +22,15 @@ digits_turn base i n l at more =
     ∙ sets_last (digits base (i - 1) (n / base)) l at (digit (n % base))
     ∙ ap (λ (k : ℕ). sets (set l (at + k) (digit (n % base))) at (digits base (i - 1) (n / base))) (length_digits base (i - 1) (n / base))
 
-pub digits_put : (base k n : ℕ) {l m : List ℕ} {at end : ℕ} → end ≡ at + k → m ≡ sets l at (digits base k n) → Put l at (digits base k n) m end
-digits_put base k n p e = record { place = omega (arith, length_digits base k n); stored = e }
-
 pub no_digits : (base n : ℕ) → digits base 0 n ≡ []
 unfolding digits
 no_digits base n = refl
 
--- a text and a space
-pub length_space : (xs : List ℕ) → length (xs ++ (32 ∷ [])) ≡ length xs + 1
-length_space xs = length-append xs (32 ∷ [])
-
--- a number of half points: whole points, or a half more, put with the byte after it
-pub even_points : (k : ℕ) → k % 2 ≡ 0 → points_text k ≡ decimal (k / 2)
+-- a number of half points: whole points, or a half more
+pub whole_points : (k : ℕ) → k % 2 ≡ 0 → points_text k ≡ decimal (k / 2)
 unfolding points_text one_point
-even_points k e = rw e (append-nil (decimal (k / 2)))
+whole_points k e = rw e (append-nil (decimal (k / 2)))
 
-pub half_put : (k after : ℕ) {l m : List ℕ} {at end : ℕ} → (k % 2 ≡ 0 → ⊥) → Put l at (decimal (k / 2) ++ (46 ∷ [])) m end
-    → Put l at (points_text k ++ (after ∷ [])) (set (set m end 53) (end + 1) after) (end + 2)
+pub half_points : (k : ℕ) → (k % 2 ≡ 0 → ⊥) → points_text k ≡ decimal (k / 2) ++ (46 ∷ 53 ∷ [])
 unfolding points_text one_point half_text
-half_put k after {end = end} f p = rw text (then p (record { place = refl; stored = rw (add-one end) }))
-  where
-    text : points_text k ++ (after ∷ []) ≡ decimal (k / 2) ++ (46 ∷ []) ++ (53 ∷ after ∷ [])
-    text = rw (ne_eqb (k % 2) 0 f) (simp append_assoc)
+half_points k f = rw (ne_eqb (k % 2) 0 f) refl

@@ -1,4 +1,4 @@
 pub mod Lines
 pub mod Put
-pub mod Slots
+pub mod Natural
 pub mod Over

@@ -1,6 +1,6 @@
 -- A line as the code puts it, with its line feed: the writer's own vocabulary, which nobody need believe.
 use Rattle.std.specs.Prelude.{List, [], ◌∷◌, ◌++◌, ℕ}
-use Rattle.clusters.specs.Groups.{Group}
+use Rattle.clusters.specs.declared.Group.{Group}
 use Rattle.interface.specs.Sheet.{line_feed}
 use Rattle.interface.specs.Listing.{line_of, line_text}
 

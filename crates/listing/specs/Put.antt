@@ -1,8 +1,11 @@
 -- A text that is put into a buffer: the writer's own vocabulary, which nobody need believe.
 use Rattle.std.specs.Prelude.{◌≡◌, List, ℕ, ◌+◌, length}
 use Rattle.std.proofs.lemmas.List.Edits.{sets}
+use Rattle.listing.specs.declared.Text.{Text}
 
--- the text stands in the buffer from place at on, and nothing else has changed; end is the place after it
-pub record Put (before : List ℕ) (at : ℕ) (text : List ℕ) (after : List ℕ) (end : ℕ) : Type 0 where
-  pub place : end ≡ at + length text
-  pub stored : after ≡ sets before at text
+-- the bytes stand behind the text before, in the same buffer, of which nothing else has changed
+pub record Put (before : Text) (bytes : List ℕ) (after : Text) : Type 0 where
+  pub same_reference : after.out.ghost_name ≡ before.out.ghost_name
+  pub size : length after.out.now ≡ length before.out.now
+  pub place : after.at ≡ before.at + length bytes
+  pub stored : after.out.now ≡ sets before.out.now before.at bytes

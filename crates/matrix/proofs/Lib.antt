@@ -3,3 +3,4 @@ pub mod Checks
 pub mod Scores
 pub mod Touched
 pub mod Tables
+pub mod Chains

@@ -1,6 +1,6 @@
 // The pair list as lent: scores looked up by two entries, or all of one entry, and checks 6, 10 to 12 and 16 (document
 // 01, Where a call is turned away; document 02, 2.2).
-#![tactic(auto)]
+#![tactic(auto, using(integers::proofs::Operators::operators))]
 
 ghost use Rattle.std.specs.Prelude.{◌≡◌, ◌+◌, ◌<◌, ◌≤◌, pos, length, get_or};
 ghost use Rattle.std.specs.Int.Signed.{le_z};
@@ -11,14 +11,16 @@ ghost use Rattle.clusters.specs.PairList.{row_start, place, score, score_limit, 
 ghost use Rattle.clusters.specs.PairList.{is_allowed_pair};
 ghost use Rattle.clusters.specs.PairList.{scores_in_range, has_unscored, are_distances};
 ghost use Rattle.clusters.specs.Touched.{row_scored, touched_entries};
+ghost use Rattle.answers.specs.Answers.{number_of};
 ghost use Rattle.interface.specs.Refusals.{first_of, wrong_count, wrong_entries};
 ghost use Rattle.interface.specs.Refusals.{length_checks, pair_checks, scored_checks, distance_checks};
-ghost use Rattle.matrix.specs.Checks.{passes};
 ghost use Rattle.matrix.specs.Rows.{Scores, Row};
 
+use answers::Refusal;
 use pairs::Pair;
 
 // Where row i of the lower triangle starts.
+#[tactic(auto, unfolding(clusters::specs::PairList::row_start))]
 pub fn row_start(i: usize) -> usize
     requires { i < 32 }
     ensures { result ≡ row_start i }
@@ -27,14 +29,12 @@ pub fn row_start(i: usize) -> usize
 }
 
 // How many pairs n entries have: the row that would come next starts there.
+#[tactic(auto, unfolding(clusters::specs::PairList::row_start))]
 pub fn pair_count(n: usize) -> usize
     requires { n ≤ 32 }
     ensures { result ≡ row_start n }
 {
-    if n == 0 {
-        return 0;
-    }
-    row_start(n - 1) + n
+    n * (n + 1) / 2
 }
 
 // Where the pair of a and b stands.
@@ -62,10 +62,11 @@ pub fn value(pairs: &[i32], i: usize) -> i64
     requires { i < length pairs.now }
     ensures { result ≡ get_or pairs.now i (pos 0) }
 {
-    integers::wide(pairs[i])
+    i64::from(pairs[i])
 }
 
 // The score of a and b.
+#[tactic(auto, using(integers::proofs::Operators::operators), unfolding(clusters::specs::PairList::score))]
 pub fn score(pairs: &[i32], a: usize, b: usize) -> i64
     requires { (a < 32) × (b < 32) × (place a b < length pairs.now) }
     ensures { result ≡ score pairs.now a b }
@@ -74,6 +75,7 @@ pub fn score(pairs: &[i32], a: usize, b: usize) -> i64
 }
 
 // The pair of a and b, as the list has it.
+#[tactic(auto, using(integers::proofs::Operators::operators), unfolding(clusters::specs::PairList::score))]
 pub fn pair(pairs: &[i32], a: usize, b: usize) -> Pair
     requires { (a < 32) × (b < 32) × (place a b < length pairs.now) }
     ensures { result ≡ pair_of (score pairs.now a b) }
@@ -94,16 +96,15 @@ pub fn put_row(row: &mut [i32], n: usize, pairs: &[i32], a: usize)
 }
 
 // Check 6.
+#[tactic(auto, unfolding(interface::specs::Refusals::wrong_count, interface::specs::Refusals::most_entries))]
 pub fn is_wrong_count(n: usize) -> bool
     ensures { result ≡ wrong_count n }
 {
-    if n == 0 {
-        return true;
-    }
-    32 < n
+    n == 0 || 32 < n
 }
 
 // Check 10.
+#[tactic(auto, unfolding(clusters::specs::PairList::has_length))]
 pub fn has_length(n: usize, pairs: &[i32]) -> bool
     requires { n ≤ 32 }
     ensures { result ≡ has_length n pairs.now }
@@ -115,104 +116,73 @@ pub fn has_length(n: usize, pairs: &[i32]) -> bool
 pub fn is_in_range(v: i64) -> bool
     ensures { result ≡ is_in_range score_limit v }
 {
-    integers::at_most(-2000000, v) & integers::at_most(v, 2000000)
+    (-2000000 <= v) & (v <= 2000000)
 }
 
 // A score in the range, or the mark.
+#[tactic(auto, unfolding(pairs::specs::Pairs::carried, clusters::specs::PairList::is_allowed_pair))]
 fn is_allowed(v: i32) -> bool
     ensures { result ≡ is_allowed_pair score_limit (carried v) }
 {
-    pairs::is_mark(v) | is_in_range(integers::wide(v))
+    pairs::is_mark(v) | is_in_range(i64::from(v))
 }
 
+#[tactic(auto, unfolding(pairs::specs::Pairs::carried, pairs::specs::Pairs::is_scored))]
 fn is_scored(v: i32) -> bool
     ensures { result ≡ is_scored (carried v) }
 {
     !pairs::is_mark(v)
 }
 
-// What 11 and 16 ask of each number of a pair list.
-#[derive(Clone, Copy)]
-enum Test {
-    Range,
-    Score,
-}
-
-fn passes(test: Test, v: i32) -> bool
-    ensures { result ≡ passes test v }
-{
-    match test {
-        Test::Range => is_allowed(v),
-        Test::Score => is_scored(v),
-    }
-}
-
-// Every number passes. Without an early exit the loop becomes vector code.
-fn all_pass(test: Test, pairs: &[i32]) -> bool
-    ensures { result ≡ all (passes test) pairs.now }
-{
-    let mut good = true;
-    let mut i: usize = 0;
-    while i < pairs.len() {
-        good = good & passes(test, pairs[i]);
-        i += 1;
-    }
-    good
-}
-
-// Check 11.
+// Check 11. Without an early exit the loop becomes vector code.
 pub fn scores_in_range(pairs: &[i32]) -> bool
     ensures { result ≡ scores_in_range pairs.now }
 {
-    all_pass(Test::Range, pairs)
+    pairs.iter().fold(true, |good, v| good & is_allowed(*v))
 }
 
-// Check 16.
+// Check 16, by a loop like that of check 11.
 pub fn has_unscored(pairs: &[i32]) -> bool
     ensures { result ≡ has_unscored pairs.now }
 {
-    !all_pass(Test::Score, pairs)
+    pairs
+        .iter()
+        .fold(false, |found, v| found | pairs::is_mark(*v))
 }
 
-// Checks 6 and 10: the first number whose condition holds, 0 if none does.
-pub fn length_refusal(n: usize, pairs: &[i32]) -> usize
-    ensures { result ≡ first_of (length_checks n pairs.now) }
+// Checks 6 and 10: the refusal of the first whose condition holds.
+pub fn check_length(n: usize, pairs: &[i32]) -> Result<(), Refusal>
+    ensures { number_of result ≡ first_of (length_checks n pairs.now) }
 {
     if is_wrong_count(n) {
-        return 6;
+        return Err(Refusal::WrongCount);
     }
     if !has_length(n, pairs) {
-        return 10;
+        return Err(Refusal::WrongListLength);
     }
-    0
+    Ok(())
 }
 
 // Checks 6, 10 and 11, which the calls on a pair list make first.
-pub fn refusal(n: usize, pairs: &[i32]) -> usize
-    ensures { result ≡ first_of (pair_checks n pairs.now) }
+pub fn check_pairs(n: usize, pairs: &[i32]) -> Result<(), Refusal>
+    ensures { number_of result ≡ first_of (pair_checks n pairs.now) }
 {
-    let refused = length_refusal(n, pairs);
-    if refused != 0 {
-        return refused;
-    }
+    check_length(n, pairs)?;
     if !scores_in_range(pairs) {
-        return 11;
+        return Err(Refusal::OutOfRange);
     }
-    0
+    Ok(())
 }
 
 // Checks 6, 10, 11 and 16, of the calls that take no unscored pair.
-pub fn scored_refusal(n: usize, pairs: &[i32]) -> usize
-    ensures { result ≡ first_of (scored_checks n pairs.now) }
+pub fn check_scored(n: usize, pairs: &[i32]) -> Result<(), Refusal>
+    ensures { number_of result ≡ first_of (scored_checks n pairs.now) }
 {
-    let earlier = refusal(n, pairs);
-    if earlier != 0 {
-        return earlier;
-    }
+    check_pairs(n, pairs)?;
     if has_unscored(pairs) {
-        return 16;
+        return Err(Refusal::Unscored);
     }
-    0
+    Ok(())
 }
 
 // Every pair of a is scored.
@@ -240,10 +210,9 @@ pub fn touched_entries(n: usize, pairs: &[i32]) -> u32
     }
     let mut touched = 0u32;
     for a in 0..n {
-        if is_row_scored(n, pairs, a) {
-            continue;
+        if !is_row_scored(n, pairs, a) {
+            touched = sets::union(touched, sets::single(a));
         }
-        touched = sets::union(touched, sets::single(a));
     }
     touched
 }
@@ -251,12 +220,7 @@ pub fn touched_entries(n: usize, pairs: &[i32]) -> u32
 fn are_not_negative(pairs: &[i32]) -> bool
     ensures { result ≡ all (le_z (pos 0)) pairs.now }
 {
-    for i in 0..pairs.len() {
-        if !integers::at_most(0, value(pairs, i)) {
-            return false;
-        }
-    }
-    true
+    pairs.iter().all(|v| 0 <= *v)
 }
 
 // Every own value is 0.
@@ -264,15 +228,11 @@ fn are_own_zero(n: usize, pairs: &[i32]) -> bool
     requires { (n ≤ 32) × (length pairs.now ≡ row_start n) }
     ensures { result ≡ all (λ a. eq_z (score pairs.now a a) (pos 0)) (below n) }
 {
-    for a in 0..n {
-        if !integers::is_equal(score(pairs, a, a), 0) {
-            return false;
-        }
-    }
-    true
+    (0..n).all(|a| score(pairs, a, a) == 0)
 }
 
 // Check 12.
+#[tactic(auto, unfolding(clusters::specs::PairList::are_distances))]
 pub fn are_distances(n: usize, pairs: &[i32]) -> bool
     requires { (n ≤ 32) × (length pairs.now ≡ row_start n) }
     ensures { result ≡ are_distances n pairs.now }
@@ -281,20 +241,18 @@ pub fn are_distances(n: usize, pairs: &[i32]) -> bool
 }
 
 // Checks 6, 10, 11, 16 and 12, of the calls that take distances, judged as kind 3.
-pub fn distances_refusal(n: usize, pairs: &[i32]) -> usize
-    ensures { result ≡ first_of (distance_checks n pairs.now) }
+pub fn check_distances(n: usize, pairs: &[i32]) -> Result<(), Refusal>
+    ensures { number_of result ≡ first_of (distance_checks n pairs.now) }
 {
-    let earlier = scored_refusal(n, pairs);
-    if earlier != 0 {
-        return earlier;
-    }
+    check_scored(n, pairs)?;
     if !are_distances(n, pairs) {
-        return 12;
+        return Err(Refusal::NoDistances);
     }
-    0
+    Ok(())
 }
 
 // Check 15 of two entry numbers.
+#[tactic(auto, unfolding(interface::specs::Refusals::wrong_entries, interface::specs::Refusals::wrong_anchor))]
 pub fn are_wrong_entries(n: usize, a: usize, b: usize) -> bool
     ensures { result ≡ wrong_entries n a b }
 {

@@ -6,48 +6,64 @@ ghost use Rattle.integers.specs.Integers.{eq_z};
 ghost use Rattle.pairs.specs.Pairs.{mark, list_number, pair_of};
 
 // A score, or the mark unscored.
-#[derive(Clone, Copy)]
+#[derive(Clone, Copy, Debug, PartialEq, Eq)]
 pub enum Carried {
     Scored(i32),
     Unscored,
 }
 
-#[derive(Clone, Copy)]
+#[derive(Clone, Copy, Debug, PartialEq, Eq)]
 pub struct Pair {
     pub carries: Carried,
 }
 
 // An unscored pair in the pair list.
-const MARK: i32 = -2147483648;
+const MARK: i32 = i32::MIN;
 
 // The number is the mark.
+#[tactic(auto, using(integers::proofs::Operators::operators), unfolding(crate::specs::Pairs::mark))]
 pub fn is_mark(x: i32) -> bool
     ensures { result ≡ eq_z x mark }
 {
-    integers::is_equal(integers::wide(x), -2147483648)
+    x == MARK
 }
 
 // The pair of a number of the pair list.
+#[tactic(auto, unfolding(crate::specs::Pairs::pair_of, crate::specs::Pairs::carried))]
 pub fn pair_of(x: i32) -> Pair
     ensures { result ≡ pair_of x }
 {
-    if is_mark(x) {
-        return Pair {
-            carries: Carried::Unscored,
-        };
-    }
-    Pair {
-        carries: Carried::Scored(x),
-    }
+    let carries = if is_mark(x) {
+        Carried::Unscored
+    } else {
+        Carried::Scored(x)
+    };
+    Pair { carries }
 }
 
 // The number of a pair in the pair list.
+#[tactic(auto, unfolding(crate::specs::Pairs::list_number, crate::specs::Pairs::number_for, crate::specs::Pairs::mark))]
 pub fn list_number(pair: Pair) -> i32
     ensures { result ≡ list_number pair }
 {
-    let carries = pair.carries;
-    match carries {
+    match pair.carries {
         Carried::Scored(score) => score,
         Carried::Unscored => MARK,
+    }
+}
+
+impl From<i32> for Pair {
+    ghost from_gives = { λ x pair. pair ≡ pair_of x };
+
+    fn from(x: i32) -> Pair {
+        pair_of(x)
+    }
+}
+
+impl From<Pair> for i32 {
+    ghost from_gives = { λ pair x. x ≡ list_number pair };
+
+    fn from(pair: Pair) -> i32 {
+        list_number(pair)
     }
 }

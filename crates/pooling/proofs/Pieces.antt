@@ -1,14 +1,11 @@
 -- The place of a word among the pieces of a line, and the pieces of a line by their number.
 use mathlib.Core.Path.{◌≡◌, refl, sym, ap, ◌∙◌}
-use mathlib.Core.Bool.{Bool, true, false}
-use mathlib.Core.List.{List, [], ◌∷◌}
-use Prim.Native.Nat.compare
+use mathlib.Core.Bool.{true, false}
+use mathlib.Core.List.{List, []}
 use Prim.Native.Nat.{ℕ, suc, ◌+◌, ◌≤◌, ◌<◌}
 use native.Mathlib.Numerals.{add-one}
 use native.Mathlib.Decide.{dec_lt}
 use native.Mathlib.Omega.{arith}
-use borrow.Author.Tests.{lt-ltb, le-ltb}
-use lib.Dec.{ltb}
 use lib.ListN.{length, get_or, drop, length-drop}
 use lib.Seq.{drop-cons}
 use Rattle.interface.specs.Sheet.{cut, same_bytes, is_among}
@@ -17,33 +14,25 @@ use Rattle.interface.specs.Calls.{piece_at}
 use Rattle.text.proofs.Pieces.{pieces_more, pieces_last}
 use Rattle.sheet.proofs.Lines.{pieces_from}
 
--- a word is among words exactly if its place is
-among_below : (w : List ℕ) (l : List (List ℕ)) → ltb (place_of w l) (length l) ≡ is_among w l
-unfolding place_of is_among
-among_below w [] = refl
-among_below w (x ∷ l) = go (same_bytes w x) refl (among_below w l)
-  where
-    go : (b : Bool) → same_bytes w x ≡ b → ltb (place_of w l) (length l) ≡ is_among w l
-        → ltb (place_of w (x ∷ l)) (suc (length l)) ≡ is_among w (x ∷ l)
-    go true e ih = rw e (lt-ltb 0 (suc (length l)) (omega arith))
-    go false e ih = rw (e, compare.suc-suc) ih
+-- a word among the pieces from a place of the line on: the piece there is the word, or it is the last, or another follows
+module _ (w line : List ℕ) (at : ℕ) (same : same_bytes w (piece_at 32 line at) ≡ true) where
+  pub among_here : is_among w (cut 32 (drop at line)) ≡ true
+  unfolding is_among
+  among_here = rw (pieces_from 32 line at, same) refl
 
-pub is_there : (w : List ℕ) (l : List (List ℕ)) → place_of w l < length l → is_among w l ≡ true
-is_there w l h = sym (among_below w l) ∙ lt-ltb (place_of w l) (length l) h
-
-pub not_there : (w : List ℕ) (l : List (List ℕ)) → length l ≤ place_of w l → is_among w l ≡ false
-not_there w l h = sym (among_below w l) ∙ le-ltb (place_of w l) (length l) h
-
--- the place of a word, from the piece at a place of the line on: that piece is the word, or it is the last, or another follows
-pub place_here : (w line : List ℕ) (at : ℕ) → same_bytes w (piece_at 32 line at) ≡ true → place_of w (cut 32 (drop at line)) ≡ 0
-unfolding place_of
-place_here w line at e = rw (pieces_from 32 line at, e)
+  pub place_here : place_of w (cut 32 (drop at line)) ≡ 0
+  unfolding place_of
+  place_here = rw (pieces_from 32 line at, same)
 
 module _ (w line : List ℕ) (at end : ℕ) (inside : at ≤ length line) (is : end ≡ at + length (piece_at 32 line at))
     (other : same_bytes w (piece_at 32 line at) ≡ false) where
-  pub place_last : length line ≤ end → place_of w (cut 32 (drop at line)) ≡ 1
-  unfolding place_of
-  place_last h = rw (pieces_last 32 line at end inside is h, other)
+  pub among_last : length line ≤ end → is_among w (cut 32 (drop at line)) ≡ false
+  unfolding is_among
+  among_last h = rw (pieces_last 32 line at end inside is h, other) refl
+
+  pub among_next : end < length line → is_among w (cut 32 (drop at line)) ≡ is_among w (cut 32 (drop (end + 1) line))
+  unfolding is_among
+  among_next h = rw (pieces_more 32 line at end inside is h, other) refl
 
   pub place_next : end < length line → place_of w (cut 32 (drop at line)) ≡ suc (place_of w (cut 32 (drop (end + 1) line)))
   unfolding place_of

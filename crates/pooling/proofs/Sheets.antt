@@ -1,10 +1,10 @@
 -- Two sheets that were accepted: their names, checks 17, 18 and 14, and what is then written.
-use mathlib.Core.Path.{◌≡◌, refl, sym, ap, ap₂, ◌∙◌, subst}
+use mathlib.Core.Path.{◌≡◌, refl, sym, ap, ap₂, ◌∙◌, subst, subst₂}
 use mathlib.Core.Bool.{Bool, true, false, not, ◌&&◌}
 use mathlib.Core.List.{List, [], ◌∷◌}
 use Prim.Native.Nat.{ℕ, ◌+◌, ◌≤◌, ◌<◌}
 use native.Mathlib.Omega.{arith}
-use borrow.Author.Tests.{ne_eqb, eq-eqb, not-false}
+use borrow.Author.Tests.{ne_eqb, eq-eqb}
 use lib.Dec.{T, eqb}
 use lib.IntN.{ℤ}
 use lib.ListN.{length, get_or, take, length-take}
@@ -14,9 +14,10 @@ use Rattle.pairs.specs.Pairs.{number_for, carried}
 use Rattle.clusters.specs.PairList.{row_start, score, pair_list, scores_in_range}
 use Rattle.clusters.specs.Pooling.{added, pooled}
 use Rattle.clusters.proofs.PairList.{pair_list_cong, score_pair_list}
-use Rattle.answers.specs.declared.Answer.{Answer}
-use Rattle.answers.specs.declared.Answer.TheVariants.{Refused}
-use Rattle.answers.specs.Answers.{answer, slots}
+use Rattle.std.specs.Prelude.{Err}
+use Rattle.answers.specs.declared.Refusal.{Refusal}
+use Rattle.answers.specs.declared.Refusal.TheVariants.{NamesDiffer}
+use Rattle.answers.specs.Answers.{number, Answer, Answered, slots}
 use Rattle.answers.proofs.Answers.{refused_is}
 use Rattle.answers.proofs.WaysOut.{refused}
 use Rattle.interface.specs.Sheet.{space, is_name, cut, names, entries, pairs, is_among}
@@ -24,13 +25,13 @@ use Rattle.interface.specs.SheetText.{sheet_text}
 use Rattle.interface.specs.Pool.{place_on, pool_scores, pool_pairs, pool_text}
 use Rattle.interface.specs.Refusals.{first_of, wrong_count, names_differ, check14, check18, reader_checks, sheet_checks, pool_checks, pool_refusal}
 use Rattle.interface.specs.Calls.{PoolCall, piece_at}
-use Rattle.interface.proofs.Refusals.{gives, first_yes, first_no, first_none, first_front, first_back, right_count}
+use Rattle.interface.proofs.Refusals.{gives, first_yes, first_no, first_none, first_back, right_count, refused_front, passed_back}
 use Rattle.interface.proofs.Places.{place_lt, same_names, by_count}
 use Rattle.interface.proofs.SheetTexts.{sheet_text_cong}
 use Rattle.interface.proofs.PoolScores.{Sound, sound, pool_symmetric}
 use Rattle.sheet.proofs.Lines.{first_line_lem}
 use Rattle.reader.proofs.Answers.{pairs_length}
-use Rattle.pooling.specs.Pools.{AcceptedSheet, PlacesOn, sheet_of, sums_refusal, SumsWritten, both_refusal, PairsPooled}
+use Rattle.pooling.specs.Pools.{AcceptedSheet, Placed, sheet_of, sums_refusal, SumsWritten, both_refusal, PairsPooled}
 
 -- one of them
 module _ {sheet : List ℕ} {n : ℕ} {l : List ℤ} (a : AcceptedSheet sheet n l) where
@@ -82,31 +83,31 @@ module _ {first second : List ℕ} {n m : ℕ} {scores others : List ℤ} (a : A
       by_count (names first) (names second) (left a).distinct (left b).distinct
       ∙ ap₂ (λ (i j : ℕ). not (eqb i j && all (λ w. is_among w (names second)) (names first))) (sym (names_count a)) (sym (names_count b))
 
-  refused_17 : (lent : List ℕ) → names_differ (names first) (names second) ≡ true → PairsPooled first second lent (Refused 17) lent
+  refused_17 : (lent : List ℕ) → names_differ (names first) (names second) ≡ true → PairsPooled first second lent (Err NamesDiffer) lent
   unfolding both_refusal
   refused_17 lent e =
-      let (r, w) = refused {r = 17} (length (pool_text first second)) (pool_text first second) lent (gives (first_yes e)) (λ z. omega arith) in
+      let (r, w) = refused (length (pool_text first second)) (pool_text first second) lent {e = NamesDiffer} (gives (first_yes e)) in
       record { answered = r; written = w }
 
-  pub other_count : (lent : List ℕ) → (n ≡ m → ⊥) → PairsPooled first second lent (Refused 17) lent
+  pub other_count : (lent : List ℕ) → (n ≡ m → ⊥) → PairsPooled first second lent (Err NamesDiffer) lent
   other_count lent d = refused_17 lent (tested ∙ rw (ne_eqb n m d))
 
-  pub other_names : (lent : List ℕ) {places : List ℕ} {found : Bool} → PlacesOn (names first) (names second) places found → not found ≡ true
-      → PairsPooled first second lent (Refused 17) lent
-  other_names lent {found = found} p t = refused_17 lent (tested ∙ go (eqb n m))
+  pub other_names : (lent : List ℕ) → all (λ w. is_among w (names second)) (names first) ≡ false
+      → PairsPooled first second lent (Err NamesDiffer) lent
+  other_names lent e = refused_17 lent (tested ∙ go (eqb n m))
     where
       go : (b : Bool) → not (b && all (λ w. is_among w (names second)) (names first)) ≡ true
-      go true = ap not (sym p.tested) ∙ t
+      go true = ap not e
       go false = refl
 
   -- the names are the same, and their places were found
-  module _ (same : n ≡ m) {places : List ℕ} {found : Bool} (p : PlacesOn (names first) (names second) places found) (t : not found ≡ false) where
+  module _ (same : n ≡ m) {places : List ℕ} (p : Placed (names first) (names second) places) where
     right_names : names_differ (names first) (names second) ≡ false
-    right_names = tested ∙ rw (eq-eqb n m same) (ap not (sym p.tested) ∙ t)
+    right_names = tested ∙ rw (eq-eqb n m same) (ap not p.there)
 
     place_is : (i : ℕ) → i < n → get_or places i 0 ≡ place_on first second i
     unfolding place_on
-    place_is i h = p.are (not-false found t) i (omega (arith, names_count a))
+    place_is i h = p.are i (omega (arith, names_count a))
 
     pub place_few : (i : ℕ) → i < n → get_or places i 0 < n
     unfolding place_on
@@ -141,34 +142,33 @@ module _ {first second : List ℕ} {n m : ℕ} {scores others : List ℤ} (a : A
 
         -- what is written of the sums is the pool
         pub pool_written : {lent : List ℕ} {r : Answer} {after : List ℕ} → SumsWritten (take end first) sums lent r after → PairsPooled first second lent r after
-        pool_written {lent} w = record {
-          answered = w.answered ∙ ap₂ answer (refusal_is (length lent)) (ap length text_is);
+        pool_written {lent} {r} w = record {
+          answered = subst₂ (λ (k c : ℕ). Answered k c r) (refusal_is (length lent)) (ap length text_is) w.answered;
           written = w.written ∙ ap₂ (λ (k : ℕ) (t : List ℕ). slots k t lent) (refusal_is (length lent)) text_is;
         }
 
 -- the ways out of the call: the first refused, the second refused, and checks 17, 18 and 14 made
 module _ (first second lent : List ℕ) where
-  refusal_out : {k : ℕ} → k ≡ pool_refusal first second (length lent) → (k ≡ 0 → ⊥) → PoolCall first second lent (Refused k) lent
-  refusal_out e f = let (r, w) = refused (length (pool_text first second)) (pool_text first second) lent e f in record { answered = r; written = w }
+  refusal_out : {e : Refusal} → number e ≡ pool_refusal first second (length lent) → PoolCall first second lent (Err e) lent
+  refusal_out h = let (r, w) = refused (length (pool_text first second)) (pool_text first second) lent h in record { answered = r; written = w }
 
-  pub refused_first : {k : ℕ} → Refused k ≡ answer (first_of (sheet_checks first)) (entries first) → PoolCall first second lent (Refused k) lent
+  pub refused_first : (e : Refusal) → Answered (first_of (sheet_checks first)) (entries first) (Err e) → PoolCall first second lent (Err e) lent
   unfolding pool_refusal pool_checks sheet_checks reader_checks all
-  refused_first q = let (e, f) = refused_is (first_of (sheet_checks first)) (entries first) (sym q) in refusal_out (gives (first_front (sheet_checks first) _ tt e f)) f
+  refused_first e a = refusal_out (refused_front (sheet_checks first) _ tt e (refused_is a).0)
 
   module _ {n : ℕ} {scores : List ℤ} (a : AcceptedSheet first n scores) where
-    pub refused_second : {k : ℕ} → Refused k ≡ answer (first_of (sheet_checks second)) (entries second) → PoolCall first second lent (Refused k) lent
+    pub refused_second : (e : Refusal) → Answered (first_of (sheet_checks second)) (entries second) (Err e) → PoolCall first second lent (Err e) lent
     unfolding pool_refusal pool_checks sheet_checks reader_checks all
-    refused_second q =
-        let (e, f) = refused_is (first_of (sheet_checks second)) (entries second) (sym q) in
-        refusal_out (gives (first_back (sheet_checks first) _ tt (sym a.passed) refl (first_front (sheet_checks second) _ tt e f))) f
+    refused_second e q =
+        refusal_out (passed_back (sheet_checks first) _ tt (sym a.passed) (record { is = refused_front (sheet_checks second) _ tt e (refused_is q).0 }))
 
     pub both_accepted : {m : ℕ} {others : List ℤ} → AcceptedSheet second m others → {r : Answer} {after : List ℕ} → PairsPooled first second lent r after
         → PoolCall first second lent r after
     unfolding pool_refusal pool_checks both_refusal sheet_checks reader_checks all
-    both_accepted b p =
+    both_accepted b {r} p =
         let e : both_refusal first second (length lent) ≡ pool_refusal first second (length lent) =
         gives (first_back (sheet_checks first) _ tt (sym a.passed) refl (first_back (sheet_checks second) _ tt (sym b.passed) refl (record { is = refl }))) in
         record {
-          answered = p.answered ∙ ap (λ (k : ℕ). answer k (length (pool_text first second))) e;
+          answered = subst (λ (k : ℕ). Answered k (length (pool_text first second)) r) e p.answered;
           written = p.written ∙ ap (λ (k : ℕ). slots k (pool_text first second) lent) e;
         }

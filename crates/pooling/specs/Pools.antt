@@ -1,9 +1,7 @@
 -- The code's own vocabulary for the pool of two sheets, which a reader of the statements need not believe.
-use Rattle.std.specs.Prelude.{◌≡◌, Bool, true, List, [], ◌∷◌, ℕ, ◌<◌, ℤ, length, get_or, take}
+use Rattle.std.specs.Prelude.{◌≡◌, true, false, Ok, Option, Some, None, List, [], ◌∷◌, ℕ, ◌<◌, ℤ, length, get_or, take}
 use Rattle.lists.specs.Lists.{all}
-use Rattle.answers.specs.declared.Answer.{Answer}
-use Rattle.answers.specs.declared.Answer.TheVariants.{Count}
-use Rattle.answers.specs.Answers.{answer, slots}
+use Rattle.answers.specs.Answers.{Answer, Answered, slots}
 use Rattle.clusters.specs.PairList.{row_start, score}
 use Rattle.interface.specs.Sheet.{space, cut, entries, pairs, is_among}
 use Rattle.interface.specs.SheetText.{sheet_text}
@@ -16,11 +14,20 @@ pub record AcceptedSheet (sheet : List ℕ) (n : ℕ) (l : List ℤ) : Type 0 wh
   pub count : n ≡ entries sheet
   pub its_pairs : l ≡ pairs sheet
 
--- the places of the names of the first n names on a line with the names ms
-pub record PlacesOn (ns ms : List (List ℕ)) (places : List ℕ) (found : Bool) : Type 0 where
+-- where a name stands among others, if it is there
+abbrev pub PlaceAmong : List ℕ → List (List ℕ) → Option ℕ → Type 0
+PlaceAmong w ms None = is_among w ms ≡ false
+PlaceAmong w ms (Some place) = (is_among w ms ≡ true) × (place ≡ place_of w ms)
+
+-- the places of the names ns among the names ms, if all are there
+pub record Placed (ns ms : List (List ℕ)) (places : List ℕ) : Type 0 where
   pub long : length places ≡ 32
-  pub tested : found ≡ all (λ w. is_among w ms) ns
-  pub are : found ≡ true → (i : ℕ) → i < length ns → get_or places i 0 ≡ place_of (get_or ns i []) ms
+  pub there : all (λ w. is_among w ms) ns ≡ true
+  pub are : (i : ℕ) → i < length ns → get_or places i 0 ≡ place_of (get_or ns i []) ms
+
+abbrev pub PlacesOn : (ns ms : List (List ℕ)) → Option (List ℕ) → Type 0
+PlacesOn ns ms None = all (λ w. is_among w ms) ns ≡ false
+PlacesOn ns ms (Some places) = Placed ns ms places
 
 -- checks 18 and 14 of sums that are to be written, with the names in line 1; and the outcome
 unfoldable pub sheet_of : List ℕ → List ℤ → List ℕ
@@ -30,7 +37,7 @@ unfoldable pub sums_refusal : List ℕ → List ℤ → (buffer : ℕ) → ℕ
 sums_refusal line sums buffer = first_of (check18 sums ∷ check14 buffer (sheet_of line sums) ∷ [])
 
 pub record SumsWritten (line : List ℕ) (sums : List ℤ) (lent : List ℕ) (r : Answer) (after : List ℕ) : Type 0 where
-  pub answered : r ≡ answer (sums_refusal line sums (length lent)) (length (sheet_of line sums))
+  pub answered : Answered (sums_refusal line sums (length lent)) (length (sheet_of line sums)) r
   pub written : after ≡ slots (sums_refusal line sums (length lent)) (sheet_of line sums) lent
 
 -- checks 17, 18 and 14; and the outcome
@@ -38,10 +45,10 @@ unfoldable pub both_refusal : (first second : List ℕ) → (buffer : ℕ) → �
 both_refusal first second buffer = first_of (both_checks first second buffer)
 
 pub record PairsPooled (first second lent : List ℕ) (r : Answer) (after : List ℕ) : Type 0 where
-  pub answered : r ≡ answer (both_refusal first second (length lent)) (length (pool_text first second))
+  pub answered : Answered (both_refusal first second (length lent)) (length (pool_text first second)) r
   pub written : after ≡ slots (both_refusal first second (length lent)) (pool_text first second) lent
 
 -- a sheet that was read: the answer, and the pair list in the first slots if it was accepted
 pub record Read (sheet : List ℕ) (r : Answer) (slots : List ℤ) : Type 0 where
-  pub answered : r ≡ answer (first_of (sheet_checks sheet)) (entries sheet)
-  pub accepted : (n : ℕ) → r ≡ Count n → AcceptedSheet sheet n (take (row_start n) slots)
+  pub answered : Answered (first_of (sheet_checks sheet)) (entries sheet) r
+  pub accepted : (n : ℕ) → r ≡ Ok n → AcceptedSheet sheet n (take (row_start n) slots)

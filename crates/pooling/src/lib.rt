@@ -8,55 +8,44 @@ ghost use Rattle.pairs.specs.Pairs.{number_for, carried};
 ghost use Rattle.clusters.specs.PairList.{row_start, score, pair_list, score_limit, is_allowed_pair, scores_in_range};
 ghost use Rattle.clusters.specs.Pooling.{added, pooled};
 ghost use Rattle.interface.specs.Sheet.{space, cut, is_name};
-ghost use Rattle.interface.specs.Pool.{place_of};
 ghost use Rattle.interface.specs.Calls.{PoolCall};
-ghost use Rattle.pooling.specs.Pools.{PlacesOn, SumsWritten, AcceptedSheet, PairsPooled, Read};
+ghost use Rattle.pooling.specs.Pools.{PlaceAmong, PlacesOn, SumsWritten, AcceptedSheet, PairsPooled, Read};
 
-use answers::Answer;
+use answers::Refusal;
 
-// Where the word stands among the pieces of the line, counted from 0; how many they are, if it is not there.
-fn place_among(word: &[u8], line: &[u8]) -> usize
-    ensures { result ≡ place_of word.now (cut space line.now) }
+// Where the word stands among the pieces of the line, counted from 0.
+fn place_among(word: &[u8], line: &[u8]) -> Option<usize>
+    ensures { PlaceAmong word.now (cut space line.now) result }
 {
     let mut at: usize = 0;
     let mut place: usize = 0;
     loop {
         let end = text::piece_end(line, b' ', at);
         if sheet::same_bytes(word, &line[at..end]) {
-            return place;
+            return Some(place);
+        }
+        if end >= line.len() {
+            return None;
         }
         place += 1;
-        if end >= line.len() {
-            return place;
-        }
         at = end + 1;
     }
 }
 
-// The places of n names among others, and whether all are there.
-#[derive(Clone, Copy)]
-struct Places {
-    at: [usize; 32],
-    found: bool,
-}
-
-// The places of the names of a line among those of another, if there are as many.
-fn places_on(first: &[u8], second: &[u8], n: usize) -> Places
-    requires { (n ≤ 32) × (n ≡ length (cut space first.now)) × (n ≡ length (cut space second.now)) }
-    ensures { PlacesOn (cut space first.now) (cut space second.now) result.at result.found }
+// The places of the n names of a line among those of another, if all are there.
+fn places_on(first: &[u8], second: &[u8], n: usize) -> Option<[usize; 32]>
+    requires { (n ≤ 32) × (n ≡ length (cut space first.now)) }
+    ensures { PlacesOn (cut space first.now) (cut space second.now) result }
 {
-    let mut at = [0usize; 32];
+    let mut places = [0usize; 32];
     let mut from: usize = 0;
     for i in 0..n {
         let end = text::piece_end(first, b' ', from);
-        let place = place_among(&first[from..end], second);
-        if place >= n {
-            return Places { at, found: false };
-        }
-        at[i] = place;
+        let place = place_among(&first[from..end], second)?;
+        places[i] = place;
         from = end + 1;
     }
-    Places { at, found: true }
+    Some(places)
 }
 
 // The sum of two scores; the mark, if either is the mark.
@@ -103,18 +92,18 @@ fn add(first: &[i32], second: &[i32], places: &[usize], n: usize, out: &mut [i32
 }
 
 // Writes the sheet of the names in line 1 and the sums, or the first of checks 18 and 14 that refuses.
-fn write_sums(line: &[u8], sums: &[i32], n: usize, out: &mut [u8]) -> Answer
+fn write_sums(line: &[u8], sums: &[i32], n: usize, out: &mut [u8]) -> Result<usize, Refusal>
     requires { (n ≤ 32) × (n ≡ length (cut space line.now)) × T (all is_name (cut space line.now))
         × (length sums.now ≡ row_start n) }
     ensures { SumsWritten line.now sums.now out.old result out.new }
 {
     if !matrix::scores_in_range(sums) {
-        return Answer::Refused(18);
+        return Err(Refusal::SumOutOfRange);
     }
     // room for line 1 and 32 lines of 32 values, 10 bytes each, and for what the writer asks beyond
     let mut text = [0u8; 10541];
     let written = writer::write(&mut text, line, sums, n);
-    listing::hand_over(&text, written, out)
+    listing::hand_over(&text[..written], out)
 }
 
 // The pool of two sheets of n and m entries, with their pair lists, or the first of checks 17, 18 and 14 that refuses.
@@ -126,22 +115,20 @@ fn pool_pairs(
     scores: &[i32],
     others: &[i32],
     out: &mut [u8],
-) -> Answer
+) -> Result<usize, Refusal>
     requires { AcceptedSheet first.now n scores.now × AcceptedSheet second.now m others.now }
     ensures { PairsPooled first.now second.now out.old result out.new }
 {
     if n != m {
-        return Answer::Refused(17);
+        return Err(Refusal::NamesDiffer);
     }
     let end = text::line_end(first, 0);
     let end2 = text::line_end(second, 0);
-    let places = places_on(&first[..end], &second[..end2], n);
-    if !places.found {
-        return Answer::Refused(17);
-    }
-    let at = places.at;
+    let Some(places) = places_on(&first[..end], &second[..end2], n) else {
+        return Err(Refusal::NamesDiffer);
+    };
     let mut sums = [0i32; 528];
-    add(scores, others, &at, n, &mut sums);
+    add(scores, others, &places, n, &mut sums);
     let count = matrix::pair_count(n);
     write_sums(&first[..end], &sums[..count], n, out)
 }
@@ -156,48 +143,33 @@ fn are_in_range(pairs: &[i32], n: usize) -> bool
 }
 
 // Checks 2 to 9 and 11 and, if none refuses, the number of entries, and the pair list in the first slots.
-fn read(sheet: &[u8], pairs: &mut [i32; 528]) -> Answer
+fn read(sheet: &[u8], pairs: &mut [i32; 528]) -> Result<usize, Refusal>
     ensures { Read sheet.now result pairs.new }
 {
-    let reading = reader::read_own(pairs, sheet);
-    match reading {
-        Answer::Refused(number) => Answer::Refused(number),
-        Answer::Count(n) => {
-            if !are_in_range(pairs, n) {
-                return Answer::Refused(11);
-            }
-            Answer::Count(n)
-        }
+    let n = reader::read_own(pairs, sheet)?;
+    if !are_in_range(pairs, n) {
+        return Err(Refusal::OutOfRange);
     }
+    Ok(n)
 }
 
 // The pool of two sheets: its length, and the pool in the first bytes; or the refusal, and nothing is written.
-pub fn pool(first: &[u8], second: &[u8], out: &mut [u8]) -> Answer
+pub fn pool(first: &[u8], second: &[u8], out: &mut [u8]) -> Result<usize, Refusal>
     ensures { PoolCall first.now second.now out.old result out.new }
 {
     let mut scores = [0i32; 528];
-    let reading = read(first, &mut scores);
-    match reading {
-        Answer::Refused(number) => Answer::Refused(number),
-        Answer::Count(n) => {
-            let mut others = [0i32; 528];
-            let reading2 = read(second, &mut others);
-            match reading2 {
-                Answer::Refused(number2) => Answer::Refused(number2),
-                Answer::Count(m) => {
-                    let count = matrix::pair_count(n);
-                    let count2 = matrix::pair_count(m);
-                    pool_pairs(
-                        first,
-                        second,
-                        n,
-                        m,
-                        &scores[..count],
-                        &others[..count2],
-                        out,
-                    )
-                }
-            }
-        }
-    }
+    let n = read(first, &mut scores)?;
+    let mut others = [0i32; 528];
+    let m = read(second, &mut others)?;
+    let count = matrix::pair_count(n);
+    let count2 = matrix::pair_count(m);
+    pool_pairs(
+        first,
+        second,
+        n,
+        m,
+        &scores[..count],
+        &others[..count2],
+        out,
+    )
 }

@@ -4,12 +4,12 @@
 
 ghost use Rattle.std.specs.Prelude.{◌≤◌, length, IfOk};
 
-use answers::Answer;
+use answers::Refusal;
 use std::io;
 use std::io::{Read, Write};
 
-fn write_refusal<R: Print>(rt: &R, number: usize) -> io::Result<()> {
-    println!(rt; "refused {number}")
+fn write_refusal<R: Print>(rt: &R, refusal: Refusal) -> io::Result<()> {
+    println!(rt; "refused {refusal}")
 }
 
 // Reads until the buffer is full or the input ends, and says how many bytes came.
@@ -34,9 +34,8 @@ pub fn run<R: Input + Print>(rt: &R, kind: i32) -> io::Result<()> {
     let mut output = [0u8; 2048];
     let mut reader = rt.reader();
     let size = read_full(&mut reader, &mut input)?;
-    let answer = farzhudyl::listing(kind, &input[..size], &mut output);
-    match answer {
-        Answer::Count(length) => io::writer(rt).write_all(&output[..length]),
-        Answer::Refused(number) => write_refusal(rt, number),
+    match farzhudyl::listing(kind, &input[..size], &mut output) {
+        Ok(length) => io::writer(rt).write_all(&output[..length]),
+        Err(refusal) => write_refusal(rt, refusal),
     }
 }

@@ -1,8 +1,8 @@
 -- The table of checks, line by line, and the answers.
-use mathlib.Core.Path.{◌≡◌, sym, ap, ap₂, ◌∙◌}
+use mathlib.Core.Path.{subst, ◌≡◌, sym, ap, ap₂, ◌∙◌}
 use mathlib.Core.Bool.{Bool, true, false}
 use mathlib.Core.List.{List, [], ◌++◌}
-use Prim.Native.Nat.{ℕ, suc, ◌+◌, ◌-◌, ◌≤◌, ◌<◌}
+use Prim.Native.Nat.{ℕ, ◌+◌, ◌-◌, ◌≤◌, ◌<◌}
 use native.Mathlib.Omega.{arith}
 use borrow.Author.Tests.{ne_eqb, eqb-false, ltb-false, lt-ltb, le-ltb}
 use native.Mathlib.Decide.{dec_lt}
@@ -17,10 +17,10 @@ use Rattle.integers.specs.Integers.{eq_z}
 use Rattle.integers.proofs.Linear.{eq_z_yes, yes_eq_z}
 use Rattle.clusters.specs.PairList.{Similarity, pair_list, row_start}
 use Rattle.clusters.proofs.PairList.{pair_list_cong, length_pair_list}
-use Rattle.answers.specs.declared.Answer.{Answer}
-use Rattle.answers.specs.declared.Answer.TheVariants.{Count, Refused}
-use Rattle.answers.specs.Answers.{answer, slots}
-use Rattle.answers.proofs.Answers.{refused_is, count_is, slots_written}
+use Rattle.std.specs.Prelude.{Ok, Err}
+use Rattle.answers.specs.declared.Refusal.{Refusal}
+use Rattle.answers.specs.Answers.{number, Answer, Answered, slots}
+use Rattle.answers.proofs.Answers.{slots_written, refused_is, found_is}
 use Rattle.answers.proofs.WaysOut as ways
 use Rattle.interface.specs.Sheet.{space, names, entries, value, pairs, mirrored}
 use Rattle.interface.specs.Refusals.{
@@ -83,33 +83,25 @@ pairs_held s n m is h = pair_list_cong n (square m) (value s) (λ a b p q. h a b
 
 -- the ways out of the reader
 module _ (s : List ℕ) (l : List ℤ) where
-  pub refused : {k : ℕ} → Gives (reader_checks s) (suc k) → ReaderCall s l (Refused (suc k)) l
+  pub refused : {e : Refusal} → Gives (reader_checks s) (number e) → ReaderCall s l (Err e) l
   unfolding reader_refusal
-  refused {k} g =
-      let (a, w) = ways.refused (entries s) (pairs s) l g.is (λ z. omega arith) in
+  refused g =
+      let (a, w) = ways.refused (entries s) (pairs s) l g.is in
       record { answered = a; written = w }
 
   pub passed : (n : ℕ) (m : List ℤ) {o : List ℤ} → Gives (reader_checks s) 0 → n ≡ entries s → Holds m n (value s)
-      → o ≡ pair_list n (square m) ++ drop (row_start n) l → ReaderCall s l (Count n) o
-  unfolding reader_refusal answer
+      → o ≡ pair_list n (square m) ++ drop (row_start n) l → ReaderCall s l (Ok n) o
+  unfolding reader_refusal
   passed n m g is h e =
       let z : row_start n ≡ length (pairs s) = ap row_start is ∙ sym (pairs_length s) in
       record {
-        answered = ap₂ answer g.is is;
+        answered = ways.is_found (entries s) (sym g.is) is;
         written =
             e
             ∙ ap₂ (λ (ps : List ℤ) (k : ℕ). ps ++ drop k l) (pairs_held s n m is h) z
             ∙ sym (slots_written (pairs s) l)
             ∙ ap (λ (r : ℕ). slots r (pairs s) l) g.is;
       }
-
--- the number of the refusal in an answer, which is not 0, and the entries
-module _ (s : List ℕ) where
-  pub number_is : (k : ℕ) → answer (reader_refusal s) (entries s) ≡ Refused k → (k ≡ reader_refusal s) × (k ≡ 0 → ⊥)
-  number_is k e = refused_is (reader_refusal s) (entries s) e
-
-  pub entries_is : (n : ℕ) → answer (reader_refusal s) (entries s) ≡ Count n → (reader_refusal s ≡ 0) × (n ≡ entries s)
-  entries_is n e = count_is (reader_refusal s) (entries s) e
 
 -- a sheet that passes: it has few entries, and the first slots are its pair list
 pub passes_few : (s : List ℕ) → reader_refusal s ≡ 0 → entries s ≤ 32
@@ -122,18 +114,17 @@ slots_pairs s l e = rw (e, slots_written (pairs s) l) (take_at (pairs s) _ (row_
 
 -- a sheet that was accepted in one pass
 module _ {s : List ℕ} {n : ℕ} {lent after : List ℤ} (a : PairsRead s n lent after) where
-  pub accepted_answer : answer (reader_refusal s) (entries s) ≡ Count n
-  unfolding answer
-  accepted_answer = sym (ap₂ answer (sym a.passed) a.count)
+  pub accepted_answer : Answered (reader_refusal s) (entries s) (Ok n)
+  accepted_answer = ways.is_found (entries s) a.passed a.count
 
   pub accepted_pairs : {count : ℕ} → count ≡ row_start n → take count after ≡ pairs s
   accepted_pairs {count} c =
       ap₂ (λ (k : ℕ) (l : List ℤ). take k l) (c ∙ ap row_start a.count) a.written
       ∙ take_at (pairs s) _ (row_start (entries s)) (pairs_length s)
 
-  pub accepted_call : (slot : List ℤ) {written o : List ℤ} → written ≡ pairs s → o ≡ written ++ drop (length written) slot → ReaderCall s slot (Count n) o
+  pub accepted_call : (slot : List ℤ) {written o : List ℤ} → written ≡ pairs s → o ≡ written ++ drop (length written) slot → ReaderCall s slot (Ok n) o
   accepted_call slot e w = record {
-    answered = sym accepted_answer;
+    answered = accepted_answer;
     written =
         w
         ∙ ap (λ (l : List ℤ). l ++ drop (length l) slot) e
@@ -142,42 +133,42 @@ module _ {s : List ℕ} {n : ℕ} {lent after : List ℤ} (a : PairsRead s n len
   }
 
 -- the entries and the pair list of a sheet that was read
-module _ (s : List ℕ) {n : ℕ} (e : answer (reader_refusal s) (entries s) ≡ Count n) where
+module _ (s : List ℕ) {n : ℕ} (e : Answered (reader_refusal s) (entries s) (Ok n)) where
   pub few_entries : n ≤ 32
-  few_entries = rw (entries_is s n e).1 (passes_few s (entries_is s n e).0)
+  few_entries = rw (found_is e).1 (passes_few s (found_is e).0)
 
   pub some_entries : 1 ≤ n
   unfolding entries names
-  some_entries = rw (entries_is s n e).1 (some_piece space _)
+  some_entries = rw (found_is e).1 (some_piece space _)
 
   pub pairs_read : (lent : List ℤ) {held : List ℤ} {count : ℕ} → held ≡ slots (reader_refusal s) (pairs s) lent → count ≡ row_start n → take count held ≡ pairs s
-  pairs_read lent w c = rw (c, (entries_is s n e).1, w) (slots_pairs s lent (entries_is s n e).0)
+  pairs_read lent w c = rw (c, (found_is e).1, w) (slots_pairs s lent (found_is e).0)
 
   pub pairs_long : {l : List ℤ} → l ≡ pairs s → length l ≡ row_start n
-  pairs_long p = ap length p ∙ pairs_length s ∙ ap row_start (sym (entries_is s n e).1)
+  pairs_long p = ap length p ∙ pairs_length s ∙ ap row_start (sym (found_is e).1)
 
   pub pairs_fit : (held : List ℤ) {count : ℕ} → count ≡ row_start n → take count held ≡ pairs s → count ≤ length held
   pairs_fit held {count} c p = omega (arith, pairs_long p, length-take count held)
 
 -- the same of slots of the caller's own
-pub pairs_own : {s : List ℕ} {r : Answer} {held : List ℤ} {n count : ℕ} → SheetRead s r held → r ≡ Count n → count ≡ row_start n → take count held ≡ pairs s
+pub pairs_own : {s : List ℕ} {r : Answer} {held : List ℤ} {n count : ℕ} → SheetRead s r held → r ≡ Ok n → count ≡ row_start n → take count held ≡ pairs s
 pairs_own {s} {held = held} {n = n} o e c =
-    let (z, is) = entries_is s n (sym o.answered ∙ e) in
+    let (z, is) = found_is (subst (λ (r : Answer). Answered (reader_refusal s) (entries s) r) e o.answered) in
     ap (λ (k : ℕ). take k held) (c ∙ ap row_start is) ∙ o.first z
 
 -- the name of an entry: whether there is one, and where it stands
 module _ (s : List ℕ) (i : ℕ) where
-  pub name_none : {k : ℕ} → answer (reader_refusal s) (entries s) ≡ Refused k → has_name s i ≡ false
+  pub name_none : {e : Refusal} → Answered (reader_refusal s) (entries s) (Err e) → has_name s i ≡ false
   unfolding has_name
-  name_none {k} e = let (is, some) = number_is s k e in rw (sym is, ne_eqb k 0 some)
+  name_none a = rw (ne_eqb (reader_refusal s) 0 (refused_is a).1)
 
-  pub name_past : {n : ℕ} → answer (reader_refusal s) (entries s) ≡ Count n → n ≤ i → has_name s i ≡ false
+  pub name_past : {n : ℕ} → Answered (reader_refusal s) (entries s) (Ok n) → n ≤ i → has_name s i ≡ false
   unfolding has_name
-  name_past {n} e h = let (z, is) = entries_is s n e in rw (z, le-ltb i (entries s) (omega arith))
+  name_past {n} e h = let (z, is) = found_is e in rw (z, le-ltb i (entries s) (omega arith))
 
-  pub name_some : {n : ℕ} → answer (reader_refusal s) (entries s) ≡ Count n → i < n → has_name s i ≡ true
+  pub name_some : {n : ℕ} → Answered (reader_refusal s) (entries s) (Ok n) → i < n → has_name s i ≡ true
   unfolding has_name
-  name_some {n} e h = let (z, is) = entries_is s n e in rw (z, lt-ltb i (entries s) (omega arith))
+  name_some {n} e h = let (z, is) = found_is e in rw (z, lt-ltb i (entries s) (omega arith))
 
   pub no_part : (from : ℕ) → has_name s i ≡ false → from ≡ 0 → NamePart s i from from
   unfolding name_of name_start

@@ -1,10 +1,11 @@
 #![tactic(auto)]
 
-ghost use Rattle.std.specs.Prelude.{◌≡◌, false, not, cond, ◌++◌, map, suc, ◌+◌, ◌≤◌, ◌<◌, length, drop};
+ghost use Rattle.std.specs.Prelude.{◌≡◌, false, not, cond, ◌++◌, map, suc, ◌+◌, ◌≤◌, ◌<◌, length, drop, OnOk};
 ghost use Rattle.std.proofs.lemmas.List.Edits.{sets};
 ghost use Rattle.lists.specs.Lists.{all, below};
 ghost use Rattle.integers.specs.Integers.{eq_z};
 ghost use Rattle.clusters.specs.PairList.{row_start, pair_list};
+ghost use Rattle.answers.specs.Answers.{number_of};
 ghost use Rattle.interface.specs.Sheet.{space, cut, entries, value, mirrored};
 ghost use Rattle.interface.specs.Refusals.{is_row, wrong_lines, wrong_values, reader_refusal};
 ghost use Rattle.interface.specs.Calls.{ReaderCall, start_of, NameCall};
@@ -12,52 +13,48 @@ ghost use Rattle.reader.specs.Square.{number_said, square, Holds};
 ghost use Rattle.reader.specs.Names.{NamePart};
 ghost use Rattle.reader.specs.Own.{SheetRead};
 
-use answers::{Answer, ValueRead};
+use answers::Refusal;
 
-// Reads a line of n values into the slots from base on; answers 8 if the line is refused, else 0.
-fn read_row(line: &[u8], n: usize, base: usize, values: &mut [i32]) -> usize
+// Reads a line of n values into the slots from base on, or refuses it.
+fn read_row(line: &[u8], n: usize, base: usize, values: &mut [i32]) -> Result<(), Refusal>
     requires { base + n ≤ length values.old }
-    ensures value { result ≡ cond (not (is_row n (cut space line.now))) 8 0 }
-    ensures values_after { result ≡ 0 →
-        values.new ≡ sets values.old base (map number_said (cut space line.now)) }
+    ensures value { number_of result ≡ cond (not (is_row n (cut space line.now))) 8 0 }
+    ensures values_after { OnOk result
+        (values.new ≡ sets values.old base (map number_said (cut space line.now))) }
 {
     let mut at: usize = 0;
-    let mut k: usize = 0;
-    while k < n {
-        let ValueRead::Value(pair, next) = text::read_value(line, at) else {
-            return 8;
+    for k in 0..n {
+        let Ok((pair, next)) = text::read_value(line, at) else {
+            return Err(Refusal::WrongValues);
         };
         let number = pairs::list_number(pair);
         values[base + k] = number;
-        k += 1;
         let end = next.at;
         if end >= line.len() {
-            if k < n {
-                return 8;
+            if k + 1 < n {
+                return Err(Refusal::WrongValues);
             }
-            return 0;
+            return Ok(());
         }
         at = end + 1;
     }
-    8
+    Err(Refusal::WrongValues)
 }
 
-// Reads the n value lines; answers 8 if one is refused, else 0.
-fn read_rows(sheet: &[u8], n: usize, values: &mut [i32]) -> usize
+// Reads the n value lines, or refuses one.
+fn read_rows(sheet: &[u8], n: usize, values: &mut [i32]) -> Result<(), Refusal>
     requires { (n ≡ entries sheet.now) × (n ≤ 32) × (wrong_lines sheet.now ≡ false)
         × (length values.old ≡ 1024) }
-    ensures value { result ≡ cond (wrong_values sheet.now) 8 0 }
-    ensures holds { result ≡ 0 → Holds values.new n (value sheet.now) }
+    ensures value { number_of result ≡ cond (wrong_values sheet.now) 8 0 }
+    ensures holds { OnOk result (Holds values.new n (value sheet.now)) }
 {
     let mut at = text::line_end(sheet, 0) + 1;
     for i in 0..n {
         let end = text::line_end(sheet, at);
-        if read_row(&sheet[at..end], n, i * 32, values) != 0 {
-            return 8;
-        }
+        read_row(&sheet[at..end], n, i * 32, values)?;
         at = end + 1;
     }
-    0
+    Ok(())
 }
 
 // Row i equals column i, up to the diagonal.
@@ -95,11 +92,9 @@ fn fill_row(pairs: &mut [i32], values: &[i32], i: usize, start: usize)
     ensures { pairs.new
         ≡ sets pairs.old start (map (square values.now i) (below (suc i))) }
 {
-    let count = i + 1;
-    for j in 0..count {
-        let from = i * 32 + j;
-        pairs[start + j] = values[from];
-    }
+    let from = i * 32;
+    let end = start + i + 1;
+    pairs[start..end].copy_from_slice(&values[from..from + i + 1]);
 }
 
 // Writes the pair list to the first slots.
@@ -117,87 +112,69 @@ fn fill(pairs: &mut [i32], values: &[i32], n: usize)
 
 // Checks 2 to 9, one after the other, and, if none refuses, the number of entries, and the pair list in the first
 // slots: for sheets that were not accepted in one pass.
-pub fn read_checked(sheet: &[u8], pairs: &mut [i32; 528]) -> Answer
+pub fn read_checked(sheet: &[u8], pairs: &mut [i32; 528]) -> Result<usize, Refusal>
     ensures { ReaderCall sheet.now pairs.old result pairs.new }
 {
     if sheet::wrong_length(sheet) {
-        return Answer::Refused(2);
+        return Err(Refusal::WrongLength);
     }
     if sheet::wrong_byte(sheet) {
-        return Answer::Refused(3);
+        return Err(Refusal::WrongByte);
     }
     if sheet::wrong_names(sheet) {
-        return Answer::Refused(4);
+        return Err(Refusal::WrongNames);
     }
     if sheet::equal_names(sheet) {
-        return Answer::Refused(5);
+        return Err(Refusal::EqualNames);
     }
     let n = sheet::entry_count(sheet);
     if matrix::is_wrong_count(n) {
-        return Answer::Refused(6);
+        return Err(Refusal::WrongCount);
     }
     if sheet::wrong_lines(sheet, n) {
-        return Answer::Refused(7);
+        return Err(Refusal::WrongLines);
     }
     let mut values = [0i32; 1024];
-    if read_rows(sheet, n, &mut values) != 0 {
-        return Answer::Refused(8);
-    }
+    read_rows(sheet, n, &mut values)?;
     if !is_mirrored(&values, n) {
-        return Answer::Refused(9);
+        return Err(Refusal::NotMirrored);
     }
     fill(pairs, &values, n);
-    Answer::Count(n)
+    Ok(n)
 }
 
 // The same in one pass where that will do, into slots of the caller's own: nothing is known of those if the sheet is
 // refused.
-pub fn read_own(pairs: &mut [i32; 528], sheet: &[u8]) -> Answer
+pub fn read_own(pairs: &mut [i32; 528], sheet: &[u8]) -> Result<usize, Refusal>
     ensures { SheetRead sheet.now result pairs.new }
 {
-    let n = accept::accept(pairs, sheet);
-    if n > 0 {
-        return Answer::Count(n);
+    if let Some(n) = accept::accept(pairs, sheet) {
+        return Ok(n);
     }
     read_checked(sheet, pairs)
 }
 
-// Writes the numbers to the first slots.
-fn put(out: &mut [i32], numbers: &[i32])
-    requires { length numbers.now ≤ length out.old }
-    ensures { out.new ≡
-        numbers.now ++ drop (length numbers.now) out.old }
-{
-    for i in 0..numbers.len() {
-        let number = numbers[i];
-        out[i] = number;
-    }
-}
-
 // Checks 2 to 9 and, if none refuses, the number of entries, and the pair list in the first slots. A refusal writes no
 // slot, so one pass goes into slots of its own.
-pub fn read(sheet: &[u8], pairs: &mut [i32; 528]) -> Answer
+pub fn read(sheet: &[u8], pairs: &mut [i32; 528]) -> Result<usize, Refusal>
     ensures { ReaderCall sheet.now pairs.old result pairs.new }
 {
     let mut own = [0i32; 528];
-    let n = accept::accept(&mut own, sheet);
-    if n == 0 {
+    let Some(n) = accept::accept(&mut own, sheet) else {
         return read_checked(sheet, pairs);
-    }
+    };
     let count = matrix::pair_count(n);
-    put(pairs, &own[..count]);
-    Answer::Count(n)
+    pairs[..count].copy_from_slice(&own[..count]);
+    Ok(n)
 }
 
-// The number of the first of checks 2 to 9 that refuses the sheet, 0 if none does.
-pub fn refusal(sheet: &[u8]) -> usize
-    ensures { result ≡ reader_refusal sheet.now }
+// Checks 2 to 9.
+pub fn check(sheet: &[u8]) -> Result<(), Refusal>
+    ensures { number_of result ≡ reader_refusal sheet.now }
 {
     let mut pairs = [0i32; 528];
-    let Answer::Refused(number) = read_own(&mut pairs, sheet) else {
-        return 0;
-    };
-    number
+    read_own(&mut pairs, sheet)?;
+    Ok(())
 }
 
 // The place where piece i of the line starts.
@@ -206,10 +183,8 @@ fn piece_start(line: &[u8], i: usize) -> usize
     ensures { result ≡ start_of (cut space line.now) i }
 {
     let mut at: usize = 0;
-    let mut left = i;
-    while left > 0 {
+    for _ in 0..i {
         at = text::piece_end(line, b' ', at) + 1;
-        left -= 1;
     }
     at
 }
@@ -225,27 +200,18 @@ pub struct Part {
 pub fn name_part(sheet: &[u8], entry: usize) -> Part
     ensures { NamePart sheet.now entry result.start result.end }
 {
-    let none: usize = 0;
+    let none = Part { start: 0, end: 0 };
     let mut pairs = [0i32; 528];
-    let Answer::Count(n) = read_own(&mut pairs, sheet) else {
-        return Part {
-            start: none,
-            end: none,
-        };
+    let Ok(n) = read_own(&mut pairs, sheet) else {
+        return none;
     };
     if entry >= n {
-        return Part {
-            start: none,
-            end: none,
-        };
+        return none;
     }
-    let end = text::line_end(sheet, 0);
-    let from = piece_start(&sheet[..end], entry);
-    let to = text::piece_end(&sheet[..end], b' ', from);
-    Part {
-        start: from,
-        end: to,
-    }
+    let line = &sheet[..text::line_end(sheet, 0)];
+    let start = piece_start(line, entry);
+    let end = text::piece_end(line, b' ', start);
+    Part { start, end }
 }
 
 // The name of an entry as its own part of the sheet.
@@ -253,7 +219,5 @@ pub fn name(sheet: &[u8], entry: usize) -> &[u8]
     ensures { NameCall sheet.now sheet.entry.ref_ptr entry result.now result.ref_ptr }
 {
     let part = name_part(sheet, entry);
-    let start = part.start;
-    let end = part.end;
-    &sheet[start..end]
+    &sheet[part.start..part.end]
 }

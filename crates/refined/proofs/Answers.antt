@@ -1,20 +1,16 @@
--- What the checks leave, and the two ways out of the call.
-use mathlib.Core.Path.{◌≡◌, refl, sym, ap₂, ◌∙◌}
+-- What the checks leave.
+use mathlib.Core.Path.{◌≡◌, refl}
 use mathlib.Core.List.{List}
-use Prim.Native.Nat.{ℕ, zero, suc, ◌+◌, ◌^◌, ◌≤◌}
+use Prim.Native.Nat.{ℕ, ◌+◌, ◌^◌, ◌≤◌}
 use lib.IntN.{ℤ}
 use lib.ListN.{length}
 use Rattle.lists.specs.Lists.{all}
 use Rattle.lists.proofs.Tests.{T_false}
 use Rattle.integers.specs.Range.{Bounded}
 use Rattle.sets.specs.Sets.{size}
-use Rattle.clusters.specs.PairList.{row_start, score}
-use Rattle.clusters.specs.Refined.{refined_weight}
+use Rattle.clusters.specs.PairList.{row_start}
 use Rattle.clusters.proofs.Scored.{scored_in_range}
-use Rattle.answers.specs.declared.Refined.TheVariants.{Weight, Refused}
-use Rattle.answers.specs.Refined.{refined_answer}
 use Rattle.interface.specs.Refusals.{wrong_side, refined_checks, refined_refusal}
-use Rattle.interface.specs.Calls.{RefinedCall}
 use Rattle.interface.proofs.Refusals.{under, passes}
 use Rattle.interface.proofs.Sides.{sides}
 use Rattle.matrix.proofs.Checks.{checked}
@@ -28,16 +24,3 @@ weight_pass n l A e =
     let c = checked n l checks tt e refl refl refl in
     let s = sides {n = n} {A = A} (T_false {b = wrong_side n A} (passes 19 checks tt e)) in
     (c.few, c.long, range_bounded l (scored_in_range l c.range (passes 16 checks tt e)), s.two, s.rest)
-
-module _ {n : ℕ} {l : List ℤ} {A r : ℕ} (e : r ≡ refined_refusal n l A) where
-  pub weight_refused : (r ≡ 0 → ⊥) → RefinedCall n l A (Refused r)
-  unfolding refined_answer
-  weight_refused f = record { answered = go r (refined_refusal n l A) e f }
-    where
-      go : (r k : ℕ) → r ≡ k → (r ≡ 0 → ⊥) → Refused r ≡ refined_answer k (refined_weight n (score l) A)
-      go zero k e f = absurd (f refl)
-      go (suc r) k e f = rw (sym e)
-
-  pub weight_answered : {w : ℤ} → r ≡ 0 → w ≡ refined_weight n (score l) A → RefinedCall n l A (Weight w)
-  unfolding refined_answer
-  weight_answered z q = record { answered = ap₂ refined_answer (sym z ∙ e) q }

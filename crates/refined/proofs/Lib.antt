@@ -1,6 +1,5 @@
 pub mod Tables
 pub mod Sides
-pub mod Kept
 pub mod Outside
 pub mod Weight
 pub mod Answers

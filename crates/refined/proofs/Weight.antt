@@ -14,8 +14,8 @@ use Rattle.integers.specs.Range.{Within, Bounded}
 use Rattle.integers.proofs.Range.{within_grow, within_equal, zero_within}
 use Rattle.sets.specs.Sets.{◌∋◌, ◌∌◌, others, size}
 use Rattle.sets.proofs.Sets.{clash}
-use Rattle.smallest.specs.Smallest.{keep_smallest}
-use Rattle.smallest.proofs.Tops.{tops, tops_within, tops_kept}
+use Rattle.smallest.specs.Smallest.{kept_with, tops}
+use Rattle.smallest.proofs.Tops.{tops_within, tops_kept}
 use Rattle.clusters.specs.PairList.{Similarity, score}
 use Rattle.clusters.specs.Refined.{Quartet, quartets, doubled_score, refined_weight, Across}
 use Rattle.clusters.proofs.Quartets.{in_quartets, quartets_fold, quartets_many}
@@ -28,9 +28,9 @@ use Rattle.refined.specs.Kept.{DistanceTable, keep_quartets}
 use Rattle.refined.proofs.Outside.{loops}
 
 -- the loops take the quartets in their order
-quartets_kept : (d : Similarity) (n A k : ℕ) (l : List ℤ) → keep_quartets d n A k (others n A) l ≡ foldl (keep_smallest k) l (map (doubled_score d) (quartets n A))
-quartets_kept d n A k l = loops d n A k l
-    ∙ sym (foldl-map (doubled_score d) (keep_smallest k) (quartets n A) l ∙ quartets_fold n A (λ l q. keep_smallest k l (doubled_score d q)) l)
+quartets_kept : (d : Similarity) (n A : ℕ) (l : List ℤ) → keep_quartets d n A (others n A) l ≡ foldl kept_with l (map (doubled_score d) (quartets n A))
+quartets_kept d n A l = loops d n A l
+    ∙ sym (foldl-map (doubled_score d) kept_with (quartets n A) l ∙ quartets_fold n A (λ l q. kept_with l (doubled_score d q)) l)
 
 -- a table with the scores of any two different entries has the doubled score of any quartet
 module _ {n : ℕ} (l : List ℤ) {t : List ℤ} (h : Holds n (score l) t) (A : ℕ) where
@@ -60,20 +60,20 @@ module _ {n : ℕ} (l : List ℤ) {t : List ℤ} (h : Holds n (score l) t) (A : 
     unfolding scores
     small z m = within_grow (lit≤ tt) (quartets_within (score l) (score_within s) n A z m)
 
-    kept_are : keep_quartets (entry t) n A k outside (tops k) ≡ foldl (keep_smallest k) (tops k) scores
+    kept_are : keep_quartets (entry t) n A outside (tops k) ≡ foldl kept_with (tops k) scores
     unfolding scores
-    kept_are = ap (λ (m : List ℕ). keep_quartets (entry t) n A k m (tops k)) o ∙ quartets_kept (entry t) n A k (tops k)
-        ∙ ap (foldl (keep_smallest k) (tops k)) same_scores
+    kept_are = ap (λ (m : List ℕ). keep_quartets (entry t) n A m (tops k)) o ∙ quartets_kept (entry t) n A (tops k)
+        ∙ ap (foldl kept_with (tops k)) same_scores
 
-    pub kept_within : Bounded (2 ^ 30) (keep_quartets (entry t) n A k outside (tops k))
+    pub kept_within : Bounded (2 ^ 30) (keep_quartets (entry t) n A outside (tops k))
     kept_within = subst (Bounded (2 ^ 30)) (sym kept_are) (tops_within scores small k)
 
-    pub kept_weight : n ≤ 32 → 2 ≤ size n A → size n A + 2 ≤ n → k ≡ n - 3 → sum (keep_quartets (entry t) n A k outside (tops k)) ≡ refined_weight n (score l) A
+    pub kept_weight : 2 ≤ size n A → size n A + 2 ≤ n → k ≡ n - 3 → sum (keep_quartets (entry t) n A outside (tops k)) ≡ refined_weight n (score l) A
     unfolding refined_weight scores
-    kept_weight few two rest e =
+    kept_weight two rest e =
         let many = quartets_many n A two rest in
         ap sum kept_are
-        ∙ tops_kept scores small k (omega arith) (omega (arith, length-map (quartets n A) (doubled_score (score l))))
+        ∙ tops_kept scores small k (omega (arith, length-map (quartets n A) (doubled_score (score l))))
         ∙ ap (λ (k : ℕ). sum_of_smallest k scores) e
 
 -- a table filled with the scores

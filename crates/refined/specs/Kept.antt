@@ -1,11 +1,11 @@
 -- The code's own vocabulary, which nobody need believe: the distances in a table, and the smallest doubled scores of a
 -- split's quartets, kept one by one.
-use Rattle.std.specs.Prelude.{◌≡◌, ℕ, ◌+◌, ◌*◌, ◌^◌, ◌≤◌, ◌<◌, ℤ, length, get_or}
+use Rattle.std.specs.Prelude.{◌≡◌, ℕ, ◌+◌, ◌*◌, ◌^◌, ◌≤◌, ◌<◌, ℤ, length, get_or, take}
 use mathlib.Core.List.{List, foldl}
 use Rattle.lists.specs.Lists.{below}
 use Rattle.integers.specs.Range.{Within, Bounded}
 use Rattle.sets.specs.Sets.{size, members}
-use Rattle.smallest.specs.Smallest.{keep_smallest}
+use Rattle.smallest.specs.Smallest.{kept_with}
 use Rattle.clusters.specs.PairList.{Similarity, row_start}
 use Rattle.clusters.specs.Refined.{quartet, doubled_score}
 use Rattle.links.specs.Table.{entry}
@@ -24,18 +24,17 @@ pub record DistanceTable (n : ℕ) (t : List ℤ) : Type 0 where
 abbrev pub Below : ℕ → List ℕ → Type 0
 Below n l = (i : ℕ) → i < length l → get_or l i 0 < n
 
--- the k smallest of the numbers kept and the doubled scores of the quartets aa'|bb', with the entries outside A in a
--- list: b' before b, which is the i-th; b any of them; a' in A before a; a in A
-unfoldable pub keep_beside : Similarity → ℕ → ℕ → ℕ → List ℕ → ℕ → List ℤ → List ℤ
-keep_beside d k a a' outside i kept =
-    foldl (λ l j. keep_smallest k l (doubled_score d (quartet (a, a') (get_or outside i 0, get_or outside j 0)))) kept
-    (below i)
+-- the smallest of the numbers kept and the doubled scores of the quartets aa'|bb', as many as were kept: b' in a
+-- list; b in the list of those outside A, b' before it; a' in A before a; a in A
+unfoldable pub keep_beside : Similarity → ℕ → ℕ → ℕ → List ℕ → List ℤ → List ℤ
+keep_beside d a a' b before kept = foldl (λ l b'. kept_with l (doubled_score d (quartet (a, a') (b, b')))) kept before
 
-unfoldable pub keep_across : Similarity → ℕ → ℕ → ℕ → List ℕ → List ℤ → List ℤ
-keep_across d k a a' outside kept = foldl (λ l i. keep_beside d k a a' outside i l) kept (below (length outside))
+unfoldable pub keep_across : Similarity → ℕ → ℕ → List ℕ → List ℤ → List ℤ
+keep_across d a a' outside kept =
+    foldl (λ l i. keep_beside d a a' (get_or outside i 0) (take i outside) l) kept (below (length outside))
 
-unfoldable pub keep_within : Similarity → ℕ → ℕ → List ℕ → ℕ → List ℤ → List ℤ
-keep_within d A k outside a kept = foldl (λ l a'. keep_across d k a a' outside l) kept (members a A)
+unfoldable pub keep_within : Similarity → ℕ → List ℕ → ℕ → List ℤ → List ℤ
+keep_within d A outside a kept = foldl (λ l a'. keep_across d a a' outside l) kept (members a A)
 
-unfoldable pub keep_quartets : Similarity → ℕ → ℕ → ℕ → List ℕ → List ℤ → List ℤ
-keep_quartets d n A k outside kept = foldl (λ l a. keep_within d A k outside a l) kept (members n A)
+unfoldable pub keep_quartets : Similarity → ℕ → ℕ → List ℕ → List ℤ → List ℤ
+keep_quartets d n A outside kept = foldl (λ l a. keep_within d A outside a l) kept (members n A)

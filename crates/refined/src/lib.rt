@@ -1,11 +1,11 @@
 // The refined weight of a split (document 02, 2.5).
 #![tactic(auto)]
 
-ghost use Rattle.std.specs.Prelude.{◌≡◌, ◌*◌, ◌<◌, ◌≤◌, length, take};
-ghost use Rattle.integers.specs.Integers.{Sorted};
+ghost use Rattle.std.specs.Prelude.{◌≡◌, ◌*◌, ◌<◌, ◌≤◌, length};
 ghost use Rattle.sets.specs.Sets.{others};
 ghost use Rattle.clusters.specs.PairList.{score};
 ghost use Rattle.clusters.specs.Refined.{quartet, doubled_score, refined_weight};
+ghost use Rattle.answers.specs.Answers.{number_of};
 ghost use Rattle.interface.specs.Refusals.{wrong_side, refined_refusal};
 ghost use Rattle.interface.specs.Calls.{RefinedCall};
 ghost use Rattle.matrix.specs.Rows.{Cleared};
@@ -13,10 +13,9 @@ ghost use Rattle.links.specs.Table.{entry};
 ghost use Rattle.refined.specs.Kept.{Weighable, DistanceTable, Below};
 ghost use Rattle.refined.specs.Kept.{keep_beside, keep_across, keep_within, keep_quartets};
 
-use answers::Refined;
-
-// Beyond every doubled score.
-const BEYOND: i64 = 1073741824;
+use answers::Refusal;
+use arrayvec::ArrayVec;
+use smallest::Smallest;
 
 // Check 19: a member numbered n or more, or fewer than two entries on either side.
 fn is_wrong_side(n: usize, side: u32) -> bool
@@ -30,18 +29,15 @@ fn is_wrong_side(n: usize, side: u32) -> bool
     (members < 2) | (n < members + 2)
 }
 
-// The first number of the call's table whose condition holds, 0 if none does.
-fn weight_refusal(n: usize, pairs: &[i32], side: u32) -> usize
-    ensures { result ≡ refined_refusal n pairs.now side }
+// The checks of the call.
+fn check_weight(n: usize, pairs: &[i32], side: u32) -> Result<(), Refusal>
+    ensures { number_of result ≡ refined_refusal n pairs.now side }
 {
-    let refused = matrix::distances_refusal(n, pairs);
-    if refused != 0 {
-        return refused;
-    }
+    matrix::check_distances(n, pairs)?;
     if is_wrong_side(n, side) {
-        return 19;
+        return Err(Refusal::WrongSide);
     }
-    0
+    Ok(())
 }
 
 // The doubled score of the quartet of a and a2 on one side, b and b2 on the other, by a table of the distances.
@@ -55,106 +51,69 @@ fn doubled_score(t: &[i64], n: usize, a: usize, a2: usize, b: usize, b2: usize) 
     integers::difference(integers::smaller(straight, crossed), within)
 }
 
-// Entries, rising: the first `count` of the list.
-#[derive(Clone, Copy)]
-pub struct Entries {
-    pub list: [usize; 32],
-    pub count: usize,
-}
-
-// The entries outside the side.
-fn outside_of(n: usize, side: u32) -> Entries
+// The entries outside the side, rising.
+fn outside_of(n: usize, side: u32) -> ArrayVec<usize, 32>
     requires { n ≤ 32 }
-    ensures { (result.count ≡ length (others n side)) × (take result.count result.list ≡ others n side) }
+    ensures { result.items ≡ others n side }
 {
-    let mut list = [0usize; 32];
-    let mut count = 0;
+    let mut outside = ArrayVec::new();
     for b in 0..n {
-        if sets::has(side, b) {
-            continue;
+        if !sets::has(side, b) {
+            outside.push(b);
         }
-        list[count] = b;
-        count += 1;
     }
-    Entries { list, count }
+    outside
 }
 
-// Keeps the k smallest, with the doubled scores of the quartets of a, a2, the i-th entry outside the side and each of
-// those before it.
+// Keeps the smallest, with the doubled scores of the quartets of a and a2 on one side, b and each of those before it on
+// the other.
 fn keep_beside(
-    kept: &mut [i64],
-    k: usize,
+    kept: &mut Smallest,
     t: &[i64],
     n: usize,
-    outside: &[usize],
+    before: &[usize],
     a: usize,
     a2: usize,
-    i: usize,
+    b: usize,
 )
-    requires { DistanceTable n t.now × (a < n) × (a2 < n) × Below n outside.now × (i < length outside.now)
-        × (k < length kept.old) × Sorted (take k kept.old) }
-    ensures { take k kept.new ≡
-        keep_beside (entry t.now) k a a2 outside.now i (take k kept.old) }
+    requires { DistanceTable n t.now × (a < n) × (a2 < n) × (b < n) × Below n before.now }
+    ensures { kept.new ≡ keep_beside (entry t.now) a a2 b before.now kept.old }
 {
-    let b = outside[i];
-    for j in 0..i {
-        let b2 = outside[j];
-        smallest::keep_smallest(kept, k, doubled_score(t, n, a, a2, b, b2));
+    for &b2 in before {
+        kept.keep(doubled_score(t, n, a, a2, b, b2));
     }
 }
 
 // The same for each entry outside the side.
-fn keep_across(
-    kept: &mut [i64],
-    k: usize,
-    t: &[i64],
-    n: usize,
-    outside: &[usize],
-    a: usize,
-    a2: usize,
-)
-    requires { DistanceTable n t.now × (a < n) × (a2 < n) × Below n outside.now
-        × (k < length kept.old) × Sorted (take k kept.old) }
-    ensures { take k kept.new ≡
-        keep_across (entry t.now) k a a2 outside.now (take k kept.old) }
+fn keep_across(kept: &mut Smallest, t: &[i64], n: usize, outside: &[usize], a: usize, a2: usize)
+    requires { DistanceTable n t.now × (a < n) × (a2 < n) × Below n outside.now }
+    ensures { kept.new ≡ keep_across (entry t.now) a a2 outside.now kept.old }
 {
-    for i in 0..outside.len() {
-        keep_beside(kept, k, t, n, outside, a, a2, i);
+    for (i, &b) in outside.iter().enumerate() {
+        keep_beside(kept, t, n, &outside[..i], a, a2, b);
     }
 }
 
 // The same for each a2 of the side before a.
-fn keep_within(
-    kept: &mut [i64],
-    k: usize,
-    t: &[i64],
-    n: usize,
-    side: u32,
-    outside: &[usize],
-    a: usize,
-)
-    requires { DistanceTable n t.now × (a < n) × Below n outside.now
-        × (k < length kept.old) × Sorted (take k kept.old) }
-    ensures { take k kept.new ≡
-        keep_within (entry t.now) side k outside.now a (take k kept.old) }
+fn keep_within(kept: &mut Smallest, t: &[i64], n: usize, side: u32, outside: &[usize], a: usize)
+    requires { DistanceTable n t.now × (a < n) × Below n outside.now }
+    ensures { kept.new ≡ keep_within (entry t.now) side outside.now a kept.old }
 {
     for a2 in 0..a {
         if sets::has(side, a2) {
-            keep_across(kept, k, t, n, outside, a, a2);
+            keep_across(kept, t, n, outside, a, a2);
         }
     }
 }
 
 // The same for each a of the side.
-fn keep_quartets(kept: &mut [i64], k: usize, t: &[i64], n: usize, side: u32, outside: &[usize])
-    requires { DistanceTable n t.now × Below n outside.now
-        × (k < length kept.old) × Sorted (take k kept.old) }
-    ensures { take k kept.new ≡
-        keep_quartets (entry t.now) n side k outside.now (take k kept.old) }
+fn keep_quartets(kept: &mut Smallest, t: &[i64], n: usize, side: u32, outside: &[usize])
+    requires { DistanceTable n t.now × Below n outside.now }
+    ensures { kept.new ≡ keep_quartets (entry t.now) n side outside.now kept.old }
 {
     for a in 0..n {
         if sets::has(side, a) {
-            keep_within(kept, k, t, n, side, outside, a);
+            keep_within(kept, t, n, side, outside, a);
         }
     }
 }
@@ -164,38 +123,19 @@ fn weight_with(table: &mut [i64], n: usize, pairs: &[i32], side: u32) -> i64
     requires { Weighable n pairs.now side × (n * 32 ≤ length table.old) × Cleared table.old }
     ensures { result ≡ refined_weight n (score pairs.now) side }
 {
-    let k = n - 3;
     links::fill(pairs, n, table);
-    let found = outside_of(n, side);
-    let count = found.count;
-    let list = found.list;
-    let mut kept = [BEYOND; 32];
-    keep_quartets(&mut kept, k, table, n, side, &list[..count]);
-    smallest::total(&kept, k)
+    let outside = outside_of(n, side);
+    let mut kept = Smallest::new(n - 3);
+    keep_quartets(&mut kept, table, n, side, outside.as_slice());
+    kept.total()
 }
 
-// The same, with a table for at most 8, 16 and 32 entries: an array is cleared whole.
-fn weight_8(n: usize, pairs: &[i32], side: u32) -> i64
-    requires { Weighable n pairs.now side × (n ≤ 8) }
+// The same, with a table of N distances, which is cleared whole.
+fn weight_in<const N: usize>(n: usize, pairs: &[i32], side: u32) -> i64
+    requires { Weighable n pairs.now side × (n * 32 ≤ N) × (N ≤ 1024) }
     ensures { result ≡ refined_weight n (score pairs.now) side }
 {
-    let mut table = [0i64; 256];
-    weight_with(&mut table, n, pairs, side)
-}
-
-fn weight_16(n: usize, pairs: &[i32], side: u32) -> i64
-    requires { Weighable n pairs.now side × (n ≤ 16) }
-    ensures { result ≡ refined_weight n (score pairs.now) side }
-{
-    let mut table = [0i64; 512];
-    weight_with(&mut table, n, pairs, side)
-}
-
-fn weight_32(n: usize, pairs: &[i32], side: u32) -> i64
-    requires { Weighable n pairs.now side }
-    ensures { result ≡ refined_weight n (score pairs.now) side }
-{
-    let mut table = [0i64; 1024];
+    let mut table = [0i64; N];
     weight_with(&mut table, n, pairs, side)
 }
 
@@ -205,21 +145,18 @@ fn weight_of(n: usize, pairs: &[i32], side: u32) -> i64
     ensures { result ≡ refined_weight n (score pairs.now) side }
 {
     if n <= 8 {
-        return weight_8(n, pairs, side);
+        return weight_in::<256>(n, pairs, side);
     }
     if n <= 16 {
-        return weight_16(n, pairs, side);
+        return weight_in::<512>(n, pairs, side);
     }
-    weight_32(n, pairs, side)
+    weight_in::<1024>(n, pairs, side)
 }
 
 // The call.
-pub fn refined_weight(n: usize, pairs: &[i32], side: u32) -> Refined
+pub fn refined_weight(n: usize, pairs: &[i32], side: u32) -> Result<i64, Refusal>
     ensures { RefinedCall n pairs.now side result }
 {
-    let refusal = weight_refusal(n, pairs, side);
-    if refusal != 0 {
-        return Refined::Refused(refusal);
-    }
-    Refined::Weight(weight_of(n, pairs, side))
+    check_weight(n, pairs, side)?;
+    Ok(weight_of(n, pairs, side))
 }

@@ -24,7 +24,8 @@ use Rattle.pairs.specs.declared.Carried.TheVariants.{Scored, Unscored}
 use Rattle.pairs.specs.Pairs.{mark, number_for, carried, is_scored}
 use Rattle.pairs.proofs.Pairs.{unmarked}
 use Rattle.clusters.specs.PairList.{Similarity, Symmetric, one_point, point_limit, score_limit, score}
-use Rattle.clusters.specs.Groups.{Group, HasLine, strong, kind_of}
+use Rattle.clusters.specs.Groups.{HasLine, strong, kind_of}
+use Rattle.clusters.specs.declared.Group.{Group}
 use Rattle.clusters.specs.Doubled.{twice, doubled_pair, Doubles, doubled_group}
 use Rattle.clusters.proofs.PairList.{score_symm}
 use Rattle.clusters.proofs.Doubled.{twice_pos, twice_neg, twice_same, groups_within, groups_within_lem, groups_doubled, same_range_doubled, weight_doubled}

@@ -17,7 +17,8 @@ use Rattle.pairs.specs.declared.Carried.{Carried}
 use Rattle.pairs.specs.declared.Carried.TheVariants.{Scored, Unscored}
 use Rattle.pairs.specs.Pairs.{number_for, carried}
 use Rattle.clusters.specs.PairList.{score, score_limit, scores_in_range, is_allowed_pair, one_point, point_limit}
-use Rattle.clusters.specs.Groups.{strong, kind_of, index, written_set, Group, HasLine}
+use Rattle.clusters.specs.Groups.{strong, kind_of, index, written_set, HasLine}
+use Rattle.clusters.specs.declared.Group.{Group}
 use Rattle.clusters.specs.Reordering.{Permutation, Reordered, image}
 use Rattle.clusters.specs.Pooling.{added, pooled}
 use Rattle.clusters.proofs.PairList.{score_pair_list, of_pair_list}
@@ -25,9 +26,7 @@ use Rattle.clusters.proofs.Groups.{of_listed, is_listed, listed_index, line_of}
 use Rattle.clusters.proofs.Images.{image_only}
 use Rattle.clusters.proofs.Fillings.{filled_cong}
 use Rattle.clusters.proofs.Pooled.{both_scored, either_unscored, pooled_turned, pooled_index, pooled_strong, added_carried}
-use Rattle.answers.specs.declared.Answer.{Answer}
-use Rattle.answers.specs.Answers.{number_of, count_of}
-use Rattle.answers.proofs.Answers.{its_number}
+use Rattle.answers.specs.Answers.{number_of, Answer, count_of}
 use Rattle.interface.specs.Sheet.{names, entries, value, pairs}
 use Rattle.interface.specs.Pool.{place_on, pool_scores, pool_pairs, pool_text}
 use Rattle.interface.specs.Refusals.{none, names_differ, sheet_checks, pool_checks, pool_refusal}
@@ -260,7 +259,7 @@ pool_fits {first} {second} {lent} {bytes = bytes} {r = r} c x = (
     k = pool_refusal first second (length lent)
 
     number : number_of r ≡ pool_refusal first second (length lent)
-    number = its_number k (length text) c.answered
+    number = c.answered.number
 
 -- a set of names, of sheets with the same lines of names
 set_named : {s t s' t' : List ℕ} {A B : ℕ} → names s ≡ names s' → names t ≡ names t' → SameSet s t A B → SameSet s' t' A B
@@ -333,7 +332,7 @@ request_2_4 = record {
       (ap length (taken none text lent c.written count) ∙ count, dropped none text lent c.written count);
   room = λ c d. pool_fits c (written d);
   never_short = λ {first} {second} {lent} c h e.
-      pool_never_short first second (length lent) h (sym (its_number (pool_refusal first second (length lent)) _ c.answered) ∙ e);
+      pool_never_short first second (length lent) h (sym c.answered.number ∙ e);
   a_sheet = λ {bytes = bytes} c. (agree_tests (scores_agree bytes)).0 (pool_sheet (written c));
   its_names = λ c. let x = written c in (pool_names x, x.same);
   sums = λ c i i' j j' p q y z e f. pool_pair (written c) p q ∙ ap₂ added e f ∙ both_scored y z;

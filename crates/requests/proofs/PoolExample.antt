@@ -15,8 +15,8 @@ use Rattle.integers.specs.Integers.{eq_z}
 use Rattle.pairs.specs.Pairs.{mark, number_for, list_number, carried}
 use Rattle.clusters.specs.PairList.{row_start, place, score, pair_list, one_point, point_limit, score_limit, is_in_range, is_allowed_pair, scores_in_range}
 use Rattle.clusters.specs.Pooling.{added, pooled}
-use Rattle.answers.specs.Answers.{answer, slots}
-use Rattle.answers.proofs.Answers.{slots_written, its_number, slots_refused}
+use Rattle.answers.specs.Answers.{slots}
+use Rattle.answers.proofs.Answers.{slots_written, slots_refused}
 use Rattle.interface.specs.Sheet.{
   is_upper,
   is_digit,
@@ -164,7 +164,7 @@ refused_as : {first second lent after : List ℕ} {r : ℤ} → InC (λ a. PoolC
     → (k : ℕ) → 0 < k → pool_refusal first second (length lent) ≡ k → (r ≡ neg_ℤ (pos k)) × (after ≡ lent)
 unfolding pool_refusal
 refused_as {first} {second} {lent} c k h e =
-    let minus = c.number ∙ (refused_number c.given k h).1 (its_number _ _ c.outcome.answered ∙ e) in
+    let minus = c.number ∙ (refused_number c.given k h).1 (c.outcome.answered.number ∙ e) in
     (minus, c.outcome.written ∙ slots_refused (pool_refusal first second (length lent)) (pool_text first second) lent (omega arith))
 
 -- each pool is written in a buffer of its length or more, of which the further bytes stay; a shorter one gets 14
@@ -179,12 +179,11 @@ module _ (p : Pool) (m : p ∈ pools) {lent after : List ℕ} {r : ℤ} (c : InC
       ∙ ap (λ (t : List ℕ). cond (ltb (length lent) (length t)) 14 0) is
 
   pub pool_written : length p.text ≤ length lent → (r ≡ pos (length p.text)) × (after ≡ p.text ++ drop (length p.text) lent)
-  unfolding c_number answer
+  unfolding c_number
   pool_written h =
       let k = pool_refusal p.first p.second (length lent) in
       let none : k ≡ 0 = number ∙ rw (le-ltb (length lent) (length p.text) h) in (
-        c.number ∙ ap c_number c.outcome.answered
-            ∙ ap₂ (λ (k : ℕ) (t : List ℕ). c_number (answer k (length t))) none is,
+        c.number ∙ ap c_number (c.outcome.answered.is_found none) ∙ ap (λ (t : List ℕ). pos (length t)) is,
         c.outcome.written ∙ ap₂ (λ (k : ℕ) (t : List ℕ). slots k t lent) none is ∙ slots_written p.text lent,
       )
 

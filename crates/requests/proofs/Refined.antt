@@ -19,16 +19,17 @@ use Rattle.sets.specs.Sets.{has, ◌∋◌, ◌∌◌, complement}
 use Rattle.sets.proofs.Sets.{clash, in_complement, of_complement, size_complement, complement_lt}
 use Rattle.clusters.specs.PairList.{score, row_start, has_length, scores_in_range, has_unscored}
 use Rattle.clusters.specs.Fillings.{AllScored}
-use Rattle.clusters.specs.Groups.{Group, HasLine, splits, kind_of, index, groups, written_set}
+use Rattle.clusters.specs.Groups.{HasLine, splits, kind_of, index, groups, written_set}
+use Rattle.clusters.specs.declared.Group.{Group}
 use Rattle.clusters.specs.Refined.{Quartet, doubled_score, refined_weight, Compatible, Across, quartets}
 use Rattle.clusters.proofs.PairList.{score_symm}
 use Rattle.clusters.proofs.Groups.{line_of}
 use Rattle.clusters.proofs.Scored.{list_scored}
 use Rattle.clusters.proofs.Crossing.{refined_never_cross}
 use Rattle.clusters.proofs.Refined.{refined_ge, split_refined, refined_either_side, refined_image, refined_least, refined_attained}
-use Rattle.answers.specs.declared.Refined.{Refined}
-use Rattle.answers.specs.Refined.{refined_number, answered_weight, refined_answer}
-use Rattle.answers.proofs.Answers.{refined_number_lem, refined_nothing, refined_found}
+use Rattle.answers.specs.Answers.{number_of}
+use Rattle.answers.specs.Refined.{Refined, answered_weight}
+use Rattle.answers.proofs.Answers.{refined_nothing, the_answer, is_answer}
 use Rattle.interface.specs.Refusals.{wrong_unscored, wrong_distances, wrong_side, refined_checks, refined_refusal}
 use Rattle.interface.specs.Calls.{RefinedCall}
 use Rattle.interface.proofs.Refusals.{gives, first_no, no_more, under, passes, right_length}
@@ -106,13 +107,9 @@ refined_agrees : (n : ℕ) (l : List ℤ) (A : ℕ) → Agree (refined_checks n 
 unfolding refined_checks
 refined_agrees n l A = agree_append (distance_agrees n l) λ _. next (nineteen_says n A) λ _. done
 
-number_is : {n : ℕ} {l : List ℤ} {A : ℕ} {r : Refined} → RefinedCall n l A r → refined_number r ≡ refined_refusal n l A
-number_is {n} {l} {A} c = ap refined_number c.answered ∙ refined_number_lem (refined_weight n (score l) A) (refined_refusal n l A)
-
-refined_judged : {n : ℕ} {l : List ℤ} {A : ℕ} {r : Refined} → RefinedCall n l A r → Judged (refined_table n l A) (refined_number r) (answered_weight r ≡ pos 0)
+refined_judged : {n : ℕ} {l : List ℤ} {A : ℕ} {r : Refined} → RefinedCall n l A r → Judged (refined_table n l A) (number_of r) (answered_weight r ≡ pos 0)
 unfolding refined_refusal
-refined_judged {n} {l} {A} c = judged (refined_agrees n l A) (number_is c) λ f.
-    ap answered_weight c.answered ∙ refined_nothing (refined_weight n (score l) A) (refined_refusal n l A) (λ z. f (number_is c ∙ z))
+refined_judged {n} {l} {A} {r} c = judged (refined_agrees n l A) c.answered.number (refined_nothing r)
 
 -- a list that a call took for kind 3: only 19 is left
 third_left : {n : ℕ} {l : List ℤ} → Passed (pos 3) n l → {A : ℕ} → Sides n A → refined_refusal n l A ≡ 0
@@ -128,19 +125,18 @@ pub record Found (n : ℕ) (l : List ℤ) (A : ℕ) (w : ℤ) : Type 0 where
   pub weight : w ≡ refined_weight n (score l) A
 
 pub found : {n : ℕ} {l : List ℤ} {A : ℕ} {w : ℤ} → Weighs n l A w → Found n l A w
-unfolding refined_refusal refined_checks under all
+unfolding refined_refusal refined_checks under all answered_weight
 found (by_refined_call {r} c none) =
     found_of c none
   where
-    found_of : {n : ℕ} {l : List ℤ} {A : ℕ} → RefinedCall n l A r → refined_number r ≡ 0 → Found n l A (answered_weight r)
+    found_of : {n : ℕ} {l : List ℤ} {A : ℕ} → RefinedCall n l A r → number_of r ≡ 0 → Found n l A (answered_weight r)
     found_of {n} {l} {A} c none =
         let checks = refined_checks n l A in
-        let zero : refined_refusal n l A ≡ 0 = sym (number_is c) ∙ none in
+        let zero : refined_refusal n l A ≡ 0 = sym c.answered.number ∙ none in
         record {
           of_sides = sides (T_false {b = wrong_side n A} (passes 19 checks tt zero));
           scored = list_scored n l (right_length n l (T_false {b = not (has_length n l)} (passes 10 checks tt zero))) (passes 16 checks tt zero);
-          weight = ap answered_weight c.answered ∙ ap (λ (k : ℕ). answered_weight (refined_answer k (refined_weight n (score l) A))) zero
-              ∙ refined_found (refined_weight n (score l) A);
+          weight = ap answered_weight (c.answered.is_found zero);
         }
 
 -- the other side
@@ -235,12 +231,12 @@ request_2_5 = record {
       let (qs, chosen, e) = refined_attained n (score l) A f.of_sides.two f.of_sides.rest in
       (qs, chosen, f.weight ∙ e);
   either_side = λ {n} {l} {A} h c c'.
-      c'.answered ∙ ap₂ refined_answer (refusal_other n l A h) (refined_either_side n (score l) (score_symm l) A) ∙ sym c.answered;
+      is_answer c'.answered ∙ ap₂ the_answer (refusal_other n l A h) (refined_either_side n (score l) (score_symm l) A) ∙ sym (is_answer c.answered);
   reordered = λ {n} {l} {l'} {A} p c c' r.
       (found c').weight ∙ refined_image n p (score l) (score l') r (score_symm l) (score_symm l') A ∙ sym (found c).weight;
   never_cross = λ c c' h h'. compatible c c' h h';
   not_all_four = λ {n} {l} {A} {C} c c' h h'. apart n A C (compatible c c' h h');
-  taken = λ {n} {l} {A} c w fits two rest. number_is c ∙ third_left (wrote_passed w) (record { fits = fits; two = two; rest = rest });
+  taken = λ {n} {l} {A} c w fits two rest. c.answered.number ∙ third_left (wrote_passed w) (record { fits = fits; two = two; rest = rest });
   of_line = λ {n} {l} {A} c w two rest z m.
       let f = found c in
       subst (λ v. ((pos (n - 3) *ℤ z) ≤ℤ v) × (pos 1 ≤ℤ v)) (sym f.weight)

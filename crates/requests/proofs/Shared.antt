@@ -12,16 +12,17 @@ use Rattle.integers.specs.Integers.{eq_z}
 use Rattle.clusters.specs.PairList.{Similarity, Symmetric, score}
 use Rattle.clusters.specs.Groups.{Kind, strong, clean, splits, kind_of, group_sets, sets_of}
 use Rattle.clusters.specs.Reordering.{image}
-use Rattle.clusters.specs.Nesting.{Hit, smallest_shared}
+use Rattle.clusters.specs.Nesting.{smallest_shared}
+use Rattle.clusters.specs.declared.Hit.{Hit}
 use Rattle.clusters.proofs.PairList.{score_symm}
 use Rattle.clusters.proofs.Groups.{groups_rise, groups_sets}
 use Rattle.clusters.proofs.Hierarchies.{groups_hierarchy}
 use Rattle.clusters.proofs.Shared.{shared_swapped, shared_of_all, shared_line_lem, shared_none, shared_holds, shared_all}
 use Rattle.clusters.proofs.Shared.{shared_inside, shared_only, shared_single}
 use Rattle.clusters.proofs.Images.{of_groups, shared_image, shared_image_none}
-use Rattle.answers.specs.declared.Shared.{Shared}
-use Rattle.answers.specs.Shared.{shared_number, shared_set, shared_line, shared_answer}
-use Rattle.answers.proofs.Answers.{shared_number_lem, shared_nothing, shared_found_lem}
+use Rattle.answers.specs.Answers.{number_of}
+use Rattle.answers.specs.Shared.{Shared, shared_set, shared_line}
+use Rattle.answers.proofs.Answers.{shared_nothing, the_answer, is_answer}
 use Rattle.interface.specs.Listing.{groups_found}
 use Rattle.interface.specs.Refusals.{wrong_kind, wrong_group_kind, wrong_anchor, wrong_entries, shared_checks, shared_refusal}
 use Rattle.interface.specs.Calls.{sets_found, shared_found, SharedCall}
@@ -31,7 +32,7 @@ use Rattle.demands.specs.Tables.{Table, Judged, pair_table, kind_table}
 use Rattle.demands.proofs.Agree.{Says, or_says, like, decided, eq_z_says, Agree, done, next, agree_append, judged, none_both}
 use Rattle.demands.proofs.AgreeNumbers.{one_says, third_kind, entries_say}
 use Rattle.demands.proofs.AgreeTables.{pair_agrees, kind_agrees}
-use Rattle.demands.proofs.TurnedAway.{said_in_C}
+use Rattle.demands.proofs.TurnedAway.{line_in_C}
 use Rattle.demands.proofs.Taken.{pair_none, kind_none, neither_entry}
 use Rattle.demands.proofs.Demands.{wrote}
 use Rattle.requests.specs.Shared.{NoGroupKind, shared_table, SmallestFound, Request2_1}
@@ -58,22 +59,18 @@ kind_left kind e = go (eq_z kind (pos 1)) (eq_z kind (pos 2)) (eq_z kind (pos 3)
     go false false true e = absurd (T_not true (false_T e) tt)
     go false false false e = absurd (T_not true (false_T e) tt)
 
-number_is : {kind : ℤ} {n : ℕ} {l : List ℤ} {i j : ℕ} {r : Shared} → SharedCall kind n l i j r → shared_number r ≡ shared_refusal kind n l i j
-number_is {kind} {n} {l} {i} {j} c =
-    ap shared_number c.answered ∙ shared_number_lem (shared_found kind n l i j).set (shared_found kind n l i j).line (shared_refusal kind n l i j)
-
-found : {kind : ℤ} {n : ℕ} {l : List ℤ} {i j : ℕ} {r : Shared} → SharedCall kind n l i j r → shared_number r ≡ 0 → Found kind n l i j (shared_set r) (shared_line r)
+found : {kind : ℤ} {n : ℕ} {l : List ℤ} {i j : ℕ} {r : Shared} → SharedCall kind n l i j r → number_of r ≡ 0 → Found kind n l i j (shared_set r) (shared_line r)
+unfolding shared_set shared_line
 found {kind} {n} {l} {i} {j} {r} c none =
     let hit = shared_found kind n l i j in
-    let zero : shared_refusal kind n l i j ≡ 0 = sym (number_is c) ∙ none in
+    let zero : shared_refusal kind n l i j ≡ 0 = sym c.answered.number ∙ none in
     let (one, hi, hj) = shared_left kind n l i j zero in
-    let (s, t) = shared_found_lem hit.set hit.line in
-    let is = c.answered ∙ ap (λ (k : ℕ). shared_answer k hit.set hit.line) zero in
+    let is = c.answered.is_found zero in
     record {
       groups_kind = kind_left kind one;
       first = hi;
       second = hj;
-      hit = ap₂ {C = Hit} (λ A k. record { set = A; line = k }) (ap shared_set is ∙ s) (ap shared_line is ∙ t) ∙ found_is kind n l i j;
+      hit = ap₂ {C = Hit} (λ A k. record { set = A; line = k }) (ap shared_set is) (ap shared_line is) ∙ found_is kind n l i j;
     }
 
 -- the smallest shared group among all groups
@@ -130,19 +127,14 @@ shared_agrees kind n l i j =
     agree_append (agree_append (next (one_groups_says kind) λ _. pair_agrees n l) λ _. kind_agrees kind n l) λ _. next (entries_say n i j) λ _. done
 
 shared_judged : {kind : ℤ} {n : ℕ} {l : List ℤ} {i j : ℕ} {r : Shared} → SharedCall kind n l i j r
-    → Judged (shared_table kind n l i j) (shared_number r) ((shared_set r ≡ 0) × (shared_line r ≡ 0))
+    → Judged (shared_table kind n l i j) (number_of r) ((shared_set r ≡ 0) × (shared_line r ≡ 0))
 unfolding shared_refusal
-shared_judged {kind} {n} {l} {i} {j} c =
-    let hit = shared_found kind n l i j in
-    let e = c.answered in
-    judged (shared_agrees kind n l i j) (number_is c) λ f.
-    let (s, t) = shared_nothing hit.set hit.line (shared_refusal kind n l i j) (λ z. f (number_is c ∙ z)) in
-    (ap shared_set e ∙ s, ap shared_line e ∙ t)
+shared_judged {kind} {n} {l} {i} {j} {r} c = judged (shared_agrees kind n l i j) c.answered.number (shared_nothing r)
 
 pub request_2_1 : (kind : ℤ) → Request2_1 kind
 request_2_1 kind = record {
   judged = shared_judged;
-  in_C = λ c. (c.given, c.outcome, said_in_C (shared_number c.given) (shared_line c.given) c.answered, c.written);
+  in_C = λ c. (c.given, c.outcome, line_in_C c.given c.answered, c.written);
   fits = λ {n} {l} f k third {i} {j} c hi hj.
       let before : Table = ((1, NoGroupKind kind) ∷ pair_table n l) ++ kind_table kind n l in
       let (one, rest) = kind_none k in
@@ -153,8 +145,8 @@ request_2_1 kind = record {
       subst₂ (λ (sets : List ℕ) (hit : Hit). SmallestFound n i j sets hit.set hit.line) (sym (ap sets_of (wrote w) ∙ groups_sets (kind_of kind) n (score l))) (sym a.hit)
       (smallest_found (kind_of kind) n (score l) (score_symm l) i j a.first a.second);
   swapped = λ {n} {l} {i} {j} c c'.
-      c'.answered ∙ ap₂ (λ (k : ℕ) (hit : Hit). shared_answer k hit.set hit.line) (refusal_swapped kind n l i j) (found_swapped kind n l i j)
-      ∙ sym c.answered;
+      is_answer c'.answered ∙ ap₂ the_answer (refusal_swapped kind n l i j) (found_swapped kind n l i j)
+      ∙ sym (is_answer c.answered);
   twice = λ {n} {l} {i} c z w m.
       let a = found c z in
       ap (λ (hit : Hit). hit.set) a.hit

@@ -10,7 +10,8 @@ use Rattle.integers.specs.Integers.{eq_z}
 use Rattle.pairs.proofs.Pairs.{marked}
 use Rattle.clusters.specs.PairList.{row_start, score, score_limit, has_length}
 use Rattle.clusters.specs.Fillings.{ScoredMore}
-use Rattle.clusters.specs.Groups.{Group, HasLine, sets_of, strong, kind_of, groups}
+use Rattle.clusters.specs.Groups.{HasLine, sets_of, strong, kind_of, groups}
+use Rattle.clusters.specs.declared.Group.{Group}
 use Rattle.clusters.proofs.Groups.{group_set, groups_sets}
 use Rattle.clusters.proofs.PairList.{score_symm}
 use Rattle.clusters.proofs.Unscored.{group_every_filling, scoring_keeps, scoring_one, scored_groups, touched_unlisted}

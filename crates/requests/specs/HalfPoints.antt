@@ -6,10 +6,10 @@ use Rattle.pairs.specs.declared.Carried.{Carried}
 use Rattle.pairs.specs.declared.Carried.TheVariants.{Scored, Unscored}
 use Rattle.pairs.specs.Pairs.{carried}
 use Rattle.clusters.specs.PairList.{Similarity, score, score_limit}
-use Rattle.clusters.specs.Groups.{kind_of, Group, HasLine}
+use Rattle.clusters.specs.Groups.{kind_of, HasLine}
+use Rattle.clusters.specs.declared.Group.{Group}
 use Rattle.clusters.specs.Doubled.{Doubles, doubled_group}
-use Rattle.answers.specs.declared.Answer.{Answer}
-use Rattle.answers.specs.Answers.{number_of, count_of}
+use Rattle.answers.specs.Answers.{number_of, Answer, count_of}
 use Rattle.interface.specs.Sheet.{entries, value, pairs}
 use Rattle.interface.specs.Listing.{Line, group_of, line_words, listing_read}
 use Rattle.interface.specs.Calls.{ReaderCall}

@@ -6,9 +6,9 @@ use Rattle.integers.specs.Range.{Within}
 use Rattle.sets.specs.Sets.{◌∋◌}
 use Rattle.pairs.specs.declared.Carried.TheVariants.{Scored, Unscored}
 use Rattle.pairs.specs.Pairs.{carried}
-use Rattle.clusters.specs.Groups.{kind_of, Group, HasLine, written_set}
-use Rattle.answers.specs.declared.Answer.{Answer}
-use Rattle.answers.specs.Answers.{number_of, count_of}
+use Rattle.clusters.specs.Groups.{kind_of, HasLine, written_set}
+use Rattle.clusters.specs.declared.Group.{Group}
+use Rattle.answers.specs.Answers.{number_of, Answer, count_of}
 use Rattle.interface.specs.Sheet.{names, entries, value, pairs}
 use Rattle.interface.specs.Pool.{pool_text}
 use Rattle.interface.specs.Calls.{PoolCall}

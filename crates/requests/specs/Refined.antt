@@ -3,11 +3,12 @@ use Rattle.std.specs.Prelude.{◌≡◌, ◌⊎◌, ◌≢◌, List, [], ◌∷�
 use Rattle.integers.specs.Integers.{sum_of}
 use Rattle.sets.specs.Sets.{◌∋◌, ◌∌◌, size, complement}
 use Rattle.clusters.specs.PairList.{Similarity, score}
-use Rattle.clusters.specs.Groups.{splits, Group, HasLine, written_set}
+use Rattle.clusters.specs.Groups.{splits, HasLine, written_set}
+use Rattle.clusters.specs.declared.Group.{Group}
 use Rattle.clusters.specs.Reordering.{Permutation, Reordered, image}
 use Rattle.clusters.specs.Refined.{Quartet, doubled_score, Across, Chosen, Compatible}
-use Rattle.answers.specs.declared.Refined.{Refined}
-use Rattle.answers.specs.Refined.{refined_number, answered_weight}
+use Rattle.answers.specs.Answers.{number_of}
+use Rattle.answers.specs.Refined.{Refined, answered_weight}
 use Rattle.interface.specs.Calls.{RefinedCall, RefinedInC}
 use Rattle.demands.specs.Sentences.{Distances}
 use Rattle.demands.specs.Tables.{Table, Judged, distance_table}
@@ -42,18 +43,18 @@ pub record Unordered (n A : ℕ) (q : Quartet) (a a' b b' : ℕ) : Type 0 where
 
 -- the weight that a call answers for one side, if it did not refuse
 pub data Weighs (n : ℕ) (l : List ℤ) (A : ℕ) : (weight : ℤ) → Type 0 where
-  by_refined_call : {r : Refined} → RefinedCall n l A r → refined_number r ≡ 0 → Weighs n l A (answered_weight r)
+  by_refined_call : {r : Refined} → RefinedCall n l A r → number_of r ≡ 0 → Weighs n l A (answered_weight r)
 
 pub record Request2_5 : Type 0 where
   -- each number is given if and only if its line holds and none before it does; "Refused, the weight is 0."
   pub judged : {n : ℕ} {l : List ℤ} {A : ℕ} {r : Refined} → RefinedCall n l A r
-      → Judged (refined_table n l A) (refined_number r) (answered_weight r ≡ pos 0)
+      → Judged (refined_table n l A) (number_of r) (answered_weight r ≡ pos 0)
   -- in C, where a weight may be negative, the number itself is answered, 0 for none
   pub in_C : {n : ℕ} {l : List ℤ} {A : ℕ} {r w : ℤ} → RefinedInC n l A r w
-      → (a : Refined) × RefinedCall n l A a × (r ≡ pos (refined_number a)) × (w ≡ answered_weight a)
+      → (a : Refined) × RefinedCall n l A a × (r ≡ pos (number_of a)) × (w ≡ answered_weight a)
   -- whatever fits is taken
   pub fits : {n : ℕ} {l : List ℤ} → FitsList n l → Distances n l → {A : ℕ} {r : Refined} → RefinedCall n l A r
-      → (TwoSides n A → refined_number r ≡ 0) × ((TwoSides n A → ⊥) → refined_number r ≡ 19)
+      → (TwoSides n A → number_of r ≡ 0) × ((TwoSides n A → ⊥) → number_of r ≡ 19)
   -- "all quartets aa'|bb' with a, a' different on one side and b, b' different on the other, pairs unordered": each
   -- is one, and there is no other
   pub unordered : (n A a a' b b' : ℕ) → OnSides n A a a' b b'
@@ -85,7 +86,7 @@ pub record Request2_5 : Type 0 where
   -- what a call took for kind 3 has a weight for each split with two entries or more on each side
   pub taken : {n : ℕ} {l : List ℤ} {A : ℕ} {r : Refined} → RefinedCall n l A r
       → {found : List Group} → Wrote (pos 3) n l found → A < 2 ^ n → 2 ≤ size n A → size n A + 2 ≤ n
-      → refined_number r ≡ 0
+      → number_of r ≡ 0
   -- "And a kind 3 line with two or more on each side has positive weight": n − 3 times its index or more
   pub of_line : {n : ℕ} {l : List ℤ} {A : ℕ} {w : ℤ} → Weighs n l A w
       → {found : List Group} → Wrote (pos 3) n l found → 2 ≤ size n A → size n A + 2 ≤ n

@@ -2,8 +2,7 @@
 use Rattle.std.specs.Prelude.{◌≡◌, List, ℕ, ◌+◌, ◌*◌, ◌/◌, ◌<◌, ◌≤◌, ℤ, pos, get_or}
 use Rattle.clusters.specs.PairList.{Similarity, score}
 use Rattle.clusters.specs.Farris.{farris, unfarris}
-use Rattle.answers.specs.declared.Answer.{Answer}
-use Rattle.answers.specs.Answers.{number_of, count_of}
+use Rattle.answers.specs.Answers.{number_of, Answer, count_of}
 use Rattle.interface.specs.Sheet.{value}
 use Rattle.interface.specs.Calls.{AnchoredCall, BackCall, ReaderCall, ScoreInC}
 

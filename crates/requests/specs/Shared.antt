@@ -3,11 +3,12 @@ use Rattle.std.specs.Prelude.{◌≡◌, ◌≢◌, ◌↔◌, List, [], ◌∷�
 use Rattle.lists.specs.Lists.{◌∈◌}
 use Rattle.sets.specs.Sets.{◌∋◌, size, all_entries, Subset}
 use Rattle.clusters.specs.PairList.{score}
-use Rattle.clusters.specs.Groups.{Group, sets_of}
+use Rattle.clusters.specs.Groups.{sets_of}
+use Rattle.clusters.specs.declared.Group.{Group}
 use Rattle.clusters.specs.Reordering.{Permutation, Reordered, image}
 use Rattle.clusters.specs.Nesting.{smallest_of_all, OnLine}
-use Rattle.answers.specs.declared.Shared.{Shared}
-use Rattle.answers.specs.Shared.{shared_number, shared_set, shared_line}
+use Rattle.answers.specs.Answers.{number_of}
+use Rattle.answers.specs.Shared.{Shared, shared_set, shared_line}
 use Rattle.interface.specs.Calls.{SharedCall, SharedInC}
 use Rattle.demands.specs.Sentences.{NoEntries}
 use Rattle.demands.specs.Tables.{Table, Judged, pair_table, kind_table}
@@ -43,23 +44,23 @@ pub record SmallestFound (n i j : ℕ) (sets : List ℕ) (set line : ℕ) : Type
 pub record Request2_1 (kind : ℤ) : Type 0 where
   -- each number is given if and only if its line holds and none before it does; "A refusal answers set 0, line 0."
   pub judged : {n : ℕ} {l : List ℤ} {i j : ℕ} {r : Shared} → SharedCall kind n l i j r
-      → Judged (shared_table kind n l i j) (shared_number r) ((shared_set r ≡ 0) × (shared_line r ≡ 0))
+      → Judged (shared_table kind n l i j) (number_of r) ((shared_set r ≡ 0) × (shared_line r ≡ 0))
   -- in C the line is answered as a count is, and the set goes to a slot
   pub in_C : {n : ℕ} {l : List ℤ} {i j : ℕ} {r : ℤ} {set : ℕ} → SharedInC kind n l i j r set
-      → (a : Shared) × SharedCall kind n l i j a × NumberInC (shared_number a) (shared_line a) r × (set ≡ shared_set a)
+      → (a : Shared) × SharedCall kind n l i j a × NumberInC (number_of a) (shared_line a) r × (set ≡ shared_set a)
   -- whatever fits is taken
   pub fits : {n : ℕ} {l : List ℤ} → FitsList n l → ListKind n l kind → kind ≢ pos 3
-      → {i j : ℕ} {r : Shared} → SharedCall kind n l i j r → i < n → j < n → shared_number r ≡ 0
-  pub smallest : {n : ℕ} {l : List ℤ} {i j : ℕ} {r : Shared} → SharedCall kind n l i j r → shared_number r ≡ 0
+      → {i j : ℕ} {r : Shared} → SharedCall kind n l i j r → i < n → j < n → number_of r ≡ 0
+  pub smallest : {n : ℕ} {l : List ℤ} {i j : ℕ} {r : Shared} → SharedCall kind n l i j r → number_of r ≡ 0
       → {found : List Group} → Wrote kind n l found → SmallestFound n i j (sets_of found) (shared_set r) (shared_line r)
   -- which of the two is named first makes no difference
   pub swapped : {n : ℕ} {l : List ℤ} {i j : ℕ} {r r' : Shared}
       → SharedCall kind n l i j r → SharedCall kind n l j i r' → r' ≡ r
   -- "The same entry twice is allowed": the entry alone, if it has a line
-  pub twice : {n : ℕ} {l : List ℤ} {i : ℕ} {r : Shared} → SharedCall kind n l i i r → shared_number r ≡ 0
+  pub twice : {n : ℕ} {l : List ℤ} {i : ℕ} {r : Shared} → SharedCall kind n l i i r → number_of r ≡ 0
       → {found : List Group} → Wrote kind n l found → 2 ^ i ∈ sets_of found → shared_set r ≡ 2 ^ i
   -- a reordering carries the set answered to the set answered, and line 0 to line 0
   pub reordered : {n : ℕ} {l l' : List ℤ} {i j : ℕ} {r r' : Shared} (p : Permutation n)
-      → SharedCall kind n l i j r → shared_number r ≡ 0
-      → SharedCall kind n l' (p.to i) (p.to j) r' → shared_number r' ≡ 0 → Reordered n p (score l) (score l')
+      → SharedCall kind n l i j r → number_of r ≡ 0
+      → SharedCall kind n l' (p.to i) (p.to j) r' → number_of r' ≡ 0 → Reordered n p (score l) (score l')
       → (shared_set r' ≡ image n p (shared_set r)) × ((shared_line r ≡ 0) ↔ (shared_line r' ≡ 0))

@@ -8,7 +8,8 @@ use Rattle.sets.specs.Sets.{◌∋◌}
 use Rattle.pairs.specs.Pairs.{mark, carried, is_scored}
 use Rattle.clusters.specs.PairList.{Similarity, place, score, score_limit, has_length}
 use Rattle.clusters.specs.Fillings.{Fills, AllScored, ScoredMore}
-use Rattle.clusters.specs.Groups.{Group, sets_of, HasLine, plain_groups}
+use Rattle.clusters.specs.Groups.{sets_of, HasLine, plain_groups}
+use Rattle.clusters.specs.declared.Group.{Group}
 use Rattle.demands.specs.Demands.{Wrote}
 
 -- no group of the first is lost in the second, nor does its index fall

@@ -2,32 +2,29 @@
 #![tactic(auto)]
 
 ghost use Rattle.std.specs.Prelude.{◌≡◌, ◌<◌, ◌≤◌};
+ghost use Rattle.clusters.specs.Groups.{sets_of};
 ghost use Rattle.clusters.specs.Nesting.{holds_both, smallest_shared};
-ghost use Rattle.answers.specs.Shared.{shared_answer};
+ghost use Rattle.answers.specs.Answers.{number_of};
 ghost use Rattle.interface.specs.Refusals.{shared_refusal};
 ghost use Rattle.interface.specs.Calls.{SharedCall};
 
-use answers::Shared;
+use answers::Refusal;
+use clusters::{Group, Hit};
+use kinds::Kind;
 
-// The first number of the call's table whose condition holds, 0 if none does. Line 12 is of kind 3, which line 1
-// refuses.
-fn shared_refusal(kind: i32, n: usize, pairs: &[i32], a: usize, b: usize) -> usize
-    ensures { result ≡ shared_refusal kind n pairs.now a b }
+// The checks of the call. Line 12 is of kind 3, which line 1 refuses.
+fn check_shared(kind: i32, n: usize, pairs: &[i32], a: usize, b: usize) -> Result<(), Refusal>
+    ensures { number_of result ≡ shared_refusal kind n pairs.now a b }
 {
-    if kinds::is_wrong_for_groups(kind) {
-        return 1;
-    }
-    let refused = matrix::refusal(n, pairs);
-    if refused != 0 {
-        return refused;
-    }
-    if kinds::has_wrong_unscored(kind, pairs) {
-        return 16;
+    let kind = Kind::of_groups(kind)?;
+    matrix::check_pairs(n, pairs)?;
+    if kind.has_wrong_unscored(pairs) {
+        return Err(Refusal::Unscored);
     }
     if matrix::are_wrong_entries(n, a, b) {
-        return 15;
+        return Err(Refusal::OutOfPlace);
     }
-    0
+    Ok(())
 }
 
 fn holds_both(set: u32, a: usize, b: usize) -> bool
@@ -37,32 +34,35 @@ fn holds_both(set: u32, a: usize, b: usize) -> bool
     sets::has(set, a) && sets::has(set, b)
 }
 
-// Goes down the sets and stops at the first that holds both.
-fn first_shared(sets: &[u32], n: usize, a: usize, b: usize) -> Shared
+// Goes down the groups and stops at the first whose set holds both.
+fn first_shared(groups: &[Group], n: usize, a: usize, b: usize) -> Hit
     requires { (1 ≤ n) × (n ≤ 32) × (a < n) × (b < n) }
-    ensures { result ≡ shared_answer 0 (smallest_shared n a b sets.now).set
-        (smallest_shared n a b sets.now).line }
+    ensures { result ≡ smallest_shared n a b (sets_of groups.now) }
 {
-    for i in 0..sets.len() {
-        let set = sets[i];
+    for (i, group) in groups.iter().enumerate() {
+        let set = group.set;
         if holds_both(set, a, b) {
             let line = i + 1;
-            return Shared::Set(set, line);
+            return Hit { set, line };
         }
     }
-    Shared::Set(sets::all_entries(n), 0)
+    Hit {
+        set: sets::all_entries(n),
+        line: 0,
+    }
 }
 
 // The call.
-pub fn smallest_shared(kind: i32, n: usize, pairs: &[i32], a: usize, b: usize) -> Shared
+pub fn smallest_shared(
+    kind: i32,
+    n: usize,
+    pairs: &[i32],
+    a: usize,
+    b: usize,
+) -> Result<Hit, Refusal>
     ensures { SharedCall kind n pairs.now a b result }
 {
-    let refusal = shared_refusal(kind, n, pairs, a, b);
-    if refusal != 0 {
-        return Shared::Refused(refusal);
-    }
+    check_shared(kind, n, pairs, a, b)?;
     let found = groups::find(kind, n, pairs);
-    let count = found.count;
-    let sets = found.sets;
-    first_shared(&sets[..count], n, a, b)
+    Ok(first_shared(found.as_slice(), n, a, b))
 }

@@ -1,79 +1,84 @@
 -- Names, piece by piece of a line.
-use mathlib.Core.Path.{◌≡◌, refl, sym, ap, ◌∙◌}
-use mathlib.Core.Bool.{Bool, true, false, ◌&&◌, ◌||◌, and-true, or-false}
+use mathlib.Core.Path.{◌≡◌, refl, sym, ap}
+use mathlib.Core.Bool.{Bool, true, false, ◌&&◌, and-false, or-true}
 use mathlib.Core.List.{List, [], ◌∷◌}
-use Prim.Native.Nat.{ℕ, suc, ◌+◌, ◌-◌, ◌≤◌, ◌<◌}
+use Prim.Native.Nat.{ℕ, zero, suc, ◌<◌}
 use native.Mathlib.Omega.{arith}
-use borrow.Author.Tests.{eq-eqb, ne_eqb, eqb-true, eqb-false}
-use lib.Dec.{eqb, not_T}
-use lib.ListN.{length, get_or, drop, drop_of_length-le, length-drop}
+use lib.Dec.{eqb}
+use lib.ListN.{length}
+use Rattle.std.specs.List.{slice_split, onto_first, AllWithin, HoldsAt}
+use Rattle.std.specs.Cmp.Lexicographic.{pointwise}
+use Rattle.std.specs.Prelude.{MatchBool}
 use Rattle.lists.specs.Lists.{all}
-use Rattle.lists.proofs.Tests.{T_false}
-use Rattle.interface.specs.Sheet.{cut, is_name, same_bytes, is_among, has_equal}
-use Rattle.interface.specs.Calls.{piece_at}
-use Rattle.interface.proofs.Pieces.{same_bytes_lem}
-use Rattle.text.proofs.Pieces.{here, pieces_more, pieces_last}
-use Rattle.sheet.proofs.Lines.{pieces_from}
+use Rattle.interface.specs.Sheet.{longer, cut, same_bytes, is_among, has_equal}
+use Rattle.interface.proofs.Pieces.{some_piece}
 
--- two lists of bytes, from a place on
-pub same_step : (s t : List ℕ) (i : ℕ) → i < length s → i < length t
-    → same_bytes (drop i s) (drop i t) ≡ eqb (get_or s i 0) (get_or t i 0) && same_bytes (drop (i + 1) s) (drop (i + 1) t)
+-- two lists of bytes
+pub bytes_same : (s t : List ℕ) → pointwise eqb s t ≡ same_bytes s t
 unfolding same_bytes
-same_step s t i p q = rw (here s i p, here t i q)
+bytes_same [] [] = refl
+bytes_same [] (y ∷ t) = refl
+bytes_same (x ∷ s) [] = refl
+bytes_same (x ∷ s) (y ∷ t) = ap (λ (b : Bool). eqb x y && b) (bytes_same s t)
 
-pub same_long : (s t : List ℕ) → (length s ≡ length t → ⊥) → same_bytes s t ≡ false
-same_long s t f = T_false (not_T (same_bytes s t) (λ h. f (ap length (same_bytes_lem s t h))))
+-- the library's pieces
+onto : (b : ℕ) (ws : List (List ℕ)) → 0 < length ws → onto_first b ws ≡ longer b ws
+unfolding longer
+onto b [] h = absurd (omega arith)
+onto b (w ∷ ws) h = refl
 
-same_nil : (t : List ℕ) → same_bytes [] t ≡ eqb 0 (length t)
-unfolding same_bytes
-same_nil [] = refl
-same_nil (b ∷ t) = sym (ne_eqb 0 (suc (length t)) (λ z. omega arith))
+pub split_cut : (c : ℕ) (s : List ℕ) → slice_split (λ b. eqb b c) s ≡ cut c s
+unfolding cut
+split_cut c [] = refl
+split_cut c (b ∷ s) = rw (split_cut c s, onto b (cut c s) (some_piece c s))
 
-left_none : (i n : ℕ) → i ≤ n → eqb 0 (n - i) ≡ eqb i n
-left_none i n p = go (eqb i n) refl
-  where
-    go : (b : Bool) → eqb i n ≡ b → eqb 0 (n - i) ≡ eqb i n
-    go true e = rw e (eq-eqb 0 (n - i) (omega (arith, eqb-true i n e)))
-    go false e = let d = eqb-false i n e in rw e (ne_eqb 0 (n - i) (λ z. d (omega arith)))
-
-pub same_end : (s t : List ℕ) (i : ℕ) → length s ≤ i → i ≤ length t
-    → same_bytes (drop i s) (drop i t) ≡ eqb i (length t)
-same_end s t i p q = rw (drop_of_length-le s p) (same_nil (drop i t) ∙ rw (length-drop i t) (left_none i (length t) q))
-
--- a test of every name, a word among names, two equal names: from the piece at a place on
-module _ (line : List ℕ) (at : ℕ) where
-  pub not_name : is_name (piece_at 32 line at) ≡ false → all is_name (cut 32 (drop at line)) ≡ false
+-- a test of every piece; a word among the pieces
+module _ (test : List ℕ → Bool) where
+  all_pass : (ws : List (List ℕ)) → AllWithin (λ w. test w ≡ true) ws 0 (length ws) → all test ws ≡ true
   unfolding all
-  not_name e = rw (pieces_from 32 line at, e)
+  all_pass [] h = refl
+  all_pass (w ∷ ws) h = rw (h 0 [] (omega arith) (omega arith), all_pass ws (λ k d p q. h (suc k) d (omega arith) (omega arith)))
 
-  pub is_among_lem : (w : List ℕ) → same_bytes w (piece_at 32 line at) ≡ true → is_among w (cut 32 (drop at line)) ≡ true
-  unfolding is_among
-  is_among_lem w e = rw (pieces_from 32 line at, e)
-
-module _ (line : List ℕ) (at end : ℕ) (inside : at ≤ length line) (is : end ≡ at + length (piece_at 32 line at)) where
-  pub last_name : length line ≤ end → all is_name (cut 32 (drop at line)) ≡ is_name (piece_at 32 line at)
+  one_fails : (ws : List (List ℕ)) (k : ℕ) → k < length ws → HoldsAt (λ w. test w ≡ false) ws k → all test ws ≡ false
   unfolding all
-  last_name h = rw (pieces_last 32 line at end inside is h) (and-true _)
+  one_fails [] k p h = absurd (omega arith)
+  one_fails (w ∷ ws) zero p h = rw (h [])
+  one_fails (w ∷ ws) (suc k) p h = rw (one_fails ws k (omega arith) h) (and-false (test w))
 
-  pub more_names : end < length line → is_name (piece_at 32 line at) ≡ true
-      → all is_name (cut 32 (drop at line)) ≡ all is_name (cut 32 (drop (end + 1) line))
-  unfolding all
-  more_names h e = rw (pieces_more 32 line at end inside is h, e)
+  pub all_tested : (ws : List (List ℕ)) (r : Bool)
+      → MatchBool r (AllWithin (λ w. test w ≡ true) ws 0 (length ws)) ((k : ℕ) × (k < length ws) × HoldsAt (λ w. test w ≡ false) ws k)
+      → r ≡ all test ws
+  all_tested ws true h = sym (all_pass ws h)
+  all_tested ws false (k, p, h) = sym (one_fails ws k p h)
 
-  pub last_among : (w : List ℕ) → length line ≤ end → is_among w (cut 32 (drop at line)) ≡ same_bytes w (piece_at 32 line at)
+module _ (word : List ℕ) where
+  none_equals : (ws : List (List ℕ)) → AllWithin (λ w. same_bytes word w ≡ false) ws 0 (length ws) → is_among word ws ≡ false
   unfolding is_among
-  last_among w h = rw (pieces_last 32 line at end inside is h) (or-false _)
+  none_equals [] h = refl
+  none_equals (w ∷ ws) h = rw (h 0 [] (omega arith) (omega arith), none_equals ws (λ k d p q. h (suc k) d (omega arith) (omega arith)))
 
-  pub more_among : (w : List ℕ) → end < length line → same_bytes w (piece_at 32 line at) ≡ false
-      → is_among w (cut 32 (drop at line)) ≡ is_among w (cut 32 (drop (end + 1) line))
+  one_equals : (ws : List (List ℕ)) (k : ℕ) → k < length ws → HoldsAt (λ w. same_bytes word w ≡ true) ws k → is_among word ws ≡ true
   unfolding is_among
-  more_among w h e = rw (pieces_more 32 line at end inside is h, e)
+  one_equals [] k p h = absurd (omega arith)
+  one_equals (w ∷ ws) zero p h = rw (h [])
+  one_equals (w ∷ ws) (suc k) p h = rw (one_equals ws k (omega arith) h) (or-true (same_bytes word w))
 
-  pub last_equal : length line ≤ end → has_equal (cut 32 (drop at line)) ≡ false
-  unfolding has_equal is_among
-  last_equal h = rw (pieces_last 32 line at end inside is h)
+  pub among_tested : (ws : List (List ℕ)) (r : Bool)
+      → MatchBool r ((k : ℕ) × (k < length ws) × HoldsAt (λ w. same_bytes word w ≡ true) ws k) (AllWithin (λ w. same_bytes word w ≡ false) ws 0 (length ws))
+      → r ≡ is_among word ws
+  among_tested ws true (k, p, h) = sym (one_equals ws k p h)
+  among_tested ws false h = sym (none_equals ws h)
 
-  pub more_equal : end < length line
-      → has_equal (cut 32 (drop at line)) ≡ is_among (piece_at 32 line at) (cut 32 (drop (end + 1) line)) || has_equal (cut 32 (drop (end + 1) line))
+-- equal pieces, by the first of them and the others
+module _ {ws : List (List ℕ)} {word : List ℕ} where
+  pub first_equal : {others : List (List ℕ)} → ws ≡ word ∷ others → is_among word others ≡ true → has_equal ws ≡ true
   unfolding has_equal
-  more_equal h = rw (pieces_more 32 line at end inside is h)
+  first_equal e among = rw (e, among)
+
+  pub others_equal : {others : List (List ℕ)} → ws ≡ word ∷ others → is_among word others ≡ false → has_equal ws ≡ has_equal others
+  unfolding has_equal
+  others_equal e among = rw (e, among)
+
+  pub none_equal : ws ≡ word ∷ [] → has_equal ws ≡ false
+  unfolding has_equal is_among
+  none_equal e = rw e

@@ -1,11 +1,9 @@
 #![tactic(auto)]
 
-ghost use Rattle.std.specs.Prelude.{◌≡◌, ◌≤◌, ◌<◌, length};
+ghost use Rattle.std.specs.Prelude.{◌≡◌, [], ◌∷◌, ◌≤◌, ◌<◌, length, MatchOption};
 ghost use Rattle.lists.specs.Lists.{all};
 ghost use Rattle.interface.specs.Sheet.{space, cut, is_name, entries, same_bytes, is_among, has_equal};
 ghost use Rattle.interface.specs.Refusals.{wrong_length, wrong_byte, wrong_names, equal_names, wrong_lines};
-
-use text::Class;
 
 // Check 2.
 pub fn wrong_length(sheet: &[u8]) -> bool
@@ -21,24 +19,14 @@ pub fn wrong_length(sheet: &[u8]) -> bool
 pub fn wrong_byte(sheet: &[u8]) -> bool
     ensures { result ≡ wrong_byte sheet.now }
 {
-    !text::all_in(Class::Allowed, sheet)
+    !text::all_bytes(sheet, text::is_allowed)
 }
 
 // Every piece of the line is a name.
 fn are_names(line: &[u8]) -> bool
     ensures { result ≡ all is_name (cut space line.now) }
 {
-    let mut at: usize = 0;
-    loop {
-        let end = text::piece_end(line, b' ', at);
-        if !text::is_name(&line[at..end]) {
-            return false;
-        }
-        if end >= line.len() {
-            return true;
-        }
-        at = end + 1;
-    }
+    line.split(|b| *b == b' ').all(|word| text::is_name(word))
 }
 
 // Check 4.
@@ -55,52 +43,42 @@ pub fn wrong_names(sheet: &[u8]) -> bool
 pub fn same_bytes(a: &[u8], b: &[u8]) -> bool
     ensures { result ≡ same_bytes a.now b.now }
 {
-    if a.len() != b.len() {
-        return false;
-    }
-    let mut i: usize = 0;
-    while i < a.len() {
-        if a[i] != b[i] {
-            return false;
-        }
-        i += 1;
-    }
-    true
+    a == b
 }
 
 // The word equals a piece of the line.
 fn is_among(word: &[u8], line: &[u8]) -> bool
     ensures { result ≡ is_among word.now (cut space line.now) }
 {
-    let mut at: usize = 0;
-    loop {
-        let end = text::piece_end(line, b' ', at);
-        if same_bytes(word, &line[at..end]) {
-            return true;
-        }
-        if end >= line.len() {
-            return false;
-        }
-        at = end + 1;
+    line.split(|b| *b == b' ')
+        .any(|piece| same_bytes(word, piece))
+}
+
+// The first piece of the line and what follows the space behind it, or no space stands in the line.
+fn split_once(line: &[u8]) -> Option<(&[u8], &[u8])>
+    ensures { MatchOption result
+        (cut space line.now ≡ line.now ∷ [])
+        (λ r. (cut space line.now ≡ r.0.now ∷ cut space r.1.now) × (length r.1.now < length line.now)) }
+{
+    let end = text::piece_end(line, b' ', 0);
+    if end >= line.len() {
+        return None;
     }
+    Some((&line[..end], &line[end + 1..]))
 }
 
 // Two pieces of the line are equal.
 fn has_equal(line: &[u8]) -> bool
     ensures { result ≡ has_equal (cut space line.now) }
 {
-    let mut at: usize = 0;
-    loop {
-        let end = text::piece_end(line, b' ', at);
-        if end >= line.len() {
-            return false;
-        }
-        let next = end + 1;
-        if is_among(&line[at..end], &line[next..]) {
+    let mut rest = line;
+    while let Some((word, others)) = split_once(rest) {
+        if is_among(word, others) {
             return true;
         }
-        at = next;
+        rest = others;
     }
+    false
 }
 
 // Check 5.

@@ -1,6 +1,7 @@
+pub mod Fields
 pub mod Insert
+pub mod Kept
 pub mod Rising
 pub mod Shifting
-pub mod Kept
-pub mod Totals
 pub mod Tops
+pub mod Totals

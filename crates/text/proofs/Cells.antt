@@ -10,14 +10,15 @@ use lib.IntN.{ℤ}
 use lib.ListN.{length, get_or, drop}
 use Rattle.pairs.specs.declared.Carried.TheVariants.{Scored, Unscored}
 use Rattle.answers.specs.declared.Cursor.{Cursor}
-use Rattle.answers.specs.declared.ValueRead.{ValueRead}
-use Rattle.answers.specs.declared.ValueRead.TheVariants.{Value, Refused}
+use Rattle.std.specs.Prelude.{Ok, Err}
+use Rattle.answers.specs.declared.Refusal.TheVariants.{WrongValues}
+use Rattle.answers.specs.Values.{ValueRead}
 use Rattle.interface.specs.Sheet.{is_numeral, whole_part, is_points, is_value, is_lone_minus, is_cell, value_of, pair_said}
 use Rattle.interface.specs.Calls.{piece_at}
 use Rattle.interface.proofs.Values.{plain_lone}
 use Rattle.text.specs.Reading.{is_end, number_at}
-use Rattle.text.specs.declared.NumberRead.{NumberRead}
-use Rattle.text.specs.declared.NumberRead.TheVariants.{Number, IllFormed}
+use Rattle.std.specs.declared.option.Option.{Option}
+use Rattle.std.specs.declared.option.Option.TheVariants.{Some, None}
 use Rattle.text.proofs.Pieces.{piece_none, piece_step}
 use Rattle.text.proofs.Words.{and_both}
 use Rattle.text.proofs.Numerals.{first_byte, ends_empty}
@@ -58,17 +59,17 @@ lone_no_value (b ∷ []) e = rw (and_both (eqb b 45) true e).0
 lone_no_value (b ∷ c ∷ w) e = absurd (omega (arith, lone_length (b ∷ c ∷ w) e))
 
 -- a number as a value
-abbrev as_value : NumberRead → ValueRead
-as_value (Number z next) = Value (record { carries = Scored z }) next
-as_value IllFormed = Refused
+abbrev as_value : Option (ℤ × Cursor) → ValueRead
+as_value (Some (z, next)) = Ok (record { carries = Scored z }, next)
+as_value None = Err WrongValues
 
-abbrev is_number : NumberRead → Bool
-is_number (Number z next) = true
-is_number IllFormed = false
+abbrev is_number : Option (ℤ × Cursor) → Bool
+is_number (Some (z, next)) = true
+is_number None = false
 
 -- the mark; no lone minus; a number, which is no lone minus
 module _ (s : List ℕ) (at : ℕ) where
-  pub mark_at : is_lone_minus (piece_at 32 s at) ≡ true → Value (record { carries = Unscored }) (record { at = at + 1 }) ≡ value_at s at
+  pub mark_at : is_lone_minus (piece_at 32 s at) ≡ true → Ok (record { carries = Unscored }, record { at = at + 1 }) ≡ value_at s at
   unfolding value_at is_cell pair_said
   mark_at e = rw (e, lone_length (piece_at 32 s at) e)
 
@@ -80,7 +81,7 @@ module _ (s : List ℕ) (at : ℕ) where
       w = piece_at 32 s at
 
       go : (b : Bool) (z : ℤ) (next : Cursor)
-          → as_value (cond b (Number z next) IllFormed) ≡ cond b (Value (record { carries = Scored z }) next) Refused
+          → as_value (cond b (Some (z, next)) None) ≡ cond b (Ok (record { carries = Scored z }, next)) (Err WrongValues)
       go true z next = refl
       go false z next = refl
 
@@ -88,12 +89,12 @@ module _ (s : List ℕ) (at : ℕ) where
   unfolding number_at
   lone_no_number e = rw (lone_no_value (piece_at 32 s at) e)
 
-  pub number_at_lem : {z : ℤ} {next : Cursor} → Number z next ≡ number_at s at → Value (record { carries = Scored z }) next ≡ value_at s at
+  pub number_at_lem : {z : ℤ} {next : Cursor} → Some (z, next) ≡ number_at s at → Ok (record { carries = Scored z }, next) ≡ value_at s at
   number_at_lem {z} {next} e = go (is_lone_minus (piece_at 32 s at)) refl
     where
-      go : (x : Bool) → is_lone_minus (piece_at 32 s at) ≡ x → Value (record { carries = Scored z }) next ≡ value_at s at
+      go : (x : Bool) → is_lone_minus (piece_at 32 s at) ≡ x → Ok (record { carries = Scored z }, next) ≡ value_at s at
       go true t = absurd (true≢false (ap is_number e ∙ lone_no_number t))
       go false t = ap as_value e ∙ no_mark t
 
-  pub none_at : IllFormed ≡ number_at s at → is_lone_minus (piece_at 32 s at) ≡ false → Refused ≡ value_at s at
+  pub none_at : None ≡ number_at s at → is_lone_minus (piece_at 32 s at) ≡ false → Err WrongValues ≡ value_at s at
   none_at e t = ap as_value e ∙ no_mark t

@@ -6,7 +6,7 @@ use Prim.Native.Nat.{ℕ, zero, suc, ◌+◌, ◌*◌, ◌≤◌, ◌<◌}
 use native.Mathlib.Omega.{arith}
 use borrow.Author.Tests.{eqb-true, eqb-false, eq-eqb, ne_eqb}
 use lib.Dec.{T, eqb, leb, eqb→eq, lit<}
-use lib.IntN.{pos, neg_ℤ, ◌-ℤ◌, +ℤ_idl}
+use lib.IntN.{ℤ, pos, neg_ℤ, ◌-ℤ◌, +ℤ_idl}
 use lib.ListN.{length, get_or, drop, length-append}
 use lib.Seq.{drop-drop}
 use mir.Val.{SFits, to_z, bool_byte}
@@ -37,8 +37,9 @@ use Rattle.interface.proofs.Pieces.{free, same_bytes_lem}
 use Rattle.interface.proofs.Points.{whole_front, fraction_front, parts, ending, digits_free, ended_whole, ended_well, ended_points}
 use Rattle.interface.proofs.Values.{plain_test, plain_value, only_zero}
 use Rattle.text.specs.Reading.{digits, is_end, signed_read, number_at}
-use Rattle.text.specs.declared.NumberRead.{NumberRead}
-use Rattle.text.specs.declared.NumberRead.TheVariants.{Number, IllFormed}
+use Rattle.std.specs.declared.option.Option.{Option}
+use Rattle.std.specs.declared.option.Option.TheVariants.{Some, None}
+use Rattle.answers.specs.declared.Cursor.{Cursor}
 use Rattle.text.proofs.Pieces.{piece_none, piece_stop, piece_step}
 use Rattle.text.proofs.Words.{and_both}
 use Rattle.text.proofs.Numerals.{no_byte, first_end, first_byte, ends_empty, behind, digits_start, no_run}
@@ -119,21 +120,21 @@ zero_is w e = T_same (same_bytes w (48 ∷ [])) (eqb (half_points w) 0)
     (λ t. subst (λ (v : List ℕ). T (same_bytes v (48 ∷ []))) (sym (only_zero w (true_T e) (eqb→eq (half_points w) 0 t))) tt)
 
 -- what is read behind a sign, if it is a value
-abbrev read_if : (negative good : Bool) (halves place : ℕ) → NumberRead
-read_if negative good halves place = cond good (signed_read negative halves place) IllFormed
+abbrev read_if : (negative good : Bool) (halves place : ℕ) → Option (ℤ × Cursor)
+read_if negative good halves place = cond good (signed_read negative halves place) None
 
 minus_read : (w : List ℕ) (next : ℕ)
-    → cond (is_points w && not (same_bytes w (48 ∷ []))) (Number (neg_ℤ (pos (half_points w))) (record { at = next })) IllFormed
+    → cond (is_points w && not (same_bytes w (48 ∷ []))) (Some (neg_ℤ (pos (half_points w)), record { at = next })) None
     ≡ read_if true (is_points w) (half_points w) next
 unfolding signed_read
 minus_read w next = go (is_points w) refl
   where
-    one : (z : Bool) (r : NumberRead) → cond (not z) r IllFormed ≡ cond z IllFormed r
+    one : (z : Bool) (r : Option (ℤ × Cursor)) → cond (not z) r None ≡ cond z None r
     one true r = refl
     one false r = refl
 
     go : (x : Bool) → is_points w ≡ x
-        → cond (x && not (same_bytes w (48 ∷ []))) (Number (neg_ℤ (pos (half_points w))) (record { at = next })) IllFormed
+        → cond (x && not (same_bytes w (48 ∷ []))) (Some (neg_ℤ (pos (half_points w)), record { at = next })) None
         ≡ read_if true x (half_points w) next
     go true e = rw (zero_is w e) (one (eqb (half_points w) 0) _)
     go false e = refl
@@ -154,7 +155,7 @@ module _ (s : List ℕ) (at : ℕ) (h : at < length s) where
       let f : eqb (get_or w 0 0) 45 ≡ false = rw q at (first_byte s at h (λ b. eqb b 45) refl e) in
       rw (q, plain_test w f, plain_value w f, z)
 
-pub no_number : (s : List ℕ) (at : ℕ) → length s ≤ at → IllFormed ≡ number_at s at
+pub no_number : (s : List ℕ) (at : ℕ) → length s ≤ at → None ≡ number_at s at
 unfolding number_at is_value
 no_number s at h = rw (piece_none 32 s at h)
 
@@ -174,7 +175,7 @@ module _ {s : List ℕ} {at : ℕ} {x : Bool} {n end : ℕ} (f : Found s at x n 
   unfolding piece_at
   behind_is = ap (λ (l : List ℕ). piece_at 32 l 0) (drop-drop _ (at + bool_byte x) s ∙ ap (λ (k : ℕ). drop k s) (sym f.place))
 
-  pub read_none : (is_numeral (run s at x) && (is_end (drop end s) || same_bytes (piece_at 32 s end) half_text)) ≡ false → IllFormed ≡ number_at s at
+  pub read_none : (is_numeral (run s at x) && (is_end (drop end s) || same_bytes (piece_at 32 s end) half_text)) ≡ false → None ≡ number_at s at
   unfolding piece_at
   read_none e =
       let none : is_points (piece_at 32 s (at + bool_byte x)) ≡ false = no_points (drop (at + bool_byte x) s) (rw (behind_is, ← ends_empty (drop end s)) e) in
@@ -201,7 +202,7 @@ module _ {s : List ℕ} {at : ℕ} {x : Bool} {n end : ℕ} (f : Found s at x n 
   read_half d e = read_ended true (same_bytes_lem (piece_at 32 s end) half_text (true_T e)) d
 
 -- the line ends behind the sign
-pub read_past : (s : List ℕ) (at : ℕ) (x : Bool) → at < length s → eqb (get_or s at 0) 45 ≡ x → length s ≤ at + bool_byte x → IllFormed ≡ number_at s at
+pub read_past : (s : List ℕ) (at : ℕ) (x : Bool) → at < length s → eqb (get_or s at 0) 45 ≡ x → length s ≤ at + bool_byte x → None ≡ number_at s at
 unfolding number_from is_numeral
 read_past s at x h e past =
     let none : run s at x ≡ [] = no_byte 7 s (at + bool_byte x) past in

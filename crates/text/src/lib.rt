@@ -1,7 +1,8 @@
 #![tactic(auto)]
 
-ghost use Rattle.std.specs.Prelude.{◌≡◌, ◌+◌, ◌≤◌, ◌<◌, ltb, length, drop};
+ghost use Rattle.std.specs.Prelude.{◌≡◌, ℕ, Bool, ◌+◌, ◌≤◌, ◌<◌, ltb, length, drop};
 ghost use Rattle.lists.specs.Lists.{all};
+ghost use Rattle.interface.specs.Refusals.{is_allowed};
 ghost use Rattle.interface.specs.Sheet.{
   line_feed,
   space,
@@ -15,24 +16,10 @@ ghost use Rattle.interface.specs.Sheet.{
   same_bytes,
 };
 ghost use Rattle.interface.specs.Calls.{piece_at, ValueCall};
-ghost use Rattle.text.specs.Reading.{in_class, digits, read_on, is_end, signed_read, number_at};
+ghost use Rattle.text.specs.Reading.{is_name_byte, Decides, digits, read_on, is_end, signed_read, number_at};
 
-use answers::{Cursor, ValueRead};
+use answers::{Cursor, Refusal};
 use pairs::{Carried, Pair};
-
-// Classes of bytes.
-#[derive(Clone, Copy)]
-pub enum Class {
-    NameByte,
-    Allowed,
-}
-
-// A number and the place after it, or no number is well formed.
-#[derive(Clone, Copy)]
-enum NumberRead {
-    Number(i32, Cursor),
-    IllFormed,
-}
 
 // Digits as a number, and the place after them.
 #[derive(Clone, Copy)]
@@ -54,35 +41,25 @@ pub fn is_digit(b: u8) -> bool
 }
 
 pub fn is_name_byte(b: u8) -> bool
-    ensures { result ≡ in_class Class.NameByte b }
+    ensures { result ≡ is_name_byte b }
 {
     is_upper(b) | is_digit(b)
 }
 
-fn is_allowed(b: u8) -> bool
-    ensures { result ≡ in_class Class.Allowed b }
+pub fn is_allowed(b: u8) -> bool
+    ensures { result ≡ is_allowed b }
 {
     is_name_byte(b) | (b == b'-') | (b == b'.') | (b == b' ') | (b == b'\n')
 }
 
-fn in_class(class: Class, b: u8) -> bool
-    ensures { result ≡ in_class class b }
-{
-    match class {
-        Class::NameByte => is_name_byte(b),
-        Class::Allowed => is_allowed(b),
-    }
-}
-
-// Every byte is of the class. Without an early exit the loop becomes vector code, as in is_near and piece_count.
-pub fn all_in(class: Class, s: &[u8]) -> bool
-    ensures { result ≡ all (in_class class) s.now }
+// Every byte passes the test. Without an early exit the loop becomes vector code, as in is_near and piece_count.
+pub fn all_bytes<F: Fn(u8) -> bool>(s: &[u8], test: F) -> bool
+    requires { F.IsAlwaysCallable test }
+    ensures { (p : ℕ → Bool) → Decides (F.post test) p → result ≡ all p s.now }
 {
     let mut good = true;
-    let mut i: usize = 0;
-    while i < s.len() {
-        good = good & in_class(class, s[i]);
-        i += 1;
+    for b in s {
+        good = good & test(*b);
     }
     good
 }
@@ -92,14 +69,12 @@ pub fn piece_end(s: &[u8], c: u8, from: usize) -> usize
     requires { from ≤ length s.now }
     ensures { result ≡ from + length (piece_at c s.now from) }
 {
-    let mut at = from;
-    while at < s.len() {
-        if s[at] == c {
-            return at;
+    for end in from..s.len() {
+        if s[end] == c {
+            return end;
         }
-        at += 1;
     }
-    at
+    s.len()
 }
 
 // A byte c stands among the 16 from a place on.
@@ -145,12 +120,10 @@ pub fn piece_count(s: &[u8], c: u8) -> usize
     ensures { result ≡ length (cut c s.now) }
 {
     let mut n: u16 = 1;
-    let mut i: usize = 0;
-    while i < s.len() {
-        if s[i] == c {
+    for b in s {
+        if *b == c {
             n += 1;
         }
-        i += 1;
     }
     n as usize
 }
@@ -169,7 +142,7 @@ pub fn is_name(word: &[u8]) -> bool
     if !is_upper(word[0]) {
         return false;
     }
-    all_in(Class::NameByte, &word[1..])
+    all_bytes(&word[1..], is_name_byte)
 }
 
 // The digits from a place on, at most 7, and the place after them.
@@ -178,9 +151,8 @@ fn read_digits(line: &[u8], from: usize) -> Digits
     ensures { result ≡ read_on 0 from (digits 7 (drop from line.now)) }
 {
     let mut number: u32 = 0;
-    let mut end = from;
-    let mut left: u32 = 7;
-    while left > 0 {
+    for size in 0..7 {
+        let end = from + size;
         if end >= line.len() {
             return Digits { number, end };
         }
@@ -189,9 +161,8 @@ fn read_digits(line: &[u8], from: usize) -> Digits
             return Digits { number, end };
         }
         number = number * 10 + (b - b'0') as u32;
-        end += 1;
-        left -= 1;
     }
+    let end = from + 7;
     Digits { number, end }
 }
 
@@ -237,38 +208,39 @@ fn is_half(line: &[u8], at: usize) -> bool
 }
 
 // A number of half points with its sign, and the place after it; `-0` is none.
-fn signed(negative: bool, halves: u32, end: usize) -> NumberRead
+fn signed(negative: bool, halves: u32, end: usize) -> Option<(i32, Cursor)>
     requires { halves < 20000000 }
     ensures { result ≡ signed_read negative halves end }
 {
+    let next = Cursor { at: end };
     if !negative {
-        return NumberRead::Number(halves as i32, Cursor { at: end });
+        return Some((halves as i32, next));
     }
     if halves == 0 {
-        return NumberRead::IllFormed;
+        return None;
     }
-    NumberRead::Number(0 - halves as i32, Cursor { at: end })
+    Some((0 - halves as i32, next))
 }
 
 // The number of half points that stands at a place of a line, with the place after it: a numeral, before it an optional
 // minus, behind it an optional `.5`, which is looked for last, since most values have none. That the line goes on
 // behind the minus is tested first: a value then takes 5 instructions less.
-fn read_number(line: &[u8], at: usize) -> NumberRead
+fn read_number(line: &[u8], at: usize) -> Option<(i32, Cursor)>
     ensures { result ≡ number_at line.now at }
 {
     if at >= line.len() {
-        return NumberRead::IllFormed;
+        return None;
     }
     let negative = line[at] == b'-';
     let from = at + negative as usize;
     if from >= line.len() {
-        return NumberRead::IllFormed;
+        return None;
     }
     let digits = read_digits(line, from);
     let number = digits.number;
     let end = digits.end;
     if !is_numeral(line, from, end) {
-        return NumberRead::IllFormed;
+        return None;
     }
     if is_end(line, end) {
         return signed(negative, number * 2, end);
@@ -276,7 +248,7 @@ fn read_number(line: &[u8], at: usize) -> NumberRead
     if is_half(line, end) {
         return signed(negative, number * 2 + 1, end + 2);
     }
-    NumberRead::IllFormed
+    None
 }
 
 // A lone minus stands at the place: the mark.
@@ -294,24 +266,24 @@ fn is_lone_minus(line: &[u8], at: usize) -> bool
 
 // The pair that stands at a place of a line, with the place after it: a number, or the mark, which is looked for last,
 // so that a number takes no more time.
-pub fn read_value(line: &[u8], at: usize) -> ValueRead
+pub fn read_value(line: &[u8], at: usize) -> Result<(Pair, Cursor), Refusal>
     ensures { ValueCall line.now at result }
 {
-    let NumberRead::Number(number, next) = read_number(line, at) else {
-        if is_lone_minus(line, at) {
-            return ValueRead::Value(
-                Pair {
-                    carries: Carried::Unscored,
-                },
-                Cursor { at: at + 1 },
-            );
-        }
-        return ValueRead::Refused;
-    };
-    ValueRead::Value(
-        Pair {
-            carries: Carried::Scored(number),
-        },
-        next,
-    )
+    if let Some((number, next)) = read_number(line, at) {
+        return Ok((
+            Pair {
+                carries: Carried::Scored(number),
+            },
+            next,
+        ));
+    }
+    if is_lone_minus(line, at) {
+        return Ok((
+            Pair {
+                carries: Carried::Unscored,
+            },
+            Cursor { at: at + 1 },
+        ));
+    }
+    Err(Refusal::WrongValues)
 }

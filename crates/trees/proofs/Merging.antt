@@ -36,6 +36,9 @@ pub record Front (n : ℕ) (l all : List ℤ) (k : ℕ) : Type 0 where
   pub rest : List ℤ
   pub are : all ≡ anchored_scores n 0 l ++ rest
 
+pub in_front : {n : ℕ} {l all : List ℤ} {k : ℕ} (rest : List ℤ) → k ≡ row_start n → all ≡ anchored_scores n 0 l ++ rest → Front n l all k
+in_front rest e h = record { count = e; rest = rest; are = h }
+
 module _ {n : ℕ} {l all : List ℤ} {k : ℕ} (f : Front n l all k) where
   long : length (anchored_scores n 0 l) ≡ row_start n
   unfolding anchored_scores

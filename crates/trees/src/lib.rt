@@ -8,6 +8,7 @@ ghost use Rattle.kinds.specs.Kinds.{kind_for, Accepted};
 ghost use Rattle.trees.specs.Trees.{Merged, Blocks};
 
 use kinds::Kind;
+use links::Method;
 
 // The single entries.
 fn put_singles(n: usize, out: &mut [u32])
@@ -27,7 +28,7 @@ fn merge_anchored(n: usize, pairs: &[i32], out: &mut [u32])
     let mut anchored = [0i32; 528];
     farris::anchor(n, 0, pairs, &mut anchored);
     let count = matrix::pair_count(n);
-    linkage::merge_all(false, n, &anchored[..count], out);
+    linkage::merge_all(Method::Single, n, &anchored[..count], out);
 }
 
 fn merge(kind: Kind, n: usize, pairs: &[i32], out: &mut [u32])
@@ -35,8 +36,8 @@ fn merge(kind: Kind, n: usize, pairs: &[i32], out: &mut [u32])
     ensures { Merged (kind_for kind) n pairs.now out.old out.new }
 {
     match kind {
-        Kind::Strong => linkage::merge_all(false, n, pairs, out),
-        Kind::Clean => linkage::merge_all(true, n, pairs, out),
+        Kind::Strong => linkage::merge_all(Method::Single, n, pairs, out),
+        Kind::Clean => linkage::merge_all(Method::Average, n, pairs, out),
         Kind::Splits => merge_anchored(n, pairs, out),
     }
 }

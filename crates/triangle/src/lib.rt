@@ -2,9 +2,11 @@
 #![tactic(auto)]
 
 ghost use Rattle.std.specs.Prelude.{◌≡◌};
+ghost use Rattle.answers.specs.Answers.{number_of};
 ghost use Rattle.interface.specs.Refusals.{score_refusal};
-ghost use Rattle.interface.specs.Calls.{pair_among};
+ghost use Rattle.interface.specs.Calls.{is_pair, pair_among};
 
+use answers::Refusal;
 use pairs::{Carried, Pair};
 
 #[derive(Clone, Copy)]
@@ -13,26 +15,25 @@ pub struct Triangle<'a> {
     pub n: usize,
 }
 
+// The two are entries of a pair list of n.
+#[tactic(auto, unfolding(interface::specs::Calls::is_pair, interface::specs::Refusals::most_entries))]
+fn is_pair(pairs: &[i32], n: usize, a: usize, b: usize) -> bool
+    ensures { result ≡ is_pair n pairs.now a b }
+{
+    n <= 32 && matrix::has_length(n, pairs) && a < n && b < n
+}
+
 // The pair of a and b; a score of 0 if they are not two entries of a pair list of n.
 pub fn pair_among(pairs: &[i32], n: usize, a: usize, b: usize) -> Pair
     ensures { result ≡ pair_among n pairs.now a b }
 {
-    let none = Pair {
-        carries: Carried::Scored(0),
-    };
-    if n > 32 {
-        return none;
+    if is_pair(pairs, n, a, b) {
+        matrix::pair(pairs, a, b)
+    } else {
+        Pair {
+            carries: Carried::Scored(0),
+        }
     }
-    if !matrix::has_length(n, pairs) {
-        return none;
-    }
-    if a >= n {
-        return none;
-    }
-    if b >= n {
-        return none;
-    }
-    matrix::pair(pairs, a, b)
 }
 
 pub fn view<'a>(pairs: &'a [i32], n: usize) -> Triangle<'a>
@@ -64,16 +65,13 @@ pub fn pair_of(pairs: &[i32], n: usize, a: usize, b: usize) -> Pair
     view(pairs, n).pair(a, b)
 }
 
-// Why two numbers have no score in a pair list: 6 or 10, or 15 if one is n or more; 0 if they have one.
-pub fn score_refusal(n: usize, pairs: &[i32], a: usize, b: usize) -> usize
-    ensures { result ≡ score_refusal n pairs.now a b }
+// Why two numbers have no score in a pair list: 6 or 10, or 15 if one is n or more.
+pub fn check_score(n: usize, pairs: &[i32], a: usize, b: usize) -> Result<(), Refusal>
+    ensures { number_of result ≡ score_refusal n pairs.now a b }
 {
-    let refused = matrix::length_refusal(n, pairs);
-    if refused != 0 {
-        return refused;
-    }
+    matrix::check_length(n, pairs)?;
     if matrix::are_wrong_entries(n, a, b) {
-        return 15;
+        return Err(Refusal::OutOfPlace);
     }
-    0
+    Ok(())
 }

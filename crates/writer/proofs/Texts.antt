@@ -4,9 +4,8 @@ use mathlib.Core.Bool.{true, false}
 use mathlib.Core.List.{List, [], ◌∷◌, ◌++◌, map, append_assoc, append-nil, map-append}
 use Prim.Native.Nat.{ℕ, suc, ◌+◌, ◌≤◌, ◌<◌}
 use native.Mathlib.Numerals.{add-one}
-use native.Mathlib.Omega.{arith}
 use lib.IntN.{ℤ, pos, negsuc, nat_abs}
-use lib.ListN.{length, length-append, set}
+use lib.ListN.{length}
 use lib.Signed.{le_z}
 use lib.Dec.{T, lit≤}
 use Rattle.lists.specs.Lists.{below, each}
@@ -22,7 +21,9 @@ use Rattle.interface.specs.Listing.{points_text, signed_points}
 use Rattle.interface.specs.SheetText.{pair_text, joined, row_text, sheet_lines, sheet_text}
 use Rattle.interface.proofs.Pieces.{joined_cut}
 use Rattle.interface.proofs.Values.{pair_word}
+use Rattle.listing.specs.declared.Text.{Text}
 use Rattle.listing.specs.Put.{Put}
+use Rattle.listing.proofs.Puts.{then}
 
 mark_text : (z : ℤ) → eq_z z mark ≡ true → pair_text (carried z) ≡ 45 ∷ []
 unfolding carried pair_text
@@ -43,17 +44,17 @@ unfolding signed_points up dn
 signed_digits (pos n) e = absurd (omega (zarith, le_z_no {a = pos 0} {b = pos n} (false_T e)))
 signed_digits (negsuc n) e = refl
 
--- put into a buffer, with the byte after it
-module _ (z : ℤ) (out : List ℕ) (at after : ℕ) where
-  pub mark_put : eq_z z mark ≡ true → Put out at (pair_text (carried z) ++ (after ∷ [])) (set (set out at 45) (at + 1) after) (at + 2)
-  mark_put e = rw (mark_text z e) (record { place = refl; stored = rw (add-one at) })
+-- put into a buffer
+module _ (z : ℤ) {a b : Text} where
+  pub mark_put : eq_z z mark ≡ true → Put a (45 ∷ []) b → Put a (pair_text (carried z)) b
+  mark_put e p = rw (mark_text z e) p
 
-  module _ (scored : eq_z z mark ≡ false) {k end : ℕ} {m : List ℕ} (digits : k ≡ nat_abs z) where
-    pub plain_put : le_z (pos 0) z ≡ true → Put out at (points_text k ++ (after ∷ [])) m end → Put out at (pair_text (carried z) ++ (after ∷ [])) m end
-    plain_put e p = rw (score_text z scored, plain_digits z e, sym digits) p
+  module _ (scored : eq_z z mark ≡ false) {k : ℕ} (digits : k ≡ nat_abs z) {c : Text} where
+    pub plain_put : le_z (pos 0) z ≡ true → c ≡ a → Put c (points_text k) b → Put a (pair_text (carried z)) b
+    plain_put e same p = rw (score_text z scored, plain_digits z e, sym digits, sym same) p
 
-    pub signed_put : le_z (pos 0) z ≡ false → Put (set out at 45) (at + 1) (points_text k ++ (after ∷ [])) m end → Put out at (pair_text (carried z) ++ (after ∷ [])) m end
-    signed_put e p = rw (score_text z scored, signed_digits z e, sym digits) (record { place = omega (arith, p.place); stored = rw (add-one at) at p.stored })
+    pub signed_put : le_z (pos 0) z ≡ false → {m : Text} → c ≡ m → Put a (45 ∷ []) m → Put c (points_text k) b → Put a (pair_text (carried z)) b
+    signed_put e same p q = rw (score_text z scored, signed_digits z e, sym digits) (then p (rw (sym same) q))
 
 -- pieces with the byte c behind each but the last are joined by it
 joined_last : (c : ℕ) (ws : List (List ℕ)) (w : List ℕ) → joined c (ws ++ (w ∷ [])) ≡ each ws (λ v. v ++ (c ∷ [])) ++ w
@@ -86,13 +87,11 @@ row_cells n s i =
     ∙ ap (λ (t : List ℕ). t ++ cell n) (each_map (below n) cell (λ v. v ++ (space ∷ []))))
     ∙ append_assoc (each (below n) (λ k. cell k ++ (space ∷ []))) (cell n) (line_feed ∷ [])
 
--- a pair and the byte after it take 10 bytes at most
-pub cell_short : (n : ℕ) (l : List ℤ) → length l ≡ row_start n → T (scores_in_range l) → (i j : ℕ) → i < n → j < n → (after : ℕ)
-    → length (pair_text (carried (score l i j)) ++ (after ∷ [])) ≤ 10
+-- a pair takes 9 bytes at most
+pub cell_short : (n : ℕ) (l : List ℤ) → length l ≡ row_start n → T (scores_in_range l) → (i j : ℕ) → i < n → j < n
+    → length (pair_text (carried (score l i j))) ≤ 9
 unfolding score_limit one_point point_limit
-cell_short n l e t i j h k after =
-    let c = carried (score l i j) in
-    omega (arith, length-append (pair_text c) (after ∷ []), (pair_word c (lit≤ tt) (list_allowed n l e t i j h k)).short)
+cell_short n l e t i j h k = (pair_word (carried (score l i j)) (lit≤ tt) (list_allowed n l e t i j h k)).short
 
 -- the rows before i, each with its line feed; one more; and line 1 with all of them is the sheet
 unfoldable pub rows_before : ℕ → Similarity → ℕ → List ℕ

@@ -14,29 +14,11 @@ read_name-name-requires c = c.loop-known.invariant.2.here.inside
 pub overflow_add-end : goal.overflow_add-end
 overflow_add-end c = omega (arith, c.read_name-name.ensures.inside)
 
-pub returns-then-end-sheet : goal.returns-then-end-sheet
-returns-then-end-sheet c = λ h. absurd (omega (arith, c.no_names.ensures, h))
-
-pub returns-then-size-eq0 : goal.returns-then-size-eq0
-returns-then-size-eq0 c = λ h. absurd (omega (arith, c.no_names-then-size-eq0.ensures, h))
-
-pub returns-then-not-is_upper : goal.returns-then-not-is_upper
-returns-then-not-is_upper c = λ h. absurd (omega (arith, c.no_names-then-not-is_upper.ensures, h))
-
-pub returns-then-count-ge32 : goal.returns-then-count-ge32
-returns-then-count-ge32 c = λ h. absurd (omega (arith, c.no_names-then-count-ge32.ensures, h))
-
-pub returns-then-not-is_new : goal.returns-then-not-is_new
-returns-then-not-is_new c = λ h. absurd (omega (arith, c.no_names-then-not-is_new.ensures, h))
-
 pub returns-then-sheet-end-eq10 : goal.returns-then-sheet-end-eq10
 returns-then-sheet-end-eq10 c =
     let upper = sym c.is_upper.ensures ∙ c.if-not-is_upper.false in
     let new = true_T (sym c.is_new.ensures ∙ c.if-not-is_new.false) in
-    λ h. names_end c.loop-known.invariant.2 c.read_name-name.ensures (omega arith) (omega arith) upper new c.if-sheet-end-eq10.true (omega arith)
-
-pub returns-then-sheet-end-ne32 : goal.returns-then-sheet-end-ne32
-returns-then-sheet-end-ne32 c = λ h. absurd (omega (arith, c.no_names-then-sheet-end-ne32.ensures, h))
+    names_end c.loop-known.invariant.2 c.read_name-name.ensures (omega arith) (omega arith) upper new c.if-sheet-end-eq10.true (omega arith)
 
 pub loop-known-preserved : goal.loop-known-preserved
 loop-known-preserved c =

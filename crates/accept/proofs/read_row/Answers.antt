@@ -1,5 +1,6 @@
 use mathlib.Core.Path.{◌≡◌, refl, sym, ap, ◌∙◌}
 use Prim.Native.Nat.{ℕ, suc, ◌+◌, ◌<◌}
+use mathlib.Core.Logic.{inl, inr}
 use native.Mathlib.Omega.{arith}
 use borrow.Author.Rules.{rules}
 use lib.ListN.{set, length-set}
@@ -13,26 +14,26 @@ use Rattle.accept.proofs.read_row.Goals as goal
 pub loop-j-init : goal.loop-j-init
 loop-j-init c = (omega arith, refl, refl, row_start_lem c.requires.3 c.requires.4, row_none)
 
-pub read_both-requires : goal.read_both-requires
-read_both-requires c = let l = c.loop-j in (l.invariant.3.here.inside, (l.invariant.3.wait l.j (omega arith) (omega arith)).inside)
+pub read_cell-requires : goal.read_cell-requires
+read_cell-requires c = let l = c.loop-j in (l.invariant.3.here.inside, (l.invariant.3.wait l.j (omega arith) (omega arith)).inside, inl refl)
 
 pub overflow_add-cur : goal.overflow_add-cur
-overflow_add-cur c = omega (arith, c.in-Cell.ensures.far.inside)
+overflow_add-cur c = omega (arith, c.in_ok-cell.ensures.far.inside)
 
 pub overflow_add-cur-in-loop-j : goal.overflow_add-cur-in-loop-j
-overflow_add-cur-in-loop-j c = omega (arith, c.in-Cell.ensures.far.inside)
+overflow_add-cur-in-loop-j c = omega (arith, c.in_ok-cell.ensures.far.inside)
 
 pub overflow_add-at : goal.overflow_add-at
-overflow_add-at c = omega (arith, c.in-Cell.ensures.near.inside)
+overflow_add-at c = omega (arith, c.in_ok-cell.ensures.near.inside)
 
 pub overflow_add-at-in-loop-j : goal.overflow_add-at-in-loop-j
-overflow_add-at-in-loop-j c = omega (arith, c.in-Cell.ensures.near.inside)
+overflow_add-at-in-loop-j c = omega (arith, c.in_ok-cell.ensures.near.inside)
 
 pub loop-j-preserved : goal.loop-j-preserved
 loop-j-preserved c =
     let l = c.loop-j in
-    let k = c.in-Cell.ensures in
-    let same : to_z w32 (of_z w32 c.in-Cell.number) ≡ c.in-Cell.number = search rules in
+    let k = c.in_ok-cell.ensures in
+    let same : to_z w32 (of_z w32 c.in_ok-cell.cell.number) ≡ c.in_ok-cell.cell.number = search rules in
     let h : l.j < c.args.i = omega arith in (
       omega arith,
       length-set l.cur _ _ ∙ l.invariant.1,
@@ -41,25 +42,25 @@ loop-j-preserved c =
       row_value l.invariant.4 refl (same ∙ row_number l.invariant.3 k h),
     )
 
-pub read_one-requires : goal.read_one-requires
-read_one-requires c = c.loop-j.invariant.3.here.inside
+pub read_cell-requires-2 : goal.read_cell-requires-2
+read_cell-requires-2 c = let h = c.loop-j.invariant.3.here.inside in (h, h, inr refl)
 
 pub overflow_add-next : goal.overflow_add-next
-overflow_add-next c = omega (arith, c.in-Cell-read_one.ensures.inside)
+overflow_add-next c = omega (arith, c.in_ok-cell-2.ensures.near.inside)
 
 pub overflow_add-next-2 : goal.overflow_add-next-2
-overflow_add-next-2 c = omega (arith, c.in-Cell-read_one.ensures.inside)
+overflow_add-next-2 c = omega (arith, c.in_ok-cell-2.ensures.near.inside)
 
 pub returns : goal.returns
 returns c =
     let l = c.loop-j in
-    let k = c.in-Cell-read_one.ensures in
-    let same : to_z w32 (of_z w32 c.in-Cell-read_one.number) ≡ c.in-Cell-read_one.number = search rules in
+    let k = c.in_ok-cell-2.ensures.near in
+    let same : to_z w32 (of_z w32 c.in_ok-cell-2.cell.number) ≡ c.in_ok-cell-2.cell.number = search rules in
     let e : l.j ≡ c.args.i = omega arith in
     let z : l.j + 1 ≡ suc c.args.i = omega arith in
     record {
-      row_read = λ h. row_end l.invariant.3 k c.requires.2 e (omega (arith, l.invariant.1));
-      pairs_after = λ h. row_all c.args.start c.args.i
-          (row_value l.invariant.4 (ap (λ (i : ℕ). set l.pairs (c.args.start + i) (to_z w32 (of_z w32 c.in-Cell-read_one.number))) (sym e))
+      row_read = row_end l.invariant.3 k c.requires.2 e (omega (arith, l.invariant.1));
+      pairs_after = row_all c.args.start c.args.i
+          (row_value l.invariant.4 (ap (λ (i : ℕ). set l.pairs (c.args.start + i) (to_z w32 (of_z w32 c.in_ok-cell-2.cell.number))) (sym e))
           (same ∙ own_number l.invariant.3 k c.requires.2 e ∙ ap (value c.args.sheet.now c.args.i) (sym e))) refl z;
     }

@@ -1,10 +1,10 @@
 use mathlib.Core.Path.{◌≡◌, refl, sym, ap, ◌∙◌, subst}
 use mathlib.Core.Logic.{inl, inr}
 use mathlib.Core.Bool.{true≢false}
-use Prim.Native.Nat.{ℕ, suc, ◌+◌, ◌-◌, ◌<◌}
+use Prim.Native.Nat.{ℕ, suc, ◌+◌, ◌-◌}
 use native.Mathlib.Omega.{arith}
 use borrow.Author.Tests.{eqb-true}
-use lib.ListN.{length, get_or}
+use lib.ListN.{get_or}
 use lib.Seq.{sets}
 use mathlib.Core.List.{map}
 use Rattle.lists.specs.Lists.{below}
@@ -20,16 +20,13 @@ pub loop-i-init : goal.loop-i-init
 unfolding row_start
 loop-i-init c = (omega arith, refl, refl, rows_start c.requires.0.line.place, refl, rows_none)
 
-pub read_row-next-requires : goal.read_row-next-requires
-read_row-next-requires c = let l = c.loop-i in
+pub read_row-requires : goal.read_row-requires
+read_row-requires c = let l = c.loop-i in
     let n = c.args.n in
     (omega arith, omega (arith, row_lt n l.i l.i (omega arith) (omega arith)), inl refl, l.invariant.3.here, l.invariant.3.wait)
 
-pub returns-then-next-eq0 : goal.returns-then-next-eq0
-returns-then-next-eq0 c = λ e. absurd (true≢false (sym e))
-
 pub line_end-end-requires : goal.line_end-end-requires
-line_end-end-requires c = next_inside (c.read_row-next.ensures.row_read (omega arith))
+line_end-end-requires c = next_inside c.in-Some.ensures.row_read
 
 pub returns-then-end-sheet : goal.returns-then-end-sheet
 returns-then-end-sheet c = λ e. absurd (true≢false (sym e))
@@ -42,35 +39,33 @@ overflow_add-start-in-loop-i c =
 pub loop-i-preserved : goal.loop-i-preserved
 loop-i-preserved c =
     let l = c.loop-i in
-    let r = c.read_row-next in
-    let x = r.ensures.row_read (omega arith) in (
+    let r = c.read_row in
+    let x = c.in-Some.ensures in (
       omega arith,
       r.auto.cur ∙ l.invariant.1,
       r.auto.pairs ∙ l.invariant.2,
-      rows_next l.invariant.3 x c.line_end-end.ensures c.if-end-sheet.false,
+      rows_next l.invariant.3 x.row_read c.line_end-end.ensures c.if-end-sheet.false,
       next_start l.i l.invariant.4,
-      rows_row l.invariant.5 (rw l.invariant.4 at (r.ensures.pairs_after (omega arith))),
+      rows_row l.invariant.5 (rw l.invariant.4 at x.pairs_after),
     )
 
-pub read_row-next-requires-2 : goal.read_row-next-requires-2
-read_row-next-requires-2 c = let l = c.loop-i in
+pub read_row-requires-2 : goal.read_row-requires-2
+read_row-requires-2 c = let l = c.loop-i in
     let a = c.args in
     let s = a.sheet.now in
     let e : l.i ≡ a.n - 1 = omega arith in
     (omega arith, omega (arith, row_lt a.n l.i l.i (omega arith) (omega arith)), inr refl, subst (λ (k : ℕ). At s k 0 l.at) e l.invariant.3.here, λ j h. subst (λ (k : ℕ). At s j k (get_or l.cur j 0)) e (l.invariant.3.wait j (omega arith)))
 
 pub returns : goal.returns
-returns c = let r = c.read_row-next-2 in
+returns c =
     let l = c.loop-i in
     let s = c.args.sheet.now in
     let n = c.args.n in
+    let r = c.in-Some-read_row in
     let e : l.i ≡ n - 1 = omega arith in
     let z : n - 1 + 1 ≡ n = omega arith in
     λ t.
-    let end : r.result ≡ length s = eqb-true _ _ t in
-    let names = c.requires.0.line in
-    let some : 0 < r.result = omega (arith, end, names.place.inside, names.behind) in
-    sheet_accepted c.requires.0 (rows_end names.number z (λ a h. l.invariant.3.mirror a (omega arith)) (r.ensures.row_read some) end
+    sheet_accepted c.requires.0 (rows_end c.requires.0.line.number z (λ a h. l.invariant.3.mirror a (omega arith)) r.ensures.row_read (eqb-true _ _ t)
     (subst (Rows (value s) c.args.pairs.now l.pairs) e l.invariant.5)
-    (r.ensures.pairs_after some ∙ ap (λ (k : ℕ). sets l.pairs k (map (value s (n - 1)) (below (suc (n - 1))))) (l.invariant.4 ∙ ap row_start e))
+    (r.ensures.pairs_after ∙ ap (λ (k : ℕ). sets l.pairs k (map (value s (n - 1)) (below (suc (n - 1))))) (l.invariant.4 ∙ ap row_start e))
     c.requires.1)

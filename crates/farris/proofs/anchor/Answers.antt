@@ -1,11 +1,15 @@
-use Rattle.clusters.specs.Farris.{anchored_scores}
-use Rattle.farris.specs.Ways.{converted, Convertible}
+use mathlib.Core.Path.{◌≡◌}
+use borrow.Author.Rules.{rules}
+use Rattle.clusters.specs.Farris.{farris, anchored_scores}
+use Rattle.clusters.specs.PairList.{score}
+use Rattle.farris.proofs.Bounds.{anchored_small}
 use Rattle.farris.proofs.anchor.Goals as goal
 
-pub convert-requires : goal.convert-requires
-unfolding Convertible
-convert-requires c = let (n, x, l, r, o) = c.requires in (n, l, (x, r), o)
+pub fill-requires-clause-fitting : goal.fill-requires-clause-fitting
+fill-requires-clause-fitting c a b r h k p = let l = c.args.pairs.now in
+    let e : r ≡ farris (score l) c.args.x a b = search rules in
+    rw e (anchored_small l c.args.x a b c.requires.3)
 
 pub returns : goal.returns
-unfolding anchored_scores converted
-returns c = c.convert.ensures
+unfolding anchored_scores
+returns c = c.fill.ensures (farris (score c.args.pairs.now) c.args.x) (λ a b r h k p. search rules)

@@ -1,24 +1,21 @@
 use mathlib.Core.Path.{sym, ap, ◌∙◌, subst}
 use Prim.Native.Nat.{◌^◌, ◌<◌}
+use borrow.Author.Rules.{rules}
 use mir.Syntax.{w64}
+use mir.Facts.{to_z_pos}
 use Rattle.integers.proofs.Held.{passed}
-use Rattle.answers.specs.declared.Answer.{Answer}
-use Rattle.answers.specs.Answers.{number_of, count_of}
+use Rattle.answers.specs.Answers.{Answer, count_of}
 use Rattle.interface.specs.Calls.{c_number}
 use Rattle.farzhudyl.proofs.as_number.Goals as goal
 
-pub plus-requires : goal.plus-requires
+pub overflow_cast-result : goal.overflow_cast-result
 unfolding count_of
-plus-requires c = subst (λ (a : Answer). count_of a < 2 ^ 63) c.in-Count.is c.requires.1
+overflow_cast-result c = let h = subst (λ (a : Answer). count_of a < 2 ^ 63) c.in-Ok.is c.requires in search rules
 
-pub minus-requires : goal.minus-requires
-unfolding number_of
-minus-requires c = subst (λ (a : Answer). number_of a < 2 ^ 63) c.in-Refused.is c.requires.0
+pub returns-in-Ok : goal.returns-in-Ok
+unfolding c_number count_of
+returns-in-Ok c = to_z_pos w64 (subst (λ (a : Answer). count_of a < 2 ^ 63) c.in-Ok.is c.requires) ∙ sym (ap c_number c.in-Ok.is)
 
-pub returns-in-Count : goal.returns-in-Count
+pub returns-in-Err : goal.returns-in-Err
 unfolding c_number
-returns-in-Count c = passed w64 c.plus.type_inv c.plus.ensures ∙ sym (ap c_number c.in-Count.is)
-
-pub returns-in-Refused : goal.returns-in-Refused
-unfolding c_number
-returns-in-Refused c = passed w64 c.minus.type_inv c.minus.ensures ∙ sym (ap c_number c.in-Refused.is)
+returns-in-Err c = passed w64 c.minus_number.type_inv c.minus_number.ensures ∙ sym (ap c_number c.in-Err.is)

@@ -1,17 +1,11 @@
-use mathlib.Core.Path.{◌≡◌, sym, ◌∙◌}
+use mathlib.Core.Path.{◌≡◌, refl, sym, ◌∙◌}
 use lib.ListN.{take}
-use mir.Facts.{to_z-of_z}
+use Rattle.kinds.proofs.Read.{is_of}
 use borrow.Author.Rules.{rules}
 use Rattle.interface.specs.Sheet.{pairs}
 use Rattle.reader.proofs.Answers.{accepted_answer, accepted_pairs, few_entries, some_entries, pairs_long, pairs_fit}
 use Rattle.farzhudyl.proofs.Sheets.{read_sheet}
 use Rattle.farzhudyl.proofs.list_with.Goals as goal
-
-pub read_rows-requires : goal.read_rows-requires
-read_rows-requires c = let b = c in (b.requires.1, b.requires.2)
-
-pub list_checked-requires : goal.list_checked-requires
-list_checked-requires c = let b = c in rw (to_z-of_z b.ranges.kind) b.requires.0
 
 pub pair_count-count-requires : goal.pair_count-count-requires
 pair_count-count-requires c =
@@ -45,4 +39,4 @@ returns c =
     let r = c.read_rows.ensures (search rules) in
     let f = accepted_answer r in
     let p : take c.pair_count-count.result c.read_rows.new.pairs ≡ pairs c.args.sheet.now = accepted_pairs r c.pair_count-count.ensures in
-    read_sheet _ _ c.args.out.now c.requires.0 f p (rw (to_z-of_z c.ranges.kind) at c.list_pairs.ensures)
+    read_sheet _ _ c.args.out.now (is_of c.args.kind refl).0 f p c.list_pairs.ensures

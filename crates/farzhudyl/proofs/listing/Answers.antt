@@ -1,40 +1,38 @@
-use mathlib.Core.Path.{◌≡◌, sym, ◌∙◌, subst}
-use mathlib.Core.Bool.{true}
 use native.Mathlib.Omega.{arith}
 use mir.Syntax.{w32}
 use mir.Facts.{to_z-of_z}
-use Rattle.interface.specs.Refusals.{wrong_kind}
+use Rattle.std.proofs.lemmas.Result.{err_from_is_err_and}
+use Rattle.clusters.specs.PairList.{row_start}
+use Rattle.clusters.proofs.PairList.{row_start_mono}
+use Rattle.kinds.proofs.Read.{number_read}
 use Rattle.farzhudyl.proofs.Sheets.{refused_kind}
 use Rattle.farzhudyl.proofs.listing.Goals as goal
 
-pub returns-then-is_wrong : goal.returns-then-is_wrong
-returns-then-is_wrong c =
-    refused_kind _ _ _ (subst (λ k. wrong_kind k ≡ true) (to_z-of_z {w = w32} c.ranges.kind) (sym c.is_wrong.ensures ∙ c.if-is_wrong.true))
+pub returns-in_err-kind : goal.returns-in_err-kind
+returns-in_err-kind c = let p = err_from_is_err_and c.from_residual.result c.from_residual.ensures.1 in
+    let (is, wrong) = c.in_err-kind.ensures in
+    rw (p.1, p.2, is) (refused_kind _ _ _ (rw (to_z-of_z {w = w32} c.ranges.kind) at wrong))
 
-pub list_checked-requires : goal.list_checked-requires
-list_checked-requires c = sym c.is_wrong.ensures ∙ c.if-is_wrong.false
+pub returns-in_default : goal.returns-in_default
+returns-in_default c = rw (number_read c.ranges.kind c.in_ok-kind.ensures) at c.list_checked.ensures
 
-pub returns-then-n-eq0 : goal.returns-then-n-eq0
-returns-then-n-eq0 c = let l = c in
-    rw (to_z-of_z l.ranges.kind) at l.list_checked.ensures
-
-pub list_8-requires : goal.list_8-requires
-list_8-requires c = let e = c in (sym c.is_wrong.ensures ∙ c.if-is_wrong.false, c.read_names-names.ensures (omega arith), omega arith)
+pub list_in-requires : goal.list_in-requires
+unfolding row_start
+list_in-requires c = (c.in-Some.ensures, omega (arith, row_start_mono {k = 8} c.if-n-le8.true), omega arith)
 
 pub returns-then-n-le8 : goal.returns-then-n-le8
-returns-then-n-le8 c = let l = c in
-    rw (to_z-of_z l.ranges.kind) at l.list_8.ensures
+returns-then-n-le8 c = rw (number_read c.ranges.kind c.in_ok-kind.ensures) at c.list_in.ensures
 
-pub list_16-requires : goal.list_16-requires
-list_16-requires c = let e = c in (sym c.is_wrong.ensures ∙ c.if-is_wrong.false, c.read_names-names.ensures (omega arith), omega arith)
+pub list_in-requires-then-n-le16 : goal.list_in-requires-then-n-le16
+unfolding row_start
+list_in-requires-then-n-le16 c = (c.in-Some.ensures, omega (arith, row_start_mono {k = 16} c.if-n-le16.true), omega arith)
 
 pub returns-then-n-le16 : goal.returns-then-n-le16
-returns-then-n-le16 c = let l = c in
-    rw (to_z-of_z l.ranges.kind) at l.list_16.ensures
+returns-then-n-le16 c = rw (number_read c.ranges.kind c.in_ok-kind.ensures) at c.list_in-then-n-le16.ensures
 
-pub list_32-requires : goal.list_32-requires
-list_32-requires c = let e = c in (sym c.is_wrong.ensures ∙ c.if-is_wrong.false, c.read_names-names.ensures (omega arith))
+pub list_in-requires-2 : goal.list_in-requires-2
+unfolding row_start
+list_in-requires-2 c = (c.in-Some.ensures, omega (arith, row_start_mono {k = 32} c.in-Some.ensures.line.few), omega arith)
 
 pub returns : goal.returns
-returns c = let l = c in
-    rw (to_z-of_z l.ranges.kind) at l.list_32.ensures
+returns c = rw (number_read c.ranges.kind c.in_ok-kind.ensures) at c.list_in-2.ensures

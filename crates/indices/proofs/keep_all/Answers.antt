@@ -3,10 +3,8 @@ use native.Mathlib.Omega.{arith}
 use Rattle.lists.proofs.Tests.{true_T}
 use Rattle.sets.specs.Sets.{members}
 use Rattle.sets.proofs.Sets.{has_yes}
-use Rattle.smallest.proofs.Kept.{kept_start, kept_yes, kept_no, kept_sorted, kept_end}
-use Rattle.clusters.specs.PairList.{score}
+use Rattle.smallest.proofs.Kept.{kept_start, kept_yes, kept_no, kept_end}
 use Rattle.indices.specs.Triples.{keep_all}
-use Rattle.indices.proofs.Triples.{sorted_before}
 use Rattle.indices.proofs.keep_all.Goals.{then-has, else-has}
 use Rattle.indices.proofs.keep_all.Goals as goal
 
@@ -15,15 +13,8 @@ loop-a-init c = (omega arith, kept_start)
 
 pub keep_before-requires : goal.keep_before-requires
 keep_before-requires c =
-    let r = c.loop-a.invariant.1 in
-    let (scores, small, few, rise, long, near) = c.requires in record {
-      scores = (
-        scores,
-        small,
-        omega arith,
-        omega (arith, r.long),
-        kept_sorted r (sorted_before c.args.n (score c.args.pairs.now) c.args.set c.args.k) rise,
-      );
+    let (scores, small, long, near) = c.requires in record {
+      scores = (scores, small, omega arith);
       n_in_bounds = (long, near, has_yes c.args.set c.loop-a.a (true_T (sym c.has.ensures ∙ c.if-has.true)));
     }
 
@@ -32,12 +23,9 @@ loop-a-preserved c =
     let r = c.loop-a.invariant.1 in
     let t = sym c.has.ensures in
     elim c.if-has.branch [
-      | then-has w ↦ (omega arith, kept_yes r (t ∙ w.if-has.true) w.kept-is w.keep_before.auto.kept w.keep_before.ensures)
+      | then-has w ↦ (omega arith, kept_yes r (t ∙ w.if-has.true) w.kept-is w.keep_before.ensures)
       | else-has w ↦ (omega arith, kept_no r (t ∙ w.if-has.false) w.kept-is)
     ]
-
-pub shape_of-kept : goal.shape_of-kept
-shape_of-kept c = c.loop-a.invariant.1.long
 
 pub returns : goal.returns
 unfolding keep_all members

@@ -3,10 +3,8 @@ use native.Mathlib.Omega.{arith}
 use Rattle.lists.proofs.Tests.{true_T}
 use Rattle.sets.specs.Sets.{members}
 use Rattle.sets.proofs.Sets.{has_yes}
-use Rattle.smallest.proofs.Kept.{kept_start, kept_yes, kept_no, kept_sorted, kept_end}
-use Rattle.clusters.specs.PairList.{score}
+use Rattle.smallest.proofs.Kept.{kept_start, kept_yes, kept_no, kept_end}
 use Rattle.indices.specs.Triples.{keep_before}
-use Rattle.indices.proofs.Triples.{sorted_outside}
 use Rattle.indices.proofs.keep_before.Goals.{then-has, else-has}
 use Rattle.indices.proofs.keep_before.Goals as goal
 
@@ -15,17 +13,9 @@ loop-b-init c = (omega arith, kept_start)
 
 pub keep_pair-requires : goal.keep_pair-requires
 keep_pair-requires c =
-    let r = c.loop-b.invariant.1 in
-    let (scores, small, low, few, rise) = c.requires.scores in
+    let (scores, small, low) = c.requires.scores in
     let (long, near, member) = c.requires.n_in_bounds in record {
-      scores = (
-        scores,
-        small,
-        low,
-        omega arith,
-        omega (arith, r.long),
-        kept_sorted r (sorted_outside c.args.n (score c.args.pairs.now) c.args.set c.args.k c.args.a) rise,
-      );
+      scores = (scores, small, low, omega arith);
       n_in_bounds = (long, near, member, has_yes c.args.set c.loop-b.b (true_T (sym c.has.ensures ∙ c.if-has.true)));
     }
 
@@ -34,12 +24,9 @@ loop-b-preserved c =
     let r = c.loop-b.invariant.1 in
     let t = sym c.has.ensures in
     elim c.if-has.branch [
-      | then-has w ↦ (omega arith, kept_yes r (t ∙ w.if-has.true) w.kept-is w.keep_pair.auto.kept w.keep_pair.ensures)
+      | then-has w ↦ (omega arith, kept_yes r (t ∙ w.if-has.true) w.kept-is w.keep_pair.ensures)
       | else-has w ↦ (omega arith, kept_no r (t ∙ w.if-has.false) w.kept-is)
     ]
-
-pub shape_of-kept : goal.shape_of-kept
-shape_of-kept c = c.loop-b.invariant.1.long
 
 pub returns : goal.returns
 unfolding keep_before members

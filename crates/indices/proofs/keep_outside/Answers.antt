@@ -9,9 +9,8 @@ use Rattle.integers.specs.Integers.{max_z}
 use Rattle.integers.proofs.Held.{passed}
 use Rattle.integers.proofs.Range.{within_equal, within_max}
 use Rattle.sets.specs.Sets.{others}
-use Rattle.smallest.specs.Smallest.{keep_smallest}
-use Rattle.smallest.proofs.Kept.{kept_start, kept_yes, kept_no, kept_sorted, kept_end}
-use Rattle.smallest.proofs.Rising.{sorted_kept}
+use Rattle.smallest.specs.Smallest.{kept_with}
+use Rattle.smallest.proofs.Kept.{kept_start, kept_yes, kept_no, kept_end}
 use Rattle.clusters.specs.PairList.{place, score}
 use Rattle.clusters.specs.Indices.{weight}
 use Rattle.matrix.specs.Rows.{number}
@@ -57,12 +56,6 @@ difference-requires c = let v = c.value in
           (within_max (within_equal (passed w64 v.type_inv v.ensures) (value_safe small _)) (within_equal (passed w64 u.type_inv u.ensures) (value_safe small _))),
     )
 
-pub keep_smallest-requires : goal.keep_smallest-requires
-keep_smallest-requires c = let r = c.loop-c.invariant.3 in (
-  omega (arith, c.requires.4, r.long),
-  kept_sorted r (λ l y. sorted_kept c.args.k l (weight (score c.args.pairs.now) c.args.a c.args.b y)) c.requires.5,
-)
-
 pub next_place-of_a-requires : goal.next_place-of_a-requires
 next_place-of_a-requires c = let g = c.requires.0 in
     (c.loop-c.invariant.1, omega (arith, g.few), omega (arith, g.few))
@@ -86,17 +79,14 @@ loop-c-preserved c =
         omega arith,
         next-a,
         next-b,
-        kept_yes i.3 (t ∙ ap not w.if-not-has.true) w.kept-is w.keep_smallest.auto.kept
-            (w.keep_smallest.ensures ∙ ap (keep_smallest _ _) (passed w64 w.difference.type_inv (w.difference.ensures ∙ ap₂ ◌-ℤ◌ (passed w64 own.type_inv own.ensures)
+        kept_yes i.3 (t ∙ ap not w.if-not-has.true) w.kept-is
+            (w.keep.ensures ∙ ap (kept_with _) (passed w64 w.difference.type_inv (w.difference.ensures ∙ ap₂ ◌-ℤ◌ (passed w64 own.type_inv own.ensures)
             (passed w64 w.larger-other.type_inv (w.larger-other.ensures
             ∙ ap₂ max_z (passed w64 w.value.type_inv (w.value.ensures ∙ ap at i.1))
             (passed w64 w.value-then-not-has.type_inv (w.value-then-not-has.ensures ∙ ap at i.2))))))),
       )
       | else-not-has w ↦ (omega arith, next-a, next-b, kept_no i.3 (t ∙ ap not w.if-not-has.false) w.kept-is)
     ]
-
-pub shape_of-kept : goal.shape_of-kept
-shape_of-kept c = c.loop-c.invariant.3.long
 
 pub returns : goal.returns
 unfolding keep_outside others

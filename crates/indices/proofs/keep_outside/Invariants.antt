@@ -2,7 +2,7 @@ use mathlib.Core.Path.{◌≡◌}
 use mathlib.Core.Bool.{not}
 use Prim.Native.Nat.{◌-◌, ◌≤◌}
 use Rattle.sets.specs.Sets.{has}
-use Rattle.smallest.specs.Smallest.{keep_smallest}
+use Rattle.smallest.specs.Smallest.{kept_with}
 use Rattle.smallest.proofs.Kept.{Kept}
 use Rattle.clusters.specs.PairList.{place, score}
 use Rattle.clusters.specs.Indices.{weight}
@@ -10,7 +10,7 @@ use Rattle.indices.proofs.keep_outside.Given as goal
 
 abbrev pub invariant-loop-c : goal.invariant-loop-c
 invariant-loop-c l = (l.c ≤ l.n) × (l.of_a ≡ place l.a l.c)
-    × (l.of_b ≡ place l.b l.c) × Kept (λ m c. keep_smallest l.k m (weight (score l.pairs) l.a l.b c)) (λ c. not (has l.set c)) l.k l.initial.kept l.c l.kept
+    × (l.of_b ≡ place l.b l.c) × Kept (λ m c. kept_with m (weight (score l.pairs) l.a l.b c)) (λ c. not (has l.set c)) l.initial.kept l.c l.kept
 
 abbrev pub decreases-loop-c : goal.decreases-loop-c
 decreases-loop-c l = l.n - l.c

@@ -1,10 +1,11 @@
+use mathlib.Core.Path.{refl}
 use Rattle.linkage.specs.Steps.{weight}
 use Rattle.linkage.proofs.weight.Goals as goal
 
-pub returns-then-average : goal.returns-then-average
+pub returns-in-Single : goal.returns-in-Single
 unfolding weight
-returns-then-average c = rw c.if-average.true c.size.ensures
+returns-in-Single c = rw c.in-Single.is refl
 
-pub returns-else-average : goal.returns-else-average
+pub returns-in-Average : goal.returns-in-Average
 unfolding weight
-returns-else-average c = rw c.if-average.false
+returns-in-Average c = rw c.in-Average.is c.size.ensures

@@ -7,12 +7,12 @@ use Rattle.integers.proofs.Held.{passed}
 use Rattle.links.specs.Table.{joined}
 use Rattle.links.proofs.join.Goals as goal
 
-pub returns-then-average : goal.returns-then-average
+pub returns-in-Average : goal.returns-in-Average
 unfolding joined
-returns-then-average c = let f = c.ranges in
-    rw c.if-average.true (passed w64 c.sum.type_inv (c.sum.ensures ∙ ap₂ ◌+ℤ◌ (to_z-of_z f.x) (to_z-of_z f.y)))
+returns-in-Average c = let f = c.ranges in
+    rw c.in-Average.is (passed w64 c.sum.type_inv (c.sum.ensures ∙ ap₂ ◌+ℤ◌ (to_z-of_z f.x) (to_z-of_z f.y)))
 
-pub returns-else-average : goal.returns-else-average
+pub returns-in-Single : goal.returns-in-Single
 unfolding joined
-returns-else-average c = let f = c.ranges in
-    rw c.if-average.false (passed w64 c.larger.type_inv (c.larger.ensures ∙ ap₂ max_z (to_z-of_z f.x) (to_z-of_z f.y)))
+returns-in-Single c = let f = c.ranges in
+    rw c.in-Single.is (passed w64 c.larger.type_inv (c.larger.ensures ∙ ap₂ max_z (to_z-of_z f.x) (to_z-of_z f.y)))

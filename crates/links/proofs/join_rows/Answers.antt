@@ -27,6 +27,6 @@ loop-q-preserved c = let g = (goal.at.loop-q-preserved c).After-get-in-loop-q in
     let e = c.requires.3.size in (
       omega arith,
       rw c.put.ensures (written_next c.loop-q.invariant.1
-          (passed w64 c.join.type_inv (c.join.ensures ∙ ap₂ (joined c.args.average) (first g) (second g)))
+          (passed w64 c.join.type_inv (c.join.ensures ∙ ap₂ (joined c.args.method) (first g) (second g)))
           (omega arith) (omega arith) (omega (arith, e)) (omega (arith, e))),
     )

@@ -19,26 +19,26 @@ tenfold : (k : ℕ) {top : ℕ} → top ≡ 10 ^ k → top * 10 ≡ 10 ^ (k + 1)
 tenfold k e = rw (add-one k, pow-suc 10 k, e)
 
 pub loop-k-init : goal.loop-k-init
-loop-k-init c = (omega arith, omega arith, refl, decimal_some c.args.n)
+loop-k-init c = (refl, decimal_some c.args.n)
 
 pub returns-then-n-top : goal.returns-then-n-top
-returns-then-n-top c = let l = c.loop-k in exact l.k _ l.invariant.0 (omega (arith, l.invariant.2)) l.invariant.3
+returns-then-n-top c = let l = c.loop-k in exact l.k _ (omega arith) (omega (arith, l.invariant.0)) l.invariant.1
 
 pub overflow_mul-top : goal.overflow_mul-top
 overflow_mul-top c = let l = c.loop-k in
-    record { fits = omega (arith, tenfold l.k l.invariant.2, ten_bound (l.k + 1) 19 (omega arith)) }
+    record { fits = omega (arith, tenfold l.k l.invariant.0, ten_bound (l.k + 1) 19 (omega arith)) }
 
 pub loop-k-preserved : goal.loop-k-preserved
 loop-k-preserved c = let l = c.loop-k in
-    (omega arith, omega arith, tenfold l.k l.invariant.2, omega (arith, decimal_least l.k c.args.n (omega (arith, l.invariant.2))))
+    (tenfold l.k l.invariant.0, omega (arith, decimal_least l.k c.args.n (omega (arith, l.invariant.0))))
 
 pub returns-then-n-top-2 : goal.returns-then-n-top-2
 returns-then-n-top-2 c = let l = c.loop-k in
-    let e : l.k ≡ 19 = omega (arith, l.invariant.1) in
-    exact 19 _ (omega arith) (omega (arith, l.invariant.2, ap (λ (k : ℕ). 10 ^ k) e)) (omega (arith, l.invariant.3))
+    let e : l.k ≡ 19 = omega arith in
+    exact 19 _ (omega arith) (omega (arith, l.invariant.0, ap (λ (k : ℕ). 10 ^ k) e)) (omega (arith, l.invariant.1))
 
 pub returns-else-n-top-2 : goal.returns-else-n-top-2
 returns-else-n-top-2 c = let l = c.loop-k in
     let n = c.args.n in
-    let e : l.k ≡ 19 = omega (arith, l.invariant.1) in
-    omega (arith, decimal_least 19 n (omega (arith, l.invariant.2, ap (λ (k : ℕ). 10 ^ k) e)), length_decimal 19 n (search rules))
+    let e : l.k ≡ 19 = omega arith in
+    omega (arith, decimal_least 19 n (omega (arith, l.invariant.0, ap (λ (k : ℕ). 10 ^ k) e)), length_decimal 19 n (search rules))

@@ -1,11 +1,8 @@
 use mathlib.Core.Path.{◌≡◌}
-use Prim.Native.Nat.{◌-◌, ◌^◌, ◌≤◌, ◌<◌}
+use Prim.Native.Nat.{◌^◌, ◌≤◌}
 use lib.ListN.{length}
 use Rattle.interface.specs.Listing.{decimal}
 use Rattle.listing.proofs.decimal_length.Given as goal
 
 abbrev pub invariant-loop-k : goal.invariant-loop-k
-invariant-loop-k l = (0 < l.k) × (l.k ≤ 19) × (l.top ≡ 10 ^ l.k) × (l.k ≤ length (decimal l.n))
-
-abbrev pub decreases-loop-k : goal.decreases-loop-k
-decreases-loop-k l = 19 - l.k
+invariant-loop-k l = (l.top ≡ 10 ^ l.k) × (l.k ≤ length (decimal l.n))

@@ -1,30 +1,12 @@
-use mathlib.Core.Path.{sym, ◌∙◌}
-use native.Mathlib.Omega.{arith}
-use borrow.Author.Tests.{not-true, not-false}
+use mathlib.Core.Path.{◌∙◌}
 use borrow.Author.Rules.{rules}
+use borrow.Author.Tests.{tests}
 use lib.IntN.{pos}
-use mir.Syntax.{w64}
-use Rattle.integers.proofs.Held.{passed}
-use Rattle.lists.proofs.Walk.{started, next, failed, ended}
-use mathlib.Core.Path.{ap}
-use mathlib.Core.Bool.{not}
+use lib.Signed.{le_z}
+use Rattle.std.proofs.lemmas.Iterator.{YieldsList-from_slice}
+use Rattle.std.proofs.lemmas.Iterator.Search.{all_from_yields_List}
+use Rattle.matrix.proofs.Chains.{all_is}
 use Rattle.matrix.proofs.are_not_negative.Goals as goal
 
-pub loop-i-init : goal.loop-i-init
-loop-i-init c = (omega arith, search rules, started)
-
-pub returns-then-not-at_most : goal.returns-then-not-at_most
-returns-then-not-at_most c = let v = c.value in
-    let s = c.loop-i.invariant.2 in
-    failed s (pos 0) (omega arith) (sym (rw (passed w64 v.type_inv v.ensures) at c.at_most.ensures) ∙ not-true _ (ap not c.if-not-at_most.true))
-
-pub loop-i-preserved : goal.loop-i-preserved
-loop-i-preserved c = let v = c.value in
-    let s = c.loop-i.invariant in (
-      omega arith,
-      s.1,
-      next s.2 (pos 0) (omega arith) (sym (rw (passed w64 v.type_inv v.ensures) at c.at_most.ensures) ∙ not-false _ (ap not c.if-not-at_most.false)),
-    )
-
 pub returns : goal.returns
-returns c = ended c.loop-i.invariant.2 (omega arith)
+returns c = all_from_yields_List (le_z (pos 0)) _ _ c.all.result c.all.ensures.ran (YieldsList-from_slice c.args.pairs.now cc) (λ x b q k. search (rules, tests)) ∙ all_is _ _

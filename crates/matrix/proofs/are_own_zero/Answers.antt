@@ -1,29 +1,26 @@
-use mathlib.Core.Path.{sym, ◌∙◌}
+use mathlib.Core.Path.{refl, ap, ◌∙◌}
 use native.Mathlib.Omega.{arith}
-use borrow.Author.Tests.{not-true, not-false}
-use mir.Syntax.{w64}
-use Rattle.integers.proofs.Held.{passed}
-use Rattle.lists.proofs.Walk.{started, next_below, failed_below, ended_below}
+use borrow.Author.Rules.{rules}
+use borrow.Author.Tests.{tests}
+use Prim.Native.Nat.{ℕ}
+use lib.IntN.{pos}
+use mir.Facts.{to_z-of_z}
+use Rattle.std.proofs.lemmas.Iterator.{YieldsList-from_range, serves_from_Range}
+use Rattle.std.proofs.lemmas.Iterator.Search.{all_from_yields_List}
+use Rattle.integers.specs.Integers.{eq_z}
+use Rattle.integers.proofs.Operators.{same_bits}
+use Rattle.clusters.specs.PairList.{score}
+use Rattle.lists.specs.Lists.{all}
+use Rattle.matrix.proofs.Chains.{all_is, below_is}
 use Rattle.matrix.proofs.Places.{score_asks}
-use mathlib.Core.Path.{ap}
-use mathlib.Core.Bool.{not}
 use Rattle.matrix.proofs.are_own_zero.Goals as goal
 
-pub loop-a-init : goal.loop-a-init
-loop-a-init c = (omega arith, started)
-
-pub score-requires : goal.score-requires
-score-requires c = let s = c.before.before in score_asks {n = s.args.n} s.args.pairs.now s.requires.0 s.requires.1 (omega arith) (omega arith)
-
-pub returns-then-not-is_equal : goal.returns-then-not-is_equal
-returns-then-not-is_equal c = let v = c.score in
-    let s = c.loop-a.invariant.1 in
-    failed_below s (omega arith) (sym (rw (passed w64 v.type_inv v.ensures) at c.is_equal.ensures) ∙ not-true _ (ap not c.if-not-is_equal.true))
-
-pub loop-a-preserved : goal.loop-a-preserved
-loop-a-preserved c = let v = c.score in
-    let s = c.loop-a.invariant.1 in
-    (omega arith, next_below s (omega arith) (sym (rw (passed w64 v.type_inv v.ensures) at c.is_equal.ensures) ∙ not-false _ (ap not c.if-not-is_equal.false)))
+pub all-requires-clause-callable : goal.all-requires-clause-callable
+all-requires-clause-callable c = serves_from_Range (λ x q k. search rules)
+    (λ x h k. let asked = score_asks {a = x} {b = x} c.args.pairs.now c.requires.0 c.requires.1 k k in search (rules, asked))
 
 pub returns : goal.returns
-returns c = ended_below c.loop-a.invariant.1 (omega arith)
+returns c = let test = λ (a : ℕ). eq_z (score c.args.pairs.now a a) (pos 0) in
+    all_from_yields_List test _ _ c.all.result c.all.ensures.ran (YieldsList-from_range 0 c.args.n c.args.n refl (omega arith))
+    (λ x b q k. search (rules, tests, to_z-of_z, same_bits))
+    ∙ all_is _ _ ∙ ap (all test) (below_is c.args.n)

@@ -8,6 +8,7 @@ use Rattle.clusters.specs.Touched.{touched_entries}
 use Rattle.clusters.proofs.Scored.{list_scored}
 use Rattle.sets.specs.Sets.{◌∪◌}
 use Rattle.matrix.proofs.Touched.{join_started, join_less, join_more, join_ended, none_touched}
+use Rattle.matrix.proofs.touched_entries.Goals.{then-not-is_row_scored, else-not-is_row_scored}
 use Rattle.matrix.proofs.touched_entries.Goals as goal
 
 pub returns-then-not-has_unscored : goal.returns-then-not-has_unscored
@@ -18,16 +19,18 @@ returns-then-not-has_unscored c = let s = c.before.before in
 pub loop-a-init : goal.loop-a-init
 loop-a-init c = (omega arith, join_started)
 
-pub loop-a-preserved-then-is_row_scored : goal.loop-a-preserved-then-is_row_scored
-loop-a-preserved-then-is_row_scored c = (omega arith, join_less c.loop-a.invariant.1 (ap not (sym c.is_row_scored.ensures ∙ c.if-is_row_scored.true)))
-
 pub loop-a-preserved : goal.loop-a-preserved
-loop-a-preserved c = let e = c.before.before in
-    let l = e.loop-a in (
-      omega arith,
-      join_more l.invariant.1 (omega arith) (ap not (sym e.is_row_scored.ensures ∙ e.if-is_row_scored.false))
-          (c.union-touched.ensures ∙ ap (λ (B : ℕ). l.touched ∪ B) c.single.ensures),
-    )
+loop-a-preserved c =
+    let l = c.loop-a in
+    let e = sym c.is_row_scored.ensures in
+    elim c.if-not-is_row_scored.branch [
+      | then-not-is_row_scored w ↦ (
+        omega arith,
+        join_more l.invariant.1 (omega arith) (ap not (e ∙ w.if-not-is_row_scored.true))
+            (w.touched-is ∙ w.union-touched.ensures ∙ ap (λ (B : ℕ). l.touched ∪ B) w.single.ensures),
+      )
+      | else-not-is_row_scored w ↦ (omega arith, rw (w.touched-is) (join_less l.invariant.1 (ap not (e ∙ w.if-not-is_row_scored.false))))
+    ]
 
 pub returns : goal.returns
 unfolding touched_entries

@@ -13,5 +13,5 @@ invariant-loop-i l =
     (l.i ≤ l.n)
     × (l.i < l.n → Starts l.first l.i l.from)
     × Passed (λ w. is_among w (cut 32 l.second)) (cut 32 l.first) l.i
-    × ((k : ℕ) → k < l.i → get_or l.at k 0 ≡ place_of (get_or (cut 32 l.first) k []) (cut 32 l.second))
-    × (length l.at ≡ 32)
+    × ((k : ℕ) → k < l.i → get_or l.places k 0 ≡ place_of (get_or (cut 32 l.first) k []) (cut 32 l.second))
+    × (length l.places ≡ 32)

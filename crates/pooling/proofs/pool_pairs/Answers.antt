@@ -1,5 +1,5 @@
 use mathlib.Core.Path.{◌≡◌, sym, ap, ◌∙◌, subst₂}
-use mathlib.Core.Bool.{Bool}
+use Rattle.std.specs.Prelude.{Option, Some, None}
 use mathlib.Core.List.{List, ◌++◌}
 use Prim.Native.Nat.{ℕ, ◌+◌}
 use native.Mathlib.Omega.{arith}
@@ -17,9 +17,9 @@ use Rattle.pooling.proofs.pool_pairs.Goals as goal
 
 -- the places of the first's names on the second
 found : {first second : List ℕ} {n m : ℕ} {scores others : List ℤ} (a : AcceptedSheet first n scores) (b : AcceptedSheet second m others)
-    {end end2 : ℕ} → end ≡ 0 + length (piece_at 10 first 0) → end2 ≡ 0 + length (piece_at 10 second 0) → {places : List ℕ} {all : Bool}
-    → PlacesOn (cut space (take end first)) (cut space (take end2 second)) places all → PlacesOn (names first) (names second) places all
-found a b is is2 {places} {all} p = subst₂ (λ (ns ms : List (List ℕ)). PlacesOn ns ms places all) (line_names a _ is) (line_names b _ is2) p
+    {end end2 : ℕ} → end ≡ 0 + length (piece_at 10 first 0) → end2 ≡ 0 + length (piece_at 10 second 0) → (r : Option (List ℕ))
+    → PlacesOn (cut space (take end first)) (cut space (take end2 second)) r → PlacesOn (names first) (names second) r
+found a b is is2 r p = subst₂ (λ (ns ms : List (List ℕ)). PlacesOn ns ms r) (line_names a _ is) (line_names b _ is2) p
 
 -- the sums are the pair list of the pool
 sums : (n : ℕ) (v : Similarity) (rest : List ℤ) {out : List ℤ} {count : ℕ} → out ≡ pair_list n v ++ rest → count ≡ row_start n
@@ -35,20 +35,20 @@ slice_bounds-places_on-end c = line_length _ _ c.line_end-end.ensures
 pub slice_bounds-places_on-end-2 : goal.slice_bounds-places_on-end-2
 slice_bounds-places_on-end-2 c = line_length _ _ c.line_end-end2.ensures
 
-pub places_on-places-requires : goal.places_on-places-requires
-places_on-places-requires c = let (a, b) = c.requires in
-    (few a, line_count a _ c.line_end-end.ensures, omega (arith, line_count b _ c.line_end-end2.ensures))
+pub places_on-requires : goal.places_on-requires
+places_on-requires c = let (a, b) = c.requires in
+    (few a, line_count a _ c.line_end-end.ensures)
 
-pub returns-then-not-places : goal.returns-then-not-places
-returns-then-not-places c = let (a, b) = c.requires in
-    other_names a b _ (found a b c.line_end-end.ensures c.line_end-end2.ensures c.places_on-places.ensures) c.if-not-places.true
+pub returns-in_default : goal.returns-in_default
+returns-in_default c = let (a, b) = c.requires in
+    other_names a b _ (found a b c.line_end-end.ensures c.line_end-end2.ensures None c.in_default.ensures)
 
 pub add-requires : goal.add-requires
 add-requires c = let (a, b) = c.requires in
     let n = c.args.n in
     let same : n ≡ c.args.m = omega arith in
-    let p = found a b c.line_end-end.ensures c.line_end-end2.ensures c.places_on-places.ensures in
-    (few a, long a, long b ∙ ap row_start (sym same), in_range_lem a, in_range_lem b, p.long, place_few a b same p c.if-not-places.false, row_start_le n (few a))
+    let p = found a b c.line_end-end.ensures c.line_end-end2.ensures (Some c.in-Some.places) c.in-Some.ensures in
+    (few a, long a, long b ∙ ap row_start (sym same), in_range_lem a, in_range_lem b, p.long, place_few a b same p, row_start_le n (few a))
 
 pub pair_count-count-requires : goal.pair_count-count-requires
 pair_count-count-requires c = few c.requires.0
@@ -74,5 +74,5 @@ pub returns : goal.returns
 returns c = let (a, b) = c.requires in
     let same : c.args.n ≡ c.args.m = omega arith in
     let is = c.line_end-end.ensures in
-    let p = found a b is c.line_end-end2.ensures c.places_on-places.ensures in
-    pool_written a b same p c.if-not-places.false _ (sums c.args.n _ _ c.add.ensures c.pair_count-count.ensures) _ is c.write_sums.ensures
+    let p = found a b is c.line_end-end2.ensures (Some c.in-Some.places) c.in-Some.ensures in
+    pool_written a b same p _ (sums c.args.n _ _ c.add.ensures c.pair_count-count.ensures) _ is c.write_sums.ensures

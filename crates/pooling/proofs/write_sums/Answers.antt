@@ -1,7 +1,7 @@
 use mathlib.Core.Path.{refl, sym, ap, ◌∙◌}
 use mathlib.Core.Bool.{not}
-use native.Mathlib.Omega.{arith}
 use lib.ListN.{length}
+use Rattle.answers.specs.declared.Refusal.TheVariants.{SumOutOfRange}
 use Rattle.answers.proofs.WaysOut.{refused}
 use Rattle.interface.proofs.Refusals.{gives, first_yes, first_no}
 use Rattle.listing.specs.Over.{over_refusal}
@@ -15,7 +15,7 @@ pub returns-then-not-scores_in_range : goal.returns-then-not-scores_in_range
 unfolding sums_refusal
 returns-then-not-scores_in_range c = let text = sheet_of c.args.line.now c.args.sums.now in
     let asked = ap not (sym c.scores_in_range.ensures ∙ c.if-not-scores_in_range.true) in
-    let (a, w) = refused {r = 18} (length text) text c.args.out.now (gives (first_yes asked)) (λ z. omega arith) in
+    let (a, w) = refused (length text) text c.args.out.now {e = SumOutOfRange} (gives (first_yes asked)) in
     record { answered = a; written = w }
 
 pub write-written-requires-clause-n_in_bounds : goal.write-written-requires-clause-n_in_bounds

@@ -1,28 +1,29 @@
-use mathlib.Core.Path.{sym, ◌∙◌}
+use mathlib.Core.Path.{sym, ap₂, ◌∙◌}
+use mathlib.Core.List.{List, ◌++◌}
+use Prim.Native.Nat.{ℕ}
+use lib.IntN.{ℤ}
+use lib.ListN.{drop}
 use native.Mathlib.Omega.{arith}
 use Rattle.clusters.proofs.PairList.{row_start_le}
 use Rattle.reader.proofs.Answers.{few_entries, accepted_answer, accepted_pairs, accepted_call, pairs_long, pairs_fit}
 use Rattle.reader.proofs.read.Goals as goal
 
-pub returns-then-n-eq0 : goal.returns-then-n-eq0
-returns-then-n-eq0 c = c.read_checked.ensures
+pub returns-in_default : goal.returns-in_default
+returns-in_default c = c.read_checked.ensures
 
 pub pair_count-count-requires : goal.pair_count-count-requires
-pair_count-count-requires c = few_entries _ (accepted_answer (c.accept-n.ensures (omega arith)))
+pair_count-count-requires c = few_entries _ (accepted_answer c.in-Some.ensures)
 
 pub slice_bounds-own-end : goal.slice_bounds-own-end
-slice_bounds-own-end c = let a = c.accept-n.ensures (omega arith) in
+slice_bounds-own-end c = let a = c.in-Some.ensures in
     pairs_fit _ (accepted_answer a) _ c.pair_count-count.ensures (accepted_pairs a c.pair_count-count.ensures)
 
-pub slice_bounds-put-end-2 : goal.slice_bounds-put-end-2
-slice_bounds-put-end-2 c = let a = c.accept-n.ensures (omega arith) in
-    c.pair_count-count.ensures ∙ sym (pairs_long _ (accepted_answer a) (accepted_pairs a c.pair_count-count.ensures))
-
-pub put-requires : goal.put-requires
-put-requires c = let a = c.accept-n.ensures (omega arith) in
-    let f = accepted_answer a in
-    omega (arith, pairs_long _ f (accepted_pairs a c.pair_count-count.ensures), row_start_le _ (few_entries _ f))
+pub slice_bounds-copy_from_slice-end : goal.slice_bounds-copy_from_slice-end
+slice_bounds-copy_from_slice-end c = omega (arith, row_start_le _ (few_entries _ (accepted_answer c.in-Some.ensures)))
 
 pub returns : goal.returns
-returns c = let a = c.accept-n.ensures (omega arith) in
-    accepted_call a _ (accepted_pairs a c.pair_count-count.ensures) c.put.ensures
+returns c = let a = c.in-Some.ensures in
+    let k = c.pair_count-count.ensures in
+    let pairs = accepted_pairs a k in
+    let long = k ∙ sym (pairs_long _ (accepted_answer a) pairs) in
+    accepted_call a _ pairs (ap₂ (λ (t : List ℤ) (m : ℕ). t ++ drop m c.args.pairs.now) c.copy_from_slice.ensures.after long)

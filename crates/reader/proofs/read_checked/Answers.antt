@@ -1,9 +1,12 @@
-use mathlib.Core.Path.{◌≡◌, sym, ap, ◌∙◌}
-use mathlib.Core.Bool.{Bool, false, not}
+use mathlib.Core.Path.{◌≡◌, refl, sym, ap, ◌∙◌}
+use mathlib.Core.Bool.{Bool, false, not, cond}
 use mathlib.Core.List.{List}
 use Prim.Native.Nat.{ℕ}
+use native.Mathlib.Omega.{arith}
 use borrow.Author.Rules.{rules}
 use lib.ListN.{drop}
+use Rattle.std.proofs.lemmas.Result.{err_from_is_err_and}
+use Rattle.answers.proofs.Answers.{number_above}
 use Rattle.interface.specs.Sheet.{entries, value, mirrored}
 use Rattle.interface.specs.Refusals.{wrong_length, wrong_byte, wrong_names, equal_names, wrong_count, wrong_lines, reader_checks}
 use Rattle.interface.proofs.Refusals.{Gives, first_yes, first_no, no_more, right_count}
@@ -81,15 +84,19 @@ read_rows-requires c =
     let few = right_count _ (is c.is_wrong_count.ensures c.if-is_wrong_count.false) in
     (c.entry_count-n.ensures, few, is c.wrong_lines.ensures c.if-wrong_lines.false, search rules)
 
-pub returns-then-read_rows-ne0 : goal.returns-then-read_rows-ne0
+pub returns-in_err-read_rows : goal.returns-in_err-read_rows
 unfolding reader_checks
-returns-then-read_rows-ne0 c = let c2 = is c.wrong_length.ensures c.if-wrong_length.false in
+returns-in_err-read_rows c = let c2 = is c.wrong_length.ensures c.if-wrong_length.false in
     let c3 = is c.wrong_byte.ensures c.if-wrong_byte.false in
     let c4 = is c.wrong_names.ensures c.if-wrong_names.false in
     let c5 = is c.equal_names.ensures c.if-equal_names.false in
     let c6 = is (c.is_wrong_count.ensures ∙ ap wrong_count c.entry_count-n.ensures) c.if-is_wrong_count.false in
     let c7 = is c.wrong_lines.ensures c.if-wrong_lines.false in
-    refused _ _ (behind7 _ c2 c3 c4 c5 c6 c7 _ (first_yes (refuses _ _ c.read_rows.ensures.value c.if-read_rows-ne0.true)))
+    let p = err_from_is_err_and c.from_residual.result c.from_residual.ensures.1 in
+    let e = c.in_err-read_rows.field-0.0 in
+    let wrong = refuses _ _ c.in_err-read_rows.ensures.value (λ z. let above = number_above e in omega (arith, above, z)) in
+    let eight = c.in_err-read_rows.ensures.value ∙ ap (λ b. cond b 8 0) wrong in
+    rw (p.1, p.2) (refused _ _ {e = e} (rw eight (behind7 _ c2 c3 c4 c5 c6 c7 _ (first_yes wrong))))
 
 pub is_mirrored-requires : goal.is_mirrored-requires
 is_mirrored-requires c = (right_count _ (is c.is_wrong_count.ensures c.if-is_wrong_count.false), search rules)
@@ -107,8 +114,8 @@ returns-then-not-is_mirrored c = let s = c.args.sheet.now in
     let c5 = is c.equal_names.ensures c.if-equal_names.false in
     let c6 = is (c.is_wrong_count.ensures ∙ ap wrong_count c.entry_count-n.ensures) c.if-is_wrong_count.false in
     let c7 = is c.wrong_lines.ensures c.if-wrong_lines.false in
-    let c8 = passes _ _ c.read_rows.ensures.value c.if-read_rows-ne0.false in
-    let held = c.read_rows.ensures.holds c.if-read_rows-ne0.false in
+    let c8 = passes _ _ c.in_ok-read_rows.ensures.value refl in
+    let held = c.in_ok-read_rows.ensures.holds in
     let c9 = mirror s (c.is_mirrored.ensures ∙ mirrored_same _ _ (value s) held) c.entry_count-n.ensures c.if-not-is_mirrored.true in
     refused _ _ (behind7 _ c2 c3 c4 c5 c6 c7 _ (first_no c8 (first_yes c9)))
 
@@ -124,8 +131,8 @@ returns c = let s = c.args.sheet.now in
     let c5 = is c.equal_names.ensures c.if-equal_names.false in
     let c6 = is (c.is_wrong_count.ensures ∙ ap wrong_count c.entry_count-n.ensures) c.if-is_wrong_count.false in
     let c7 = is c.wrong_lines.ensures c.if-wrong_lines.false in
-    let c8 = passes _ _ c.read_rows.ensures.value c.if-read_rows-ne0.false in
-    let held = c.read_rows.ensures.holds c.if-read_rows-ne0.false in
+    let c8 = passes _ _ c.in_ok-read_rows.ensures.value refl in
+    let held = c.in_ok-read_rows.ensures.holds in
     let c9 = mirror s (c.is_mirrored.ensures ∙ mirrored_same _ _ (value s) held) c.entry_count-n.ensures c.if-not-is_mirrored.false in
     let all = behind7 _ c2 c3 c4 c5 c6 c7 _ (first_no c8 (first_no c9 no_more)) in
     passed _ _ c.entry_count-n.result c.read_rows.new.values all c.entry_count-n.ensures held c.fill.ensures

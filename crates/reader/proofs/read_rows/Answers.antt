@@ -1,5 +1,5 @@
 use mathlib.Core.List.{map}
-use mathlib.Core.Path.{◌≡◌, ap, ◌∙◌}
+use mathlib.Core.Path.{◌≡◌, refl, ap, ◌∙◌}
 use mathlib.Core.Bool.{true, false, not, cond}
 use Prim.Native.Nat.{ℕ, ◌+◌, ◌*◌, ◌≤◌, ◌<◌}
 use mathlib.Core.List.{List}
@@ -7,6 +7,8 @@ use lib.ListN.{length, drop}
 use native.Mathlib.Omega.{arith}
 use borrow.Author.Tests.{not-true, not-false}
 use lib.Seq.{sets}
+use Rattle.std.proofs.lemmas.Result.{err_from_is_err_and}
+use Rattle.answers.proofs.Answers.{number_above}
 use Rattle.lists.proofs.Walk.{started, next_below, failed_below, ended_below}
 use Rattle.interface.specs.Sheet.{cut, lines, entries, words, value}
 use Rattle.interface.specs.Calls.{piece_at}
@@ -43,17 +45,19 @@ slice_bounds-read_row-end c = let l = c.loop-i in
 pub read_row-requires : goal.read_row-requires
 read_row-requires c = omega arith
 
-pub returns-then-read_row-ne0 : goal.returns-then-read_row-ne0
-returns-then-read_row-ne0 c = let l = c.loop-i in
+pub returns-in_err-read_row : goal.returns-in_err-read_row
+returns-in_err-read_row c = let l = c.loop-i in
     let s = c.args.sheet.now in
     let n = c.args.n in
     let t = line s n l.i c.requires.0 c.requires.2 (omega arith) l.invariant.1 c.line_end-end.ensures l.invariant.2 in
-    let answer = c.read_row.ensures.value ∙ ap (λ ws. cond (not (is_row n ws)) 8 0) (line_words_lem s _ _ _ t) in
-    let no = not-true _ (refuses _ _ answer c.if-read_row-ne0.true) in
-    record {
-      value = values_tested s n c.requires.0 (failed_below l.invariant.3 (omega arith) no);
-      holds = λ z. absurd (omega (arith, z));
-    }
+    let p = err_from_is_err_and c.from_residual.result c.from_residual.ensures.1 in
+    let answer = c.in_err-read_row.ensures.value ∙ ap (λ ws. cond (not (is_row n ws)) 8 0) (line_words_lem s _ _ _ t) in
+    let wrong = refuses _ _ answer (λ z. let above = number_above c.in_err-read_row.field-0.0 in omega (arith, above, z)) in
+    let eight = answer ∙ ap (λ b. cond b 8 0) wrong in
+    rw (p.1, p.2) (record {
+      value = eight ∙ values_tested s n c.requires.0 (failed_below l.invariant.3 (omega arith) (not-true _ wrong));
+      holds = tt;
+    })
 
 pub overflow_add-at-in-loop-i : goal.overflow_add-at-in-loop-i
 overflow_add-at-in-loop-i c = let l = c.loop-i in
@@ -66,9 +70,9 @@ loop-i-preserved c = let l = c.loop-i in
     let n = c.args.n in
     let t = line s n l.i c.requires.0 c.requires.2 (omega arith) l.invariant.1 c.line_end-end.ensures l.invariant.2 in
     let ws = line_words_lem s _ _ _ t in
-    let answer = c.read_row.ensures.value ∙ ap (λ ws. cond (not (is_row n ws)) 8 0) ws in
-    let y : is_row n (words s l.i) ≡ true = not-false _ (passes _ _ answer c.if-read_row-ne0.false) in
-    let m = c.read_row.ensures.values_after c.if-read_row-ne0.false ∙ ap (λ ws. sets l.values (l.i * 32) (map number_said ws)) ws in (
+    let answer = c.in_ok-read_row.ensures.value ∙ ap (λ ws. cond (not (is_row n ws)) 8 0) ws in
+    let y : is_row n (words s l.i) ≡ true = not-false _ (passes _ _ answer refl) in
+    let m = c.in_ok-read_row.ensures.values_after ∙ ap (λ ws. sets l.values (l.i * 32) (map number_said ws)) ws in (
       omega arith,
       omega (arith, t.inside),
       t.next,
@@ -83,5 +87,5 @@ returns c = let a = c.args in
     let l = c.loop-i in
     record {
       value = values_tested a.sheet.now a.n c.requires.0 (ended_below l.invariant.3 (omega arith));
-      holds = λ e i j p q. l.invariant.4 i j (omega arith) q;
+      holds = λ i j p q. l.invariant.4 i j (omega arith) q;
     }

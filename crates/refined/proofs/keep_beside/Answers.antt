@@ -1,30 +1,34 @@
 use mathlib.Core.Path.{refl, ap, ◌∙◌}
 use mathlib.Core.List.{foldl}
 use native.Mathlib.Omega.{arith}
+use lib.ListN.{length}
+use lib.Seq.{take_all}
 use mir.Syntax.{w64}
 use Rattle.lists.specs.Lists.{below}
 use Rattle.lists.proofs.Lists.{keep_true}
+use Rattle.integers.proofs.Running.{foldl_at}
+use Rattle.clusters.specs.Refined.{quartet, doubled_score}
+use Rattle.links.specs.Table.{entry}
 use Rattle.integers.proofs.Held.{passed}
-use Rattle.smallest.specs.Smallest.{keep_smallest}
-use Rattle.smallest.proofs.Kept.{kept_start, kept_yes, kept_sorted, kept_end}
-use Rattle.smallest.proofs.Rising.{sorted_kept}
+use Rattle.smallest.specs.Smallest.{kept_with}
+use Rattle.smallest.proofs.Kept.{kept_start, kept_yes, kept_end}
 use Rattle.refined.specs.Kept.{keep_beside}
 use Rattle.refined.proofs.keep_beside.Goals as goal
 
-pub loop-j-init : goal.loop-j-init
-loop-j-init c = (omega arith, kept_start)
+pub loop-b2-init : goal.loop-b2-init
+loop-b2-init c = (omega arith, kept_start)
 
-pub keep_smallest-requires : goal.keep_smallest-requires
-keep_smallest-requires c = let r = c.loop-j.invariant.1 in
-    (omega (arith, r.long, c.requires.5), kept_sorted r (λ l y. sorted_kept c.args.k l _) c.requires.6)
-
-pub loop-j-preserved : goal.loop-j-preserved
-loop-j-preserved c = (
+pub loop-b2-preserved : goal.loop-b2-preserved
+loop-b2-preserved c = (
   omega arith,
-  kept_yes c.loop-j.invariant.1 refl refl c.keep_smallest.auto.kept
-      (c.keep_smallest.ensures ∙ ap (keep_smallest _ _) (passed w64 c.doubled_score.type_inv c.doubled_score.ensures)),
+  kept_yes c.loop-b2.invariant.1 refl refl
+      (c.keep.ensures ∙ ap (kept_with _) (passed w64 c.doubled_score.type_inv c.doubled_score.ensures)),
 )
 
 pub returns : goal.returns
 unfolding keep_beside
-returns c = kept_end c.loop-j.invariant.1 (omega arith) ∙ ap (foldl _ _) (keep_true (below c.args.i))
+returns c =
+    let a = c.args in
+    kept_end c.loop-b2.invariant.1 (omega arith) ∙ ap (foldl _ _) (keep_true (below (length a.before.now)))
+    ∙ foldl_at (λ l b'. kept_with l (doubled_score (entry a.t.now) (quartet (a.a, a.a2) (a.b, b')))) a.before.now a.kept.now (length a.before.now) (omega arith)
+    ∙ ap (foldl _ _) (take_all (length a.before.now) a.before.now (omega arith))

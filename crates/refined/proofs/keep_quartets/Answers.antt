@@ -1,10 +1,8 @@
 use mathlib.Core.Path.{sym, ◌∙◌}
 use native.Mathlib.Omega.{arith}
 use Rattle.sets.specs.Sets.{members}
-use Rattle.smallest.proofs.Kept.{kept_start, kept_yes, kept_no, kept_sorted, kept_end}
-use Rattle.links.specs.Table.{entry}
+use Rattle.smallest.proofs.Kept.{kept_start, kept_yes, kept_no, kept_end}
 use Rattle.refined.specs.Kept.{keep_quartets}
-use Rattle.refined.proofs.Kept.{sorted_within}
 use Rattle.refined.proofs.keep_quartets.Goals.{then-has, else-has}
 use Rattle.refined.proofs.keep_quartets.Goals as goal
 
@@ -12,14 +10,11 @@ pub loop-a-init : goal.loop-a-init
 loop-a-init c = (omega arith, kept_start)
 
 pub keep_within-requires : goal.keep_within-requires
-keep_within-requires c = let a = c.args in
-    let r = c.loop-a.invariant.1 in
-    let rising = kept_sorted r (sorted_within (entry a.t.now) a.k a.outside.now a.side) c.requires.3 in
-    (c.requires.0, omega arith, c.requires.1, omega (arith, r.long, c.requires.2), rising)
+keep_within-requires c = (c.requires.0, omega arith, c.requires.1)
 
 pub loop-a-preserved : goal.loop-a-preserved
 loop-a-preserved c = elim c.if-has.branch [
-  | then-has w ↦ (omega arith, kept_yes c.loop-a.invariant.1 (sym c.has.ensures ∙ w.if-has.true) w.kept-is w.keep_within.auto.kept w.keep_within.ensures)
+  | then-has w ↦ (omega arith, kept_yes c.loop-a.invariant.1 (sym c.has.ensures ∙ w.if-has.true) w.kept-is w.keep_within.ensures)
   | else-has w ↦ (omega arith, kept_no c.loop-a.invariant.1 (sym c.has.ensures ∙ w.if-has.false) w.kept-is)
 ]
 

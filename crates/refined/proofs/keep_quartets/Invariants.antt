@@ -6,4 +6,4 @@ use Rattle.refined.specs.Kept.{keep_within}
 use Rattle.refined.proofs.keep_quartets.Given as goal
 
 abbrev pub invariant-loop-a : goal.invariant-loop-a
-invariant-loop-a l = (l.a ≤ l.n) × Kept (λ ks y. keep_within (entry l.t) l.side l.k l.outside y ks) (has l.side) l.k l.initial.kept l.a l.kept
+invariant-loop-a l = (l.a ≤ l.n) × Kept (λ ks y. keep_within (entry l.t) l.side l.outside y ks) (has l.side) l.initial.kept l.a l.kept

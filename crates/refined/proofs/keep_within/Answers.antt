@@ -1,10 +1,8 @@
 use mathlib.Core.Path.{sym, ◌∙◌}
 use native.Mathlib.Omega.{arith}
 use Rattle.sets.specs.Sets.{members}
-use Rattle.smallest.proofs.Kept.{kept_start, kept_yes, kept_no, kept_sorted, kept_end}
-use Rattle.links.specs.Table.{entry}
+use Rattle.smallest.proofs.Kept.{kept_start, kept_yes, kept_no, kept_end}
 use Rattle.refined.specs.Kept.{keep_within}
-use Rattle.refined.proofs.Kept.{sorted_across}
 use Rattle.refined.proofs.keep_within.Goals.{then-has, else-has}
 use Rattle.refined.proofs.keep_within.Goals as goal
 
@@ -12,14 +10,11 @@ pub loop-a2-init : goal.loop-a2-init
 loop-a2-init c = (omega arith, kept_start)
 
 pub keep_across-requires : goal.keep_across-requires
-keep_across-requires c = let a = c.args in
-    let r = c.loop-a2.invariant.1 in
-    let rising = kept_sorted r (sorted_across (entry a.t.now) a.k a.outside.now a.a) c.requires.4 in
-    (c.requires.0, c.requires.1, omega arith, c.requires.2, omega (arith, r.long, c.requires.3), rising)
+keep_across-requires c = (c.requires.0, c.requires.1, omega arith, c.requires.2)
 
 pub loop-a2-preserved : goal.loop-a2-preserved
 loop-a2-preserved c = elim c.if-has.branch [
-  | then-has w ↦ (omega arith, kept_yes c.loop-a2.invariant.1 (sym c.has.ensures ∙ w.if-has.true) w.kept-is w.keep_across.auto.kept w.keep_across.ensures)
+  | then-has w ↦ (omega arith, kept_yes c.loop-a2.invariant.1 (sym c.has.ensures ∙ w.if-has.true) w.kept-is w.keep_across.ensures)
   | else-has w ↦ (omega arith, kept_no c.loop-a2.invariant.1 (sym c.has.ensures ∙ w.if-has.false) w.kept-is)
 ]
 

@@ -6,4 +6,4 @@ use Rattle.refined.specs.Kept.{keep_across}
 use Rattle.refined.proofs.keep_within.Given as goal
 
 abbrev pub invariant-loop-a2 : goal.invariant-loop-a2
-invariant-loop-a2 l = (l.a2 ≤ l.a) × Kept (λ ks y. keep_across (entry l.t) l.k l.a y l.outside ks) (has l.side) l.k l.initial.kept l.a2 l.kept
+invariant-loop-a2 l = (l.a2 ≤ l.a) × Kept (λ ks y. keep_across (entry l.t) l.a y l.outside ks) (has l.side) l.initial.kept l.a2 l.kept

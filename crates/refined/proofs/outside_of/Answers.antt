@@ -1,22 +1,39 @@
-use mathlib.Core.Path.{refl, sym, ap, ◌∙◌}
+use mathlib.Core.Path.{◌≡◌, sym, ap, ◌∙◌}
 use mathlib.Core.Bool.{not}
+use lib.ListN.{length}
+use Prim.Native.Nat.{ℕ}
 use native.Mathlib.Omega.{arith}
-use lib.ListN.{length-set}
-use Rattle.refined.proofs.Outside.{listed_start, listed_next, listed_same}
+use Rattle.lists.specs.Lists.{below, keep}
+use Rattle.sets.specs.Sets.{others}
+use Rattle.arrayvec.specs.ArrayVec.{ArrayVec}
+use Rattle.refined.proofs.Outside.{listed_next, listed_same}
+use Rattle.refined.proofs.outside_of.Goals.{then-not-has, else-not-has}
 use Rattle.refined.proofs.outside_of.Goals as goal
 
--- an entry of the side, and one outside
-pub loop-b-preserved-then-has : goal.loop-b-preserved-then-has
-loop-b-preserved-then-has c = let i = c.loop-b.invariant in
-    (listed_same i.0 (sym c.has.ensures ∙ c.if-has.true), omega arith, omega arith, i.3)
+pub loop-b-init : goal.loop-b-init
+unfolding others below keep
+loop-b-init c = (omega arith, omega (arith, ap length c.new-outside.ensures), c.new-outside.ensures)
+
+-- the entries of a vector that is another
+items : {v w : ArrayVec ℕ} → v ≡ w → v.items ≡ w.items
+items e = ap (λ (v : ArrayVec ℕ). v.items) e
 
 pub loop-b-preserved : goal.loop-b-preserved
-loop-b-preserved c = let l = c.loop-b in (
-  listed_next l.invariant.0 (ap not (sym c.has.ensures ∙ c.if-has.false)) (omega arith),
-  omega arith,
-  omega arith,
-  length-set l.list l.count l.b ∙ l.invariant.3,
-)
+loop-b-preserved c =
+    let i = c.loop-b.invariant in
+    let t = sym (ap not c.has.ensures) in
+    elim c.if-not-has.branch [
+      | then-not-has w ↦ (
+        omega arith,
+        omega (arith, ap length (items w.outside-is), w.push.ensures.len),
+        listed_next c.args.side c.loop-b.b i.2 (t ∙ ap not w.if-not-has.true) (items w.outside-is ∙ w.push.ensures.items),
+      )
+      | else-not-has w ↦ (
+        omega arith,
+        omega (arith, ap length (items w.outside-is)),
+        listed_same c.args.side c.loop-b.b i.2 (t ∙ ap not w.if-not-has.false) (items w.outside-is),
+      )
+    ]
 
-pub loop-b-init : goal.loop-b-init
-loop-b-init c = (listed_start, omega arith, omega arith, refl)
+pub returns : goal.returns
+returns c = c.loop-b.invariant.2 ∙ ap (λ (b : ℕ). others b c.args.side) (omega arith)

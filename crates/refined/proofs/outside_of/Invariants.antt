@@ -1,8 +1,8 @@
 use mathlib.Core.Path.{◌≡◌}
 use Prim.Native.Nat.{◌≤◌}
 use lib.ListN.{length}
-use Rattle.refined.proofs.Outside.{Listing}
+use Rattle.sets.specs.Sets.{others}
 use Rattle.refined.proofs.outside_of.Given as goal
 
 abbrev pub invariant-loop-b : goal.invariant-loop-b
-invariant-loop-b l = Listing l.side l.b l.count l.list × (l.b ≤ l.n) × (l.count ≤ l.b) × (length l.list ≡ 32)
+invariant-loop-b l = (l.b ≤ l.n) × (length l.outside.items ≤ l.b) × (l.outside.items ≡ others l.b l.side)

@@ -1,15 +1,18 @@
-use mathlib.Core.Path.{sym, ◌∙◌}
+use mathlib.Core.Path.{sym}
 use mir.Syntax.{w64}
+use Rattle.std.proofs.lemmas.Result.{err_from_is_err_and}
 use Rattle.integers.proofs.Held.{passed}
-use Rattle.refined.proofs.Answers.{weight_pass, weight_refused, weight_answered}
+use Rattle.answers.proofs.WaysOut.{is_refused, is_found}
+use Rattle.refined.proofs.Answers.{weight_pass}
 use Rattle.refined.proofs.refined_weight.Goals as goal
 
-pub returns-then-refusal-ne0 : goal.returns-then-refusal-ne0
-returns-then-refusal-ne0 c = weight_refused c.weight_refusal-refusal.ensures c.if-refusal-ne0.true
+pub returns-in_err-check_weight : goal.returns-in_err-check_weight
+returns-in_err-check_weight c =
+    let p = err_from_is_err_and c.from_residual.result c.from_residual.ensures.1 in
+    rw (p.1, p.2) (record { answered = is_refused _ c.in_err-check_weight.ensures })
 
 pub weight_of-requires : goal.weight_of-requires
-weight_of-requires c = weight_pass _ _ _ (sym c.weight_refusal-refusal.ensures ∙ c.if-refusal-ne0.false)
+weight_of-requires c = weight_pass _ _ _ (sym c.in_ok-check_weight.ensures)
 
 pub returns : goal.returns
-returns c =
-    weight_answered c.weight_refusal-refusal.ensures c.if-refusal-ne0.false (passed w64 c.weight_of.type_inv c.weight_of.ensures)
+returns c = record { answered = is_found _ (sym c.in_ok-check_weight.ensures) (passed w64 c.weight_of.type_inv c.weight_of.ensures) }

@@ -1,11 +1,10 @@
 use mathlib.Core.Path.{◌≡◌}
-use Prim.Native.Nat.{◌-◌, ◌≤◌}
-use lib.ListN.{length, drop}
+use lib.ListN.{length}
 use Rattle.interface.specs.Sheet.{cut, has_equal}
 use Rattle.sheet.proofs.has_equal.Given as goal
 
-abbrev pub invariant-loop-at : goal.invariant-loop-at
-invariant-loop-at l = (l.at ≤ length l.line) × (has_equal (cut 32 (drop l.at l.line)) ≡ has_equal (cut 32 l.line))
+abbrev pub invariant-loop-word : goal.invariant-loop-word
+invariant-loop-word l = has_equal (cut 32 l.rest) ≡ has_equal (cut 32 l.line)
 
-abbrev pub decreases-loop-at : goal.decreases-loop-at
-decreases-loop-at l = length l.line - l.at
+abbrev pub decreases-loop-word : goal.decreases-loop-word
+decreases-loop-word l = length l.rest

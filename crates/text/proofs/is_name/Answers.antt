@@ -5,8 +5,7 @@ use native.Mathlib.Omega.{arith}
 use borrow.Author.Tests.{lt-leb, le-leb}
 use lib.ListN.{length, get_or, drop}
 use Rattle.lists.specs.Lists.{all}
-use Rattle.text.specs.Reading.{in_class}
-use Rattle.text.specs.declared.Class.TheVariants.{NameByte}
+use Rattle.text.specs.Reading.{is_name_byte}
 use Rattle.interface.specs.Sheet.{is_upper, is_name}
 use Rattle.text.proofs.Pieces.{rest}
 use Rattle.text.proofs.Words.{name_is, empty}
@@ -31,5 +30,5 @@ pub returns : goal.returns
 returns c = let s = c.before.before.before.before.before.before.before.before.args.word.now in
     let h : 0 < length s = omega arith in
     let e : is_upper (get_or s 0 0) ≡ true = sym c.before.before.before.is_upper.ensures ∙ c.before.before.if-not-is_upper.false in
-    let q : c.all_in.result ≡ all (in_class NameByte) (drop 1 s) = c.all_in.ensures ∙ ap (all (in_class NameByte)) (rest s 1) in
+    let q : c.all_bytes.result ≡ all is_name_byte (drop 1 s) = c.all_bytes.ensures is_name_byte (λ b h r k. k) ∙ ap (all is_name_byte) (rest s 1) in
     q ∙ sym (name_is s h ∙ simp (e, le-leb _ _ c.before.before.before.before.before.if-size-gt8.false, and-true))

@@ -13,10 +13,10 @@ overflow_add-result c = omega (arith, lone_inside c.args.line.now c.args.at (sym
 pub returns-then-is_lone_minus : goal.returns-then-is_lone_minus
 returns-then-is_lone_minus c = value_call (mark_at _ _ (sym c.is_lone_minus.ensures ∙ c.if-is_lone_minus.true))
 
-pub returns-in_default : goal.returns-in_default
-returns-in_default c = value_call (none_at _ _ (sym c.in_default.is ∙ c.read_number.ensures) (sym c.is_lone_minus.ensures ∙ c.if-is_lone_minus.false))
-
 pub returns : goal.returns
-returns c =
-    let same : to_z w32 (of_z w32 c.in-Number.number) ≡ c.in-Number.number = search rules in
-    rw same (value_call (number_at_lem _ _ (sym c.in-Number.is ∙ c.read_number.ensures)))
+returns c = value_call (none_at _ _ (sym c.in_default.is ∙ c.read_number.ensures) (sym c.is_lone_minus.ensures ∙ c.if-is_lone_minus.false))
+
+pub returns-in-Some : goal.returns-in-Some
+returns-in-Some c =
+    let same : to_z w32 (of_z w32 c.in-Some.number) ≡ c.in-Some.number = search rules in
+    rw same (value_call (number_at_lem _ _ (sym c.in-Some.is ∙ c.read_number.ensures)))

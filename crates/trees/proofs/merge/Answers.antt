@@ -1,33 +1,27 @@
 use mathlib.Core.Path.{subst}
 use Rattle.matrix.proofs.Scores.{lent_bounded}
 use Rattle.linkage.specs.Blocks.{linkage_of}
+use Rattle.linkage.specs.Steps.{Mergeable}
 use Rattle.kinds.specs.Kinds.{kind_for, Accepted}
 use Rattle.kinds.specs.declared.Kind.{Kind}
 use Rattle.trees.proofs.Merging.{merged_strong, merged_clean}
+use Rattle.trees.proofs.merge.Goals.{Start}
 use Rattle.trees.proofs.merge.Goals as goal
 
+-- what the merges ask
+mergeable : (c : Start) → Mergeable c.args.n c.args.pairs.now c.args.out.now
+mergeable c = let p = c.requires.0.checked in (p.some, p.few, p.long, lent_bounded _ p.range, c.requires.1)
+
 pub merge_all-requires : goal.merge_all-requires
-merge_all-requires c = let s = c in let p = s.requires.0.checked in (
-  p.some,
-  p.few,
-  p.long,
-  lent_bounded _ p.range,
-  s.requires.1,
-)
+merge_all-requires c = mergeable (goal.at.merge_all-requires c).Start
 
 pub merge_all-requires-in-Clean : goal.merge_all-requires-in-Clean
-merge_all-requires-in-Clean c = let s = c in let p = s.requires.0.checked in (
-  p.some,
-  p.few,
-  p.long,
-  lent_bounded _ p.range,
-  s.requires.1,
-)
+merge_all-requires-in-Clean c = mergeable (goal.at.merge_all-requires-in-Clean c).Start
 
 pub merge_anchored-requires : goal.merge_anchored-requires
 unfolding kind_for
-merge_anchored-requires c = let s = c in
-    (subst (λ (k : Kind). Accepted (kind_for k) s.args.n s.args.pairs.now) c.in-Splits.is s.requires.0, s.requires.1)
+merge_anchored-requires c =
+    (subst (λ (k : Kind). Accepted (kind_for k) c.args.n c.args.pairs.now) c.in-Splits.is c.requires.0, c.requires.1)
 
 pub returns-in-Strong : goal.returns-in-Strong
 unfolding kind_for linkage_of

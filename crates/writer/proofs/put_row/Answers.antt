@@ -13,8 +13,9 @@ use Rattle.pairs.specs.Pairs.{carried}
 use Rattle.clusters.specs.PairList.{place, score}
 use Rattle.clusters.proofs.PairList.{place_lt}
 use Rattle.interface.specs.SheetText.{pair_text, row_text}
+use Rattle.listing.specs.declared.Text.{Text}
 use Rattle.listing.specs.Put.{Put}
-use Rattle.listing.proofs.Puts.{then}
+use Rattle.listing.proofs.Puts.{nothing_put, then}
 use Rattle.writer.proofs.Texts.{no_cells, cells_next, row_cells, cell_short}
 use Rattle.writer.proofs.put_row.Goals as goal
 
@@ -23,27 +24,26 @@ loop-j-init c = record {
   place_is = c.place_of-place.ensures;
   inside = omega (arith, place_lt c.args.n c.args.i 0 (omega arith) (omega arith));
   near = omega arith;
-  put = rw no_cells (search rules);
+  put = rw no_cells (nothing_put c.args.text.now);
 }
 
 -- the pair that is put is that of i and j
-pair_put : (l : List ℤ) (i j b : ℕ) {k at end : ℕ} {out after : List ℕ} → SFits w32 (get_or l k (pos 0)) → k ≡ place i j
-    → Put out at (pair_text (carried (to_z w32 (of_z w32 (get_or l k (pos 0))))) ++ (b ∷ [])) after end
-    → Put out at (pair_text (carried (score l i j)) ++ (b ∷ [])) after end
+pair_put : (l : List ℤ) (i j : ℕ) {k : ℕ} {a b : Text} → SFits w32 (get_or l k (pos 0)) → k ≡ place i j
+    → Put a (pair_text (carried (to_z w32 (of_z w32 (get_or l k (pos 0)))))) b → Put a (pair_text (carried (score l i j))) b
 unfolding score
-pair_put l i j b {at = at} {end = end} {out = out} {after = after} f e p =
-    subst (λ (z : ℤ). Put out at (pair_text (carried z) ++ (b ∷ [])) after end) (to_z-of_z f ∙ ap (λ (k : ℕ). get_or l k (pos 0)) e) p
+pair_put l i j {a = a} {b = b} f e p =
+    subst (λ (z : ℤ). Put a (pair_text (carried z)) b) (to_z-of_z f ∙ ap (λ (k : ℕ). get_or l k (pos 0)) e) p
 
 pub loop-j-preserved : goal.loop-j-preserved
 loop-j-preserved c = let a = c.args in
     let q = c.requires.n_bound in
     let l = c.loop-j in
-    let put = pair_put a.pairs.now a.i l.j 32 (search rules) l.invariant.place_is c.put_pair-end.ensures in
-    let few = cell_short a.n a.pairs.now q.2 q.3 a.i l.j (omega arith) (omega arith) 32 in record {
+    let put = pair_put a.pairs.now a.i l.j (search rules) l.invariant.place_is c.put_pair.ensures in
+    let few = cell_short a.n a.pairs.now q.2 q.3 a.i l.j (omega arith) (omega arith) in record {
       place_is = c.next_place-place.ensures;
       inside = omega (arith, place_lt a.n a.i (l.j + 1) (omega arith) (omega arith));
       near = omega (arith, put.place, few);
-      put = rw (cells_next _ _ l.j) (then l.invariant.put put);
+      put = rw (cells_next _ _ l.j) (then l.invariant.put (then put c.put_byte.ensures));
     }
 
 pub returns : goal.returns
@@ -51,9 +51,23 @@ returns c = let a = c.args in
     let q = c.requires.n_bound in
     let l = c.loop-j in
     let e : l.j + 1 ≡ a.n = omega arith in
-    let put = pair_put a.pairs.now a.i l.j 10 (search rules) l.invariant.place_is c.put_pair.ensures in
-    let few = cell_short a.n a.pairs.now q.2 q.3 a.i l.j (omega arith) (omega arith) 10 in record {
+    let put = pair_put a.pairs.now a.i l.j (search rules) l.invariant.place_is c.put_pair-2.ensures in
+    let few = cell_short a.n a.pairs.now q.2 q.3 a.i l.j (omega arith) (omega arith) in record {
       upper_bound = omega (arith, put.place, few);
-      put = subst (λ (n : ℕ). Put a.out.now a.at (row_text n (score a.pairs.now) a.i ++ (10 ∷ [])) c.put_pair.new.out c.put_pair.result) e
-          (rw (add-one l.j, row_cells l.j) (then l.invariant.put put));
+      put = subst (λ (n : ℕ). Put a.text.now (row_text n (score a.pairs.now) a.i ++ (10 ∷ [])) c.put_byte-2.new.self) e
+          (rw (add-one l.j, row_cells l.j) (then l.invariant.put (then put c.put_byte-2.ensures)));
     }
+
+pub put_byte-requires : goal.put_byte-requires
+put_byte-requires c = let a = c.args in
+    let q = c.requires.n_bound in
+    let l = c.loop-j in
+    let put = pair_put a.pairs.now a.i l.j (search rules) l.invariant.place_is c.put_pair.ensures in
+    omega (arith, put.place, cell_short a.n a.pairs.now q.2 q.3 a.i l.j (omega arith) (omega arith))
+
+pub put_byte-requires-2 : goal.put_byte-requires-2
+put_byte-requires-2 c = let a = c.args in
+    let q = c.requires.n_bound in
+    let l = c.loop-j in
+    let put = pair_put a.pairs.now a.i l.j (search rules) l.invariant.place_is c.put_pair-2.ensures in
+    omega (arith, put.place, cell_short a.n a.pairs.now q.2 q.3 a.i l.j (omega arith) (omega arith))

@@ -10,6 +10,6 @@ abbrev pub invariant-loop-j : goal.invariant-loop-j
 invariant-loop-j l = record {
   place_is : l.place ≡ place l.i l.j;
   inside : l.place < length l.pairs;
-  near : l.end ≤ l.at + 10 * l.j;
-  put : Put l.initial.out l.at (cells_before (score l.pairs) l.i l.j) l.out l.end;
+  near : l.text.at ≤ l.initial.text.at + 10 * l.j;
+  put : Put l.initial.text (cells_before (score l.pairs) l.i l.j) l.text;
 }

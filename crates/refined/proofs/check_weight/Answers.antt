@@ -1,0 +1,27 @@
+use mathlib.Core.Path.{sym, ◌∙◌, refl}
+use Rattle.std.proofs.lemmas.Result.{err_from_is_err_and}
+use Rattle.lists.specs.Lists.{all}
+use Rattle.interface.specs.Refusals.{refined_checks, refined_refusal, distance_checks}
+use Rattle.interface.proofs.Refusals.{first_yes, first_no, no_more, under, refused_front, passed_back}
+use Rattle.matrix.proofs.Checks.{checked}
+use Rattle.refined.proofs.check_weight.Goals as goal
+
+pub returns-in_err-check_distances : goal.returns-in_err-check_distances
+unfolding refined_refusal refined_checks all
+returns-in_err-check_distances c = let p = err_from_is_err_and c.from_residual.result c.from_residual.ensures.1 in
+    rw (p.1, p.2) (refused_front (distance_checks _ _) _ tt _ c.in_err-check_distances.ensures)
+
+pub is_wrong_side-requires : goal.is_wrong_side-requires
+unfolding under all
+is_wrong_side-requires c = let left = checked _ _ (distance_checks _ _) tt (sym c.in_ok-check_distances.ensures) refl refl refl in
+    (left.some, left.few)
+
+pub returns-then-is_wrong_side : goal.returns-then-is_wrong_side
+unfolding refined_refusal refined_checks all
+returns-then-is_wrong_side c =
+    passed_back (distance_checks _ _) _ tt c.in_ok-check_distances.ensures (first_yes (sym c.is_wrong_side.ensures ∙ c.if-is_wrong_side.true))
+
+pub returns : goal.returns
+unfolding refined_refusal refined_checks all
+returns c =
+    passed_back (distance_checks _ _) _ tt c.in_ok-check_distances.ensures (first_no (sym c.is_wrong_side.ensures ∙ c.if-is_wrong_side.false) no_more)
