@@ -4,3 +4,4 @@ pub mod Distinct
 pub mod Written
 pub mod Walk
 pub mod Tested
+pub mod Chains

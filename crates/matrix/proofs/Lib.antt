@@ -3,4 +3,3 @@ pub mod Checks
 pub mod Scores
 pub mod Touched
 pub mod Tables
-pub mod Chains

@@ -1,6 +1,6 @@
 use mathlib.Core.Path.{refl}
 use borrow.Author.Rules.{rules}
-use Rattle.farris.proofs.Ranges.{all_below}
+use Rattle.lists.proofs.Chains.{all_below}
 use Rattle.farris.proofs.are_anchored_entries.Goals as goal
 
 pub returns : goal.returns

@@ -1,7 +1,7 @@
 use mathlib.Core.Path.{refl, ◌∙◌}
 use borrow.Author.Rules.{rules}
 use Rattle.farris.proofs.Distances.{back_test}
-use Rattle.farris.proofs.Ranges.{all_below}
+use Rattle.lists.proofs.Chains.{all_below}
 use Rattle.farris.proofs.are_distances_back.Goals as goal
 
 pub returns : goal.returns

@@ -1,6 +1,6 @@
 use native.Mathlib.Omega.{arith}
 use borrow.Author.Rules.{rules}
-use Rattle.farris.proofs.Ranges.{all_below}
+use Rattle.lists.proofs.Chains.{all_below}
 use Rattle.farris.proofs.is_row_back.Goals as goal
 
 pub returns : goal.returns

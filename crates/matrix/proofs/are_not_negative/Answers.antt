@@ -5,7 +5,7 @@ use lib.IntN.{pos}
 use lib.Signed.{le_z}
 use Rattle.std.proofs.lemmas.Iterator.{YieldsList-from_slice}
 use Rattle.std.proofs.lemmas.Iterator.Search.{all_from_yields_List}
-use Rattle.matrix.proofs.Chains.{all_is}
+use Rattle.lists.proofs.Chains.{all_is}
 use Rattle.matrix.proofs.are_not_negative.Goals as goal
 
 pub returns : goal.returns

@@ -11,7 +11,7 @@ use Rattle.integers.specs.Integers.{eq_z}
 use Rattle.integers.proofs.Operators.{same_bits}
 use Rattle.clusters.specs.PairList.{score}
 use Rattle.lists.specs.Lists.{all}
-use Rattle.matrix.proofs.Chains.{all_is, below_is}
+use Rattle.lists.proofs.Chains.{all_is, below_is}
 use Rattle.matrix.proofs.Places.{score_asks}
 use Rattle.matrix.proofs.are_own_zero.Goals as goal
 

@@ -2,7 +2,7 @@ use borrow.Author.Rules.{rules}
 use borrow.Author.Tests.{tests}
 use Rattle.clusters.specs.PairList.{has_unscored}
 use Rattle.pairs.specs.Pairs.{carried, is_scored}
-use Rattle.matrix.proofs.Chains.{fold_or}
+use Rattle.lists.proofs.Chains.{fold_or}
 use Rattle.matrix.proofs.has_unscored.Goals as goal
 
 pub returns : goal.returns

@@ -1,7 +1,7 @@
 use borrow.Author.Rules.{rules}
 use borrow.Author.Tests.{tests}
 use Rattle.clusters.specs.PairList.{scores_in_range}
-use Rattle.matrix.proofs.Chains.{fold_and}
+use Rattle.lists.proofs.Chains.{fold_and}
 use Rattle.matrix.proofs.scores_in_range.Goals as goal
 
 pub returns : goal.returns

@@ -1,17 +1,26 @@
--- What a chain over the numbers of a pair list gives, by the test of each number.
+-- What chains over a slice and over the numbers below n give, by the test of each.
 use mathlib.Core.Path.{◌≡◌, refl, sym, ap, ◌∙◌, subst}
 use mathlib.Core.Bool.{Bool, true, false, not, ◌&&◌, ◌||◌}
 use mathlib.Core.List.{List, [], ◌∷◌, ◌++◌}
-use Prim.Native.Nat.{ℕ, zero, suc, ◌+◌}
+use Prim.Native.Nat.{ℕ}
 use native.Mathlib.Omega.{arith}
 use denote.Param.Members.{Mut}
 use denote.Ref.{Bor}
+use Rattle.std.specs.declared.ops.Range.{Range}
+use Rattle.std.specs.declared.option.Option.{Option}
 use Rattle.std.proofs.Common.{Iter}
+use Rattle.std.proofs.iter.Yields.{nat_range_steps}
 use Rattle.std.proofs.lemmas.Fn.{fold_over, slice_gives, fronts}
+use Rattle.std.proofs.lemmas.Iterator.{YieldsList-from_range}
+use Rattle.std.proofs.lemmas.Iterator.Search.{all_from_yields_List}
+use Rattle.std.proofs.lemmas.List.{map-id}
+use Rattle.std.proofs.lemmas.List.FromFn.{fill_by_all}
 use Rattle.std.specs.Fn.{Called}
-use Rattle.std.specs.Iterator.{Drains}
+use Rattle.std.specs.Iterator.{Drains, YieldsThen}
 use Rattle.std.specs.List.{list_all, FoldsTo, range_with_len}
+use Rattle.std.specs.Option.{MatchOption}
 use Rattle.lists.specs.Lists.{all, below}
+use Rattle.lists.proofs.Lists.{count_below, below_at}
 
 pub all_is : {A : Type 0} (p : A → Bool) (l : List A) → list_all p l ≡ all p l
 unfolding all
@@ -54,11 +63,14 @@ module _ {A F : Type 0} {g : Mut F (Bool × (Bor A × Unit {0})) Bool} (p : A �
       go true false e = ap not (sym e)
       go false b e = ap not (sym e)
 
-range_more : (a n k : ℕ) → a + n ≡ k → range_with_len a (suc n) ≡ range_with_len a n ++ (k ∷ [])
-range_more a zero k e = let q : a ≡ k = omega arith in ap (λ (i : ℕ). i ∷ []) q
-range_more a (suc n) k e = ap (λ (l : List ℕ). a ∷ l) (range_more (a + 1) n k (omega arith))
-
 pub below_is : (n : ℕ) → range_with_len 0 n ≡ below n
-unfolding below
-below_is zero = refl
-below_is (suc n) = range_more 0 n n (omega arith) ∙ ap (λ (l : List ℕ). l ++ (n ∷ [])) (below_is n)
+below_is n = sym (fill_by_all (λ i. i) (below n) n 0 (count_below n) (below_at n) ∙ map-id (range_with_len 0 n))
+
+-- `all` of the numbers below n: a closure that keeps its state answers as the test does
+pub all_below : {F : Type 0} {g : Mut F (ℕ × Unit {0}) Bool} {f : F} {r : Bool} {m : ℕ} (p : ℕ → Bool) (n : ℕ) (u : Range ℕ)
+    → (xs : List ℕ) × (o : Option ℕ) × (j : F) × YieldsThen nat_range_steps record { start = 0; end = m } xs o u
+    × FoldsTo (λ p x q. Called g p (x, tt) true q) f xs j
+    × MatchOption o (r ≡ true) (λ x. (r ≡ false) × ((h : F) × Called g j (x, tt) false h))
+    → m ≡ n → ((x : ℕ) (b : Bool) (q : F) → Called g f (x, tt) b q → (q ≡ f) × (b ≡ p x)) → r ≡ all p (below n)
+all_below {m} p n u ran e h = all_from_yields_List p _ _ _ ran (YieldsList-from_range 0 m m refl (omega arith)) h
+    ∙ all_is p (range_with_len 0 m) ∙ ap (all p) (below_is m ∙ ap below e)
