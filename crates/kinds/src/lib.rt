@@ -10,6 +10,7 @@ ghost use Rattle.interface.specs.Refusals.{wrong_unscored, wrong_distances};
 ghost use Rattle.kinds.specs.Kinds.{kind_for, number_for, KindRead, GroupKindRead, Accepted};
 
 use answers::Refusal;
+use matrix::PairList;
 
 // Strong groups, clean groups, Buneman splits.
 #[derive(Clone, Copy, Debug, PartialEq, Eq)]
@@ -65,7 +66,7 @@ impl Kind {
         requires { (n ≤ 32) × (length pairs.now ≡ row_start n) }
         ensures { result ≡ wrong_distances (number_for self) n pairs.now }
     {
-        self == Kind::Splits && !matrix::are_distances(n, pairs)
+        self == Kind::Splits && !(PairList { n, pairs }).are_distances()
     }
 
     // The sets that the kind speaks of.

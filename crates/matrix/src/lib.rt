@@ -2,10 +2,11 @@
 // 01, Where a call is turned away; document 02, 2.2).
 #![tactic(auto, using(integers::proofs::Operators::operators))]
 
-ghost use Rattle.std.specs.Prelude.{◌≡◌, ◌+◌, ◌<◌, ◌≤◌, pos, length, get_or};
+ghost use Rattle.std.specs.Prelude.{◌≡◌, ◌+◌, ◌^◌, ◌<◌, ◌≤◌, pos, length, get_or};
 ghost use Rattle.std.specs.Int.Signed.{le_z};
 ghost use Rattle.lists.specs.Lists.{all, below};
 ghost use Rattle.integers.specs.Integers.{eq_z};
+ghost use Rattle.integers.specs.Range.{Within};
 ghost use Rattle.pairs.specs.Pairs.{carried, pair_of, is_scored};
 ghost use Rattle.clusters.specs.PairList.{row_start, place, score, score_limit, has_length, is_in_range};
 ghost use Rattle.clusters.specs.PairList.{is_allowed_pair};
@@ -19,22 +20,29 @@ ghost use Rattle.matrix.specs.Rows.{Scores, Row};
 use answers::Refusal;
 use pairs::Pair;
 
+// A pair list as lent, of n entries.
+#[derive(Clone, Copy, Debug)]
+pub struct PairList<'a> {
+    pub n: usize,
+    pub pairs: &'a [i32],
+    pub ghost fits: { Scores n pairs.now },
+}
+
 // Where row i of the lower triangle starts.
 #[tactic(auto, unfolding(clusters::specs::PairList::row_start))]
 pub fn row_start(i: usize) -> usize
-    requires { i < 32 }
+    requires { i ≤ 32 }
     ensures { result ≡ row_start i }
 {
     i * (i + 1) / 2
 }
 
 // How many pairs n entries have: the row that would come next starts there.
-#[tactic(auto, unfolding(clusters::specs::PairList::row_start))]
 pub fn pair_count(n: usize) -> usize
     requires { n ≤ 32 }
     ensures { result ≡ row_start n }
 {
-    n * (n + 1) / 2
+    row_start(n)
 }
 
 // Where the pair of a and b stands.
@@ -65,15 +73,6 @@ pub fn value(pairs: &[i32], i: usize) -> i64
     i64::from(pairs[i])
 }
 
-// The score of a and b.
-#[tactic(auto, using(integers::proofs::Operators::operators), unfolding(clusters::specs::PairList::score))]
-pub fn score(pairs: &[i32], a: usize, b: usize) -> i64
-    requires { (a < 32) × (b < 32) × (place a b < length pairs.now) }
-    ensures { result ≡ score pairs.now a b }
-{
-    value(pairs, place_of(a, b))
-}
-
 // The pair of a and b, as the list has it.
 #[tactic(auto, using(integers::proofs::Operators::operators), unfolding(clusters::specs::PairList::score))]
 pub fn pair(pairs: &[i32], a: usize, b: usize) -> Pair
@@ -81,18 +80,6 @@ pub fn pair(pairs: &[i32], a: usize, b: usize) -> Pair
     ensures { result ≡ pair_of (score pairs.now a b) }
 {
     pairs::pair_of(pairs[place_of(a, b)])
-}
-
-// Puts the scores of a into a table, one for each entry.
-pub fn put_row(row: &mut [i32], n: usize, pairs: &[i32], a: usize)
-    requires { Scores n pairs.now × (a < n) × (n ≤ length row.old) }
-    ensures { Row n (score pairs.now a) row.new }
-{
-    let mut at = place_of(a, 0);
-    for y in 0..n {
-        row[y] = pairs[at];
-        at = next_place(at, a, y);
-    }
 }
 
 // Check 6.
@@ -185,59 +172,98 @@ pub fn check_scored(n: usize, pairs: &[i32]) -> Result<(), Refusal>
     Ok(())
 }
 
-// Every pair of a is scored.
-fn is_row_scored(n: usize, pairs: &[i32], a: usize) -> bool
-    requires { (n ≤ 32) × (length pairs.now ≡ row_start n) × (a < n) }
-    ensures { result ≡ row_scored n (score pairs.now) a }
-{
-    let mut at = place_of(a, 0);
-    for b in 0..n {
-        if !is_scored(pairs[at]) {
-            return false;
-        }
-        at = next_place(at, a, b);
-    }
-    true
-}
-
-// The entries that an unscored pair touches.
-pub fn touched_entries(n: usize, pairs: &[i32]) -> u32
-    requires { (n ≤ 32) × (length pairs.now ≡ row_start n) }
-    ensures { result ≡ touched_entries n (score pairs.now) }
-{
-    if !has_unscored(pairs) {
-        return 0;
-    }
-    let mut touched = 0u32;
-    for a in 0..n {
-        if !is_row_scored(n, pairs, a) {
-            touched = sets::union(touched, sets::single(a));
-        }
-    }
-    touched
-}
-
+// No number is below 0.
 fn are_not_negative(pairs: &[i32]) -> bool
     ensures { result ≡ all (le_z (pos 0)) pairs.now }
 {
     pairs.iter().all(|v| 0 <= *v)
 }
 
-// Every own value is 0.
-fn are_own_zero(n: usize, pairs: &[i32]) -> bool
-    requires { (n ≤ 32) × (length pairs.now ≡ row_start n) }
-    ensures { result ≡ all (λ a. eq_z (score pairs.now a a) (pos 0)) (below n) }
-{
-    (0..n).all(|a| score(pairs, a, a) == 0)
+impl<'a> PairList<'a> {
+    // The score of a and b; it has 32 bits, so that sums of a few do not wrap.
+    #[tactic(auto, using(integers::proofs::Operators::operators), unfolding(clusters::specs::PairList::score))]
+    pub fn score(&self, a: usize, b: usize) -> i64
+        requires { (a < self.now.n) × (b < self.now.n) }
+        ensures value { result ≡ score self.now.pairs.now a b }
+        ensures narrow { Within (2 ^ 31) result }
+    {
+        i64::from(self.pairs[place_of(a, b)])
+    }
+
+    // Puts the scores of a into a table, one for each entry.
+    pub fn put_row(&self, row: &mut [i32], a: usize)
+        requires { (a < self.now.n) × (self.now.n ≤ length row.old) }
+        ensures { Row self.now.n (score self.now.pairs.now a) row.new }
+    {
+        let mut at = place_of(a, 0);
+        for y in 0..self.n {
+            row[y] = self.pairs[at];
+            at = next_place(at, a, y);
+        }
+    }
+
+    // Every pair of a is scored.
+    fn is_row_scored(&self, a: usize) -> bool
+        requires { a < self.now.n }
+        ensures { result ≡ row_scored self.now.n (score self.now.pairs.now) a }
+    {
+        let mut at = place_of(a, 0);
+        for b in 0..self.n {
+            if !is_scored(self.pairs[at]) {
+                return false;
+            }
+            at = next_place(at, a, b);
+        }
+        true
+    }
+
+    // The entries that an unscored pair touches.
+    pub fn touched_entries(&self) -> u32
+        ensures { result ≡ touched_entries self.now.n (score self.now.pairs.now) }
+    {
+        if !has_unscored(self.pairs) {
+            return 0;
+        }
+        let mut touched = 0u32;
+        for a in 0..self.n {
+            if !self.is_row_scored(a) {
+                touched = sets::union(touched, sets::single(a));
+            }
+        }
+        touched
+    }
+
+    // Every own value is 0.
+    fn are_own_zero(&self) -> bool
+        ensures { result ≡ all (λ a. eq_z (score self.now.pairs.now a a) (pos 0)) (below self.now.n) }
+    {
+        (0..self.n).all(|a| self.score(a, a) == 0)
+    }
+
+    // Check 12.
+    #[tactic(auto, unfolding(clusters::specs::PairList::are_distances))]
+    pub fn are_distances(&self) -> bool
+        ensures { result ≡ are_distances self.now.n self.now.pairs.now }
+    {
+        are_not_negative(self.pairs) && self.are_own_zero()
+    }
 }
 
-// Check 12.
-#[tactic(auto, unfolding(clusters::specs::PairList::are_distances))]
-pub fn are_distances(n: usize, pairs: &[i32]) -> bool
-    requires { (n ≤ 32) × (length pairs.now ≡ row_start n) }
-    ensures { result ≡ are_distances n pairs.now }
+// The score of a and b, by the list alone.
+#[tactic(auto, using(integers::proofs::Operators::operators), unfolding(clusters::specs::PairList::score))]
+pub fn score(pairs: &[i32], a: usize, b: usize) -> i64
+    requires { (a < 32) × (b < 32) × (place a b < length pairs.now) }
+    ensures { result ≡ score pairs.now a b }
 {
-    are_not_negative(pairs) && are_own_zero(n, pairs)
+    value(pairs, place_of(a, b))
+}
+
+// The scores of a into a table, by the list and its number of entries.
+pub fn put_row(row: &mut [i32], n: usize, pairs: &[i32], a: usize)
+    requires { Scores n pairs.now × (a < n) × (n ≤ length row.old) }
+    ensures { Row n (score pairs.now a) row.new }
+{
+    PairList { n, pairs }.put_row(row, a);
 }
 
 // Checks 6, 10, 11, 16 and 12, of the calls that take distances, judged as kind 3.
@@ -245,7 +271,7 @@ pub fn check_distances(n: usize, pairs: &[i32]) -> Result<(), Refusal>
     ensures { number_of result ≡ first_of (distance_checks n pairs.now) }
 {
     check_scored(n, pairs)?;
-    if !are_distances(n, pairs) {
+    if !(PairList { n, pairs }).are_distances() {
         return Err(Refusal::NoDistances);
     }
     Ok(())

@@ -26,8 +26,8 @@ unfolding all
 returns-in_err-check_scored c = let p = err_from_is_err_and c.from_residual.result c.from_residual.ensures.1 in
     rw (p.1, p.2) (refused_front (scored_checks _ _) _ tt _ c.in_err-check_scored.ensures)
 
-pub are_distances-requires : goal.are_distances-requires
-are_distances-requires c = ((left c).few, (left c).long)
+pub invariant_of-are_distances : goal.invariant_of-are_distances
+invariant_of-are_distances c = record { fits = record { few = (left c).few; long = (left c).long } }
 
 pub returns-then-not-are_distances : goal.returns-then-not-are_distances
 unfolding all

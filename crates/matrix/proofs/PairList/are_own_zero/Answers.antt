@@ -12,15 +12,14 @@ use Rattle.integers.proofs.Operators.{same_bits}
 use Rattle.clusters.specs.PairList.{score}
 use Rattle.lists.specs.Lists.{all}
 use Rattle.lists.proofs.Chains.{all_is, below_is}
-use Rattle.matrix.proofs.Places.{score_asks}
-use Rattle.matrix.proofs.are_own_zero.Goals as goal
+use Rattle.matrix.proofs.PairList.are_own_zero.Goals as goal
 
 pub all-requires-clause-callable : goal.all-requires-clause-callable
 all-requires-clause-callable c = serves_from_Range (λ x q k. search rules)
-    (λ x h k. let asked = score_asks {a = x} {b = x} c.args.pairs.now c.requires.0 c.requires.1 k k in search (rules, asked))
+    (λ x h k. search (rules, k))
 
 pub returns : goal.returns
-returns c = let test = λ (a : ℕ). eq_z (score c.args.pairs.now a a) (pos 0) in
-    all_from_yields_List test _ _ c.all.result c.all.ensures.ran (YieldsList-from_range 0 c.args.n c.args.n refl (omega arith))
+returns c = let test = λ (a : ℕ). eq_z (score c.args.self.now.pairs.now a a) (pos 0) in
+    all_from_yields_List test _ _ c.all.result c.all.ensures.ran (YieldsList-from_range 0 c.args.self.now.n c.args.self.now.n refl (omega arith))
     (λ x b q k. search (rules, tests, to_z-of_z, same_bits))
-    ∙ all_is _ _ ∙ ap (all test) (below_is c.args.n)
+    ∙ all_is _ _ ∙ ap (all test) (below_is c.args.self.now.n)

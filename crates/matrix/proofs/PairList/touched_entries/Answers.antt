@@ -8,13 +8,13 @@ use Rattle.clusters.specs.Touched.{touched_entries}
 use Rattle.clusters.proofs.Scored.{list_scored}
 use Rattle.sets.specs.Sets.{◌∪◌}
 use Rattle.matrix.proofs.Touched.{join_started, join_less, join_more, join_ended, none_touched}
-use Rattle.matrix.proofs.touched_entries.Goals.{then-not-is_row_scored, else-not-is_row_scored}
-use Rattle.matrix.proofs.touched_entries.Goals as goal
+use Rattle.matrix.proofs.PairList.touched_entries.Goals.{then-not-is_row_scored, else-not-is_row_scored}
+use Rattle.matrix.proofs.PairList.touched_entries.Goals as goal
 
 pub returns-then-not-has_unscored : goal.returns-then-not-has_unscored
 returns-then-not-has_unscored c = let s = c.before.before in
-    none_touched s.args.n (score s.args.pairs.now)
-    (list_scored s.args.n s.args.pairs.now s.requires.1 (true_T (ap not (sym c.has_unscored.ensures) ∙ (ap not c.if-not-has_unscored.true))))
+    none_touched s.args.self.now.n (score s.args.self.now.pairs.now)
+    (list_scored s.args.self.now.n s.args.self.now.pairs.now s.args.self.now.fits.long (true_T (ap not (sym c.has_unscored.ensures) ∙ (ap not c.if-not-has_unscored.true))))
 
 pub loop-a-init : goal.loop-a-init
 loop-a-init c = (omega arith, join_started)
