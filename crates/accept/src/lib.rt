@@ -61,7 +61,7 @@ fn read_any(sheet: &[u8], p: usize, stop: u8) -> Option<Cell>
     if size != end - p {
         return None;
     }
-    let number = pairs::list_number(pair);
+    let number = i32::from(pair);
     Some(Cell { number, size })
 }
 

@@ -188,7 +188,7 @@ pub fn farzhudyl_score(n: usize, pairs: &[i32], a: usize, b: usize, score: &mut 
     if let Err(refusal) = triangle::check_score(n, pairs, a, b) {
         return i32::from(refusal.number());
     }
-    *score = i64::from(pairs::list_number(triangle::pair_of(pairs, n, a, b)));
+    *score = i64::from(i32::from(triangle::pair_of(pairs, n, a, b)));
     0
 }
 

@@ -79,7 +79,7 @@ pub fn pair(pairs: &[i32], a: usize, b: usize) -> Pair
     requires { (a < 32) × (b < 32) × (place a b < length pairs.now) }
     ensures { result ≡ pair_of (score pairs.now a b) }
 {
-    pairs::pair_of(pairs[place_of(a, b)])
+    Pair::from(pairs[place_of(a, b)])
 }
 
 // Check 6.

@@ -29,41 +29,29 @@ pub fn is_mark(x: i32) -> bool
 }
 
 // The pair of a number of the pair list.
-#[tactic(auto, unfolding(crate::specs::Pairs::pair_of, crate::specs::Pairs::carried))]
-pub fn pair_of(x: i32) -> Pair
-    ensures { result ≡ pair_of x }
-{
-    let carries = if is_mark(x) {
-        Carried::Unscored
-    } else {
-        Carried::Scored(x)
-    };
-    Pair { carries }
-}
-
-// The number of a pair in the pair list.
-#[tactic(auto, unfolding(crate::specs::Pairs::list_number, crate::specs::Pairs::number_for, crate::specs::Pairs::mark))]
-pub fn list_number(pair: Pair) -> i32
-    ensures { result ≡ list_number pair }
-{
-    match pair.carries {
-        Carried::Scored(score) => score,
-        Carried::Unscored => MARK,
-    }
-}
-
 impl From<i32> for Pair {
     ghost from_gives = { λ x pair. pair ≡ pair_of x };
 
+    #[tactic(auto, unfolding(crate::specs::Pairs::pair_of, crate::specs::Pairs::carried))]
     fn from(x: i32) -> Pair {
-        pair_of(x)
+        let carries = if is_mark(x) {
+            Carried::Unscored
+        } else {
+            Carried::Scored(x)
+        };
+        Pair { carries }
     }
 }
 
+// The number of a pair in the pair list.
 impl From<Pair> for i32 {
     ghost from_gives = { λ pair x. x ≡ list_number pair };
 
+    #[tactic(auto, unfolding(crate::specs::Pairs::list_number, crate::specs::Pairs::number_for, crate::specs::Pairs::mark))]
     fn from(pair: Pair) -> i32 {
-        list_number(pair)
+        match pair.carries {
+            Carried::Scored(score) => score,
+            Carried::Unscored => MARK,
+        }
     }
 }

@@ -27,7 +27,7 @@ fn read_row(line: &[u8], n: usize, base: usize, values: &mut [i32]) -> Result<()
         let Ok((pair, next)) = text::read_value(line, at) else {
             return Err(Refusal::WrongValues);
         };
-        let number = pairs::list_number(pair);
+        let number = i32::from(pair);
         values[base + k] = number;
         let end = next.at;
         if end >= line.len() {

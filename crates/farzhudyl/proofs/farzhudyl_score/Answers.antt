@@ -11,4 +11,4 @@ returns-in-Err c = score_refused _ _ _ _ _ _ c.in-Err.ensures (passed w32 c.from
 
 pub returns : goal.returns
 returns c = score_put _ _ _ _ _ c.in_default.ensures
-    (passed w64 c.from-2.type_inv (c.from-2.ensures ∙ passed w32 c.list_number.type_inv (c.list_number.ensures ∙ ap list_number c.pair_of.ensures)))
+    (passed w64 c.from-3.type_inv (c.from-3.ensures ∙ passed w32 c.from-2.type_inv (c.from-2.ensures ∙ ap list_number c.pair_of.ensures)))

@@ -45,7 +45,7 @@ unfolding number_said
 returns-then-end-line c = let l = c.loop-k in
     let a = c.args in
     let g = value_got _ _ c.read_value.ensures c.in-Ok.is in
-    let stored = passed w32 c.list_number-number.type_inv (c.list_number-number.ensures ∙ g.number) in
+    let stored = passed w32 c.from-number.type_inv (c.from-number.ensures ∙ g.number) in
     let left = a.n - l.k in
     let e : eqb 1 left ≡ true = eq-eqb 1 left (omega arith) in
     let ends = sym l.invariant.2 ∙ row_last _ l.at _ l.invariant.1 g.end left c.if-end-line.true g.good in
@@ -59,7 +59,7 @@ unfolding number_said
 loop-k-preserved c = let l = c.loop-k in
     let a = c.args in
     let g = value_got _ _ c.read_value.ensures c.in-Ok.is in
-    let stored = passed w32 c.list_number-number.type_inv (c.list_number-number.ensures ∙ g.number) in
+    let stored = passed w32 c.from-number.type_inv (c.from-number.ensures ∙ g.number) in
     let e : a.n - l.k ≡ suc (a.n - (l.k + 1)) = omega arith in
     let i : a.base + (l.k + 1) ≡ a.base + l.k + 1 = omega arith in (
       omega arith,
