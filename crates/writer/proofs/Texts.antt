@@ -6,14 +6,16 @@ use Prim.Native.Nat.{ℕ, suc, ◌+◌, ◌≤◌, ◌<◌}
 use native.Mathlib.Numerals.{add-one}
 use lib.IntN.{ℤ, pos, negsuc, nat_abs}
 use lib.ListN.{length}
-use lib.Signed.{le_z}
+use native.Mathlib.Omega.{arith}
+use Rattle.std.proofs.lemmas.Int.{ints}
+use Rattle.std.specs.Int.{is_negative}
 use lib.Dec.{T, lit≤}
 use Rattle.lists.specs.Lists.{below, each}
-use Rattle.lists.proofs.Tests.{false_T}
 use Rattle.lists.proofs.Lists.{each_below, each_map}
-use Rattle.integers.specs.Integers.{eq_z}
-use Rattle.integers.proofs.Linear.{up, dn, zarith, le_z_no}
-use Rattle.pairs.specs.Pairs.{mark, carried}
+use Rattle.pairs.specs.declared.Carried.{Carried}
+use Rattle.pairs.specs.declared.Carried.TheVariants.{Scored, Unscored}
+use Rattle.pairs.specs.declared.Pair.{Pair}
+use Rattle.pairs.specs.Pairs.{carried, pair_of}
 use Rattle.clusters.specs.PairList.{Similarity, row_start, score, one_point, point_limit, score_limit, scores_in_range}
 use Rattle.clusters.proofs.Scored.{list_allowed}
 use Rattle.interface.specs.Sheet.{line_feed, space, cut}
@@ -25,36 +27,36 @@ use Rattle.listing.specs.declared.Text.{Text}
 use Rattle.listing.specs.Put.{Put}
 use Rattle.listing.proofs.Puts.{then}
 
-mark_text : (z : ℤ) → eq_z z mark ≡ true → pair_text (carried z) ≡ 45 ∷ []
-unfolding carried pair_text
-mark_text z e = rw e
-
-score_text : (z : ℤ) → eq_z z mark ≡ false → pair_text (carried z) ≡ signed_points z
-unfolding carried pair_text
-score_text z e = rw e
-
--- its digits, behind a minus if it is below 0
-plain_digits : (z : ℤ) → le_z (pos 0) z ≡ true → signed_points z ≡ points_text (nat_abs z)
+-- the digits of a score, behind a minus if it is below 0
+plain_digits : (z : ℤ) → is_negative z ≡ false → signed_points z ≡ points_text (nat_abs z)
 unfolding signed_points
 plain_digits (pos n) e = refl
-plain_digits (negsuc n) e = absurd (subst T (sym e) tt)
+plain_digits (negsuc n) e = absurd (subst T e tt)
 
-signed_digits : (z : ℤ) → le_z (pos 0) z ≡ false → signed_points z ≡ 45 ∷ points_text (nat_abs z)
-unfolding signed_points up dn
-signed_digits (pos n) e = absurd (omega (zarith, le_z_no {a = pos 0} {b = pos n} (false_T e)))
+signed_digits : (z : ℤ) → is_negative z ≡ true → signed_points z ≡ 45 ∷ points_text (nat_abs z)
+unfolding signed_points
+signed_digits (pos n) e = absurd (grind (arith, ints))
 signed_digits (negsuc n) e = refl
 
+-- what the pair of a number carries
+pub carries : {z y : ℤ} {p : Pair} → p ≡ pair_of y → y ≡ z → p.carries ≡ carried z
+unfolding pair_of
+carries e f = rw (e, f) refl
+
 -- put into a buffer
-module _ (z : ℤ) {a b : Text} where
-  pub mark_put : eq_z z mark ≡ true → Put a (45 ∷ []) b → Put a (pair_text (carried z)) b
-  mark_put e p = rw (mark_text z e) p
+module _ {p : Carried} {a b : Text} where
+  pub mark_put : p ≡ Unscored → Put a (45 ∷ []) b → Put a (pair_text p) b
+  unfolding pair_text
+  mark_put e q = rw e q
 
-  module _ (scored : eq_z z mark ≡ false) {k : ℕ} (digits : k ≡ nat_abs z) {c : Text} where
-    pub plain_put : le_z (pos 0) z ≡ true → c ≡ a → Put c (points_text k) b → Put a (pair_text (carried z)) b
-    plain_put e same p = rw (score_text z scored, plain_digits z e, sym digits, sym same) p
+  module _ {z : ℤ} (scored : p ≡ Scored z) {k : ℕ} (digits : k ≡ nat_abs z) {c : Text} where
+    pub plain_put : is_negative z ≡ false → c ≡ a → Put c (points_text k) b → Put a (pair_text p) b
+    unfolding pair_text
+    plain_put e same q = rw (scored, plain_digits z e, sym digits, sym same) q
 
-    pub signed_put : le_z (pos 0) z ≡ false → {m : Text} → c ≡ m → Put a (45 ∷ []) m → Put c (points_text k) b → Put a (pair_text (carried z)) b
-    signed_put e same p q = rw (score_text z scored, signed_digits z e, sym digits) (then p (rw (sym same) q))
+    pub signed_put : is_negative z ≡ true → {m : Text} → c ≡ m → Put a (45 ∷ []) m → Put c (points_text k) b → Put a (pair_text p) b
+    unfolding pair_text
+    signed_put e same q r = rw (scored, signed_digits z e, sym digits) (then q (rw (sym same) r))
 
 -- pieces with the byte c behind each but the last are joined by it
 joined_last : (c : ℕ) (ws : List (List ℕ)) (w : List ℕ) → joined c (ws ++ (w ∷ [])) ≡ each ws (λ v. v ++ (c ∷ [])) ++ w

@@ -9,21 +9,22 @@ ghost use Rattle.interface.specs.SheetText.{pair_text, row_text, sheet_text};
 ghost use Rattle.listing.specs.Put.{Put};
 
 use listing::Text;
+use pairs::{Carried, Pair};
 
 // 22 bytes at most.
 fn put_pair(text: &mut Text<'_>, v: i32)
     requires { text.old.at + 22 ≤ length text.old.out.now }
     ensures { Put text.old (pair_text (carried v)) text.new }
 {
-    if pairs::is_mark(v) {
-        text.put_byte(b'-');
-        return;
+    match Pair::from(v).carries {
+        Carried::Scored(score) => {
+            if score.is_negative() {
+                text.put_byte(b'-');
+            }
+            text.put_points(score.unsigned_abs() as usize);
+        }
+        Carried::Unscored => text.put_byte(b'-'),
     }
-    let number = integers::wide(v);
-    if !integers::at_most(0, number) {
-        text.put_byte(b'-');
-    }
-    text.put_points(integers::magnitude(number));
 }
 
 // Puts row i of the values and its line feed, 10 bytes at most for each value.

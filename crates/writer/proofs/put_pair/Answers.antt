@@ -1,28 +1,26 @@
 use mathlib.Core.Path.{sym, ap, ◌∙◌}
-use lib.IntN.{pos, nat_abs}
-use lib.Signed.{le_z}
+use borrow.Author.Rules.{rules}
+use lib.IntN.{nat_abs}
+use mir.Syntax.{w32}
+use mir.Val.{SFits}
+use Rattle.std.specs.Int.{is_negative}
 use mir.Facts.{to_z-of_z}
-use mir.Syntax.{w64}
-use Rattle.integers.specs.Integers.{eq_z}
-use Rattle.integers.proofs.Held.{passed}
-use Rattle.pairs.specs.Pairs.{mark}
-use Rattle.writer.proofs.Texts.{mark_put, plain_put, signed_put}
+use Rattle.writer.proofs.Texts.{carries, mark_put, plain_put, signed_put}
 use Rattle.writer.proofs.put_pair.Goals as goal
-use Rattle.writer.proofs.put_pair.Goals.{then-not-at_most, else-not-at_most}
+use Rattle.writer.proofs.put_pair.Goals.{then-is_negative, else-is_negative}
 
-pub returns-then-is_mark : goal.returns-then-is_mark
-returns-then-is_mark c =
-    mark_put c.args.v (ap (λ z. eq_z z mark) (sym (to_z-of_z c.ranges.v)) ∙ sym c.is_mark.ensures ∙ c.if-is_mark.true) c.put_byte.ensures
+pub returns-in-Unscored : goal.returns-in-Unscored
+returns-in-Unscored c = mark_put (sym (carries c.from.ensures (to_z-of_z c.ranges.v)) ∙ c.in-Unscored.is) c.put_byte-in-Unscored.ensures
 
-pub returns : goal.returns
-returns c =
-    let same = to_z-of_z c.ranges.v in
-    let number = passed w64 c.wide-number.type_inv (c.wide-number.ensures ∙ same) in
-    let scored = ap (λ z. eq_z z mark) (sym same) ∙ sym c.is_mark.ensures ∙ c.if-is_mark.false in
-    let digits = c.magnitude.ensures ∙ ap nat_abs number in
-    let natural = ap (le_z (pos 0)) (sym number) ∙ sym c.at_most.ensures in
-    elim c.if-not-at_most.branch [
-      | then-not-at_most w ↦
-          signed_put c.args.v scored digits (natural ∙ w.if-not-at_most.true) w.text-is w.put_byte-then-not-at_most.ensures c.put_points.ensures
-      | else-not-at_most w ↦ plain_put c.args.v scored digits (natural ∙ w.if-not-at_most.false) w.text-is c.put_points.ensures
+pub returns-after-is_negative : goal.returns-after-is_negative
+returns-after-is_negative c =
+    let scored = sym (carries c.from.ensures (to_z-of_z c.ranges.v)) ∙ c.in-Scored.is in
+    let fits : SFits w32 c.in-Scored.score = search rules in
+    let same = to_z-of_z fits in
+    let digits = c.unsigned_abs.ensures.value ∙ ap nat_abs same in
+    let negative = ap is_negative (sym same) ∙ sym c.is_negative.ensures in
+    elim c.if-is_negative.branch [
+      | then-is_negative w ↦
+          signed_put scored digits (negative ∙ w.if-is_negative.true) w.text-is w.put_byte.ensures c.put_points.ensures
+      | else-is_negative w ↦ plain_put scored digits (negative ∙ w.if-is_negative.false) w.text-is c.put_points.ensures
     ]
