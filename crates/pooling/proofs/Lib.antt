@@ -1,4 +1,4 @@
-pub mod Pieces
+pub mod Places
 pub mod Sums
 pub mod Texts
 pub mod Readings

@@ -22,7 +22,7 @@ use Rattle.answers.proofs.Answers.{refused_is}
 use Rattle.answers.proofs.WaysOut.{refused}
 use Rattle.interface.specs.Sheet.{space, is_name, cut, names, entries, pairs, is_among}
 use Rattle.interface.specs.SheetText.{sheet_text}
-use Rattle.interface.specs.Pool.{place_on, pool_scores, pool_pairs, pool_text}
+use Rattle.interface.specs.Pool.{place_of, place_on, pool_scores, pool_pairs, pool_text}
 use Rattle.interface.specs.Refusals.{first_of, wrong_count, names_differ, check14, check18, reader_checks, sheet_checks, pool_checks, pool_refusal}
 use Rattle.interface.specs.Calls.{PoolCall, piece_at}
 use Rattle.interface.proofs.Refusals.{gives, first_yes, first_no, first_none, first_back, right_count, refused_front, passed_back}
@@ -31,7 +31,9 @@ use Rattle.interface.proofs.SheetTexts.{sheet_text_cong}
 use Rattle.interface.proofs.PoolScores.{Sound, sound, pool_symmetric}
 use Rattle.sheet.proofs.Lines.{first_line_lem}
 use Rattle.reader.proofs.Answers.{pairs_length}
-use Rattle.pooling.specs.Pools.{AcceptedSheet, Placed, sheet_of, sums_refusal, SumsWritten, both_refusal, PairsPooled}
+use Rattle.std.proofs.lemmas.List.{get_or-map}
+use Rattle.pooling.proofs.Places.{as_many}
+use Rattle.pooling.specs.Pools.{AcceptedSheet, Placed, Addable, sheet_of, sums_refusal, SumsWritten, both_refusal, PairsPooled}
 
 -- one of them
 module _ {sheet : List ℕ} {n : ℕ} {l : List ℤ} (a : AcceptedSheet sheet n l) where
@@ -107,14 +109,25 @@ module _ {first second : List ℕ} {n m : ℕ} {scores others : List ℤ} (a : A
 
     place_is : (i : ℕ) → i < n → get_or places i 0 ≡ place_on first second i
     unfolding place_on
-    place_is i h = p.are i (omega (arith, names_count a))
+    place_is i h = ap (λ (l : List ℕ). get_or l i 0) p.are ∙ get_or-map (λ w. place_of w (names second)) (names first) i [] 0 (omega (arith, names_count a))
 
-    pub place_few : (i : ℕ) → i < n → get_or places i 0 < n
+    place_few : (i : ℕ) → i < n → get_or places i 0 < n
     unfolding place_on
     place_few i h =
         let k : i < length (names first) = omega (arith, names_count a) in
         let there = (same_names (names first) (names second) right_names).0 (get_or (names first) i []) (get_d_in (names first) i [] k) in
         omega (arith, place_is i h, place_lt (get_or (names first) i []) (names second) there, names_count b)
+
+    pub addable : Addable n scores others places
+    addable = record {
+      few = few a;
+      first_long = long a;
+      second_long = long b ∙ ap row_start (sym same);
+      first_allowed = in_range_lem a;
+      second_allowed = in_range_lem b;
+      places_long = as_many _ p ∙ sym (names_count a);
+      placed = place_few;
+    }
 
     module _ (sums : List ℤ) (are : sums ≡ pair_list n (pooled (λ k. get_or places k 0) (score scores) (score others))) where
       sums_are : sums ≡ pool_pairs first second

@@ -1,17 +1,17 @@
 -- The sum of two pairs, as the code makes it, and its size.
 use mathlib.Core.Path.{◌≡◌, refl, sym, ap, ap₂, subst, ◌∙◌}
 use mathlib.Core.Bool.{true, false}
-use mathlib.Core.List.{List}
-use Prim.Native.Nat.{ℕ, ◌-◌, ◌^◌, ◌≤◌, ◌<◌}
 use native.Mathlib.Omega.{arith}
-use lib.Dec.{T, lit≤}
+use lib.Dec.{T}
+use mir.Syntax.{w32}
+use mir.Val.{SFits}
+use Rattle.std.proofs.lemmas.Int.{ints}
 use lib.IntN.{ℤ, ◌+ℤ◌}
-use lib.ListN.{get_or}
 use Rattle.lists.proofs.Tests.{true_T}
 use Rattle.integers.specs.Integers.{eq_z}
 use Rattle.integers.specs.Range.{Within}
 use Rattle.integers.proofs.Linear.{eq_z_yes}
-use Rattle.integers.proofs.Range.{within_grow, within_sum}
+use Rattle.integers.proofs.Range.{within_sum}
 use Rattle.pairs.specs.declared.Carried.{Carried}
 use Rattle.pairs.specs.declared.Carried.TheVariants.{Scored, Unscored}
 use Rattle.pairs.specs.Pairs.{mark, number_for, carried}
@@ -49,10 +49,6 @@ score_small : {x : ℤ} → T (is_allowed_pair score_limit (carried x)) → eq_z
 unfolding score_limit one_point point_limit
 score_small t e = allowed_within (subst (λ p. T (is_allowed_pair score_limit p)) (scored e) t)
 
-pub sum_small : (x y : ℤ) → T (is_allowed_pair score_limit (carried x)) → T (is_allowed_pair score_limit (carried y))
-    → eq_z x mark ≡ false → eq_z y mark ≡ false → Within (2 ^ 31 - 1) (x +ℤ y)
-sum_small x y t u e f = within_grow (lit≤ tt) (within_sum (score_small t e) (score_small u f))
-
--- the places of the entries in the other list, and that of a pair
-pub place_small : (q : List ℕ) {n i : ℕ} → ((j : ℕ) → j < n → get_or q j 0 < n) → n ≤ 32 → i < n → get_or q i 0 < 32
-place_small q {i} f h k = omega (arith, f i k)
+pub sum_fits : (x y : ℤ) → T (is_allowed_pair score_limit (carried x)) → T (is_allowed_pair score_limit (carried y))
+    → eq_z x mark ≡ false → eq_z y mark ≡ false → SFits w32 (x +ℤ y)
+sum_fits x y t u e f = let small = within_sum (score_small t e) (score_small u f) in grind (arith, ints, small.top, small.low)

@@ -1,8 +1,9 @@
 -- The code's own vocabulary for the pool of two sheets, which a reader of the statements need not believe.
-use Rattle.std.specs.Prelude.{◌≡◌, true, false, Ok, Option, Some, None, List, [], ◌∷◌, ℕ, ◌<◌, ℤ, length, get_or, take}
+use Rattle.std.specs.Prelude.{◌≡◌, true, false, Ok, Option, Some, None, List, [], ◌∷◌, map, ℕ, ◌≤◌, ◌<◌, ℤ, T, length, get_or, take}
+use Rattle.arrayvec.specs.ArrayVec.{ArrayVec}
 use Rattle.lists.specs.Lists.{all}
 use Rattle.answers.specs.Answers.{Answer, Answered, slots}
-use Rattle.clusters.specs.PairList.{row_start, score}
+use Rattle.clusters.specs.PairList.{row_start, score, scores_in_range}
 use Rattle.interface.specs.Sheet.{space, cut, entries, pairs, is_among}
 use Rattle.interface.specs.SheetText.{sheet_text}
 use Rattle.interface.specs.Pool.{place_of, pool_text}
@@ -21,13 +22,22 @@ PlaceAmong w ms (Some place) = (is_among w ms ≡ true) × (place ≡ place_of w
 
 -- the places of the names ns among the names ms, if all are there
 pub record Placed (ns ms : List (List ℕ)) (places : List ℕ) : Type 0 where
-  pub long : length places ≡ 32
   pub there : all (λ w. is_among w ms) ns ≡ true
-  pub are : (i : ℕ) → i < length ns → get_or places i 0 ≡ place_of (get_or ns i []) ms
+  pub are : places ≡ map (λ w. place_of w ms) ns
 
-abbrev pub PlacesOn : (ns ms : List (List ℕ)) → Option (List ℕ) → Type 0
+abbrev pub PlacesOn : (ns ms : List (List ℕ)) → Option (ArrayVec ℕ) → Type 0
 PlacesOn ns ms None = all (λ w. is_among w ms) ns ≡ false
-PlacesOn ns ms (Some places) = Placed ns ms places
+PlacesOn ns ms (Some places) = Placed ns ms places.items
+
+-- two pair lists of n entries that check 11 passes, and where each entry of the first stands in the second
+pub record Addable (n : ℕ) (first second : List ℤ) (places : List ℕ) : Type 0 where
+  pub few : n ≤ 32
+  pub first_long : length first ≡ row_start n
+  pub second_long : length second ≡ row_start n
+  pub first_allowed : T (scores_in_range first)
+  pub second_allowed : T (scores_in_range second)
+  pub places_long : length places ≡ n
+  pub placed : (j : ℕ) → j < n → get_or places j 0 < n
 
 -- checks 18 and 14 of sums that are to be written, with the names in line 1; and the outcome
 unfoldable pub sheet_of : List ℕ → List ℤ → List ℕ

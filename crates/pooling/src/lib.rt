@@ -1,5 +1,5 @@
 // The pool of two sheets (document 02, 2.4).
-#![tactic(auto)]
+#![tactic(auto, using(integers::proofs::Operators::operators))]
 
 ghost use Rattle.std.specs.Prelude.{◌≡◌, ◌++◌, map, ℕ, suc, ◌≤◌, ◌<◌, T, length, get_or, take, drop};
 ghost use Rattle.std.proofs.lemmas.List.Edits.{sets};
@@ -9,41 +9,27 @@ ghost use Rattle.clusters.specs.PairList.{row_start, score, pair_list, score_lim
 ghost use Rattle.clusters.specs.Pooling.{added, pooled};
 ghost use Rattle.interface.specs.Sheet.{space, cut, is_name};
 ghost use Rattle.interface.specs.Calls.{PoolCall};
-ghost use Rattle.pooling.specs.Pools.{PlaceAmong, PlacesOn, SumsWritten, AcceptedSheet, PairsPooled, Read};
+ghost use Rattle.pooling.specs.Pools.{PlaceAmong, PlacesOn, Addable, SumsWritten, AcceptedSheet, PairsPooled, Read};
 
 use answers::Refusal;
+use arrayvec::ArrayVec;
 
 // Where the word stands among the pieces of the line, counted from 0.
 fn place_among(word: &[u8], line: &[u8]) -> Option<usize>
     ensures { PlaceAmong word.now (cut space line.now) result }
 {
-    let mut at: usize = 0;
-    let mut place: usize = 0;
-    loop {
-        let end = text::piece_end(line, b' ', at);
-        if sheet::same_bytes(word, &line[at..end]) {
-            return Some(place);
-        }
-        if end >= line.len() {
-            return None;
-        }
-        place += 1;
-        at = end + 1;
-    }
+    line.split(|b| *b == b' ')
+        .position(|piece| sheet::same_bytes(word, piece))
 }
 
-// The places of the n names of a line among those of another, if all are there.
-fn places_on(first: &[u8], second: &[u8], n: usize) -> Option<[usize; 32]>
-    requires { (n ≤ 32) × (n ≡ length (cut space first.now)) }
+// The places of the names of a line among those of another, if all are there.
+fn places_on(first: &[u8], second: &[u8]) -> Option<ArrayVec<usize, 32>>
+    requires { length (cut space first.now) ≤ 32 }
     ensures { PlacesOn (cut space first.now) (cut space second.now) result }
 {
-    let mut places = [0usize; 32];
-    let mut from: usize = 0;
-    for i in 0..n {
-        let end = text::piece_end(first, b' ', from);
-        let place = place_among(&first[from..end], second)?;
-        places[i] = place;
-        from = end + 1;
+    let mut places = ArrayVec::new();
+    for name in first.split(|b| *b == b' ') {
+        places.push(place_among(name, second)?);
     }
     Some(places)
 }
@@ -59,14 +45,12 @@ fn added(x: i32, y: i32) -> i32
     if pairs::is_mark(y) {
         return y;
     }
-    integers::narrow(integers::sum(integers::wide(x), integers::wide(y)))
+    x + y
 }
 
 // Adds row i of the first pair list and the pairs of the same names in the second.
 fn add_row(first: &[i32], second: &[i32], places: &[usize], n: usize, i: usize, out: &mut [i32])
-    requires { (n ≤ 32) × (length first.now ≡ row_start n) × (length second.now ≡ row_start n)
-        × T (scores_in_range first.now) × T (scores_in_range second.now) × (length places.now ≡ 32)
-        × ((j : ℕ) → j < n → get_or places.now j 0 < n) × (i < n) × (row_start n ≤ length out.old) }
+    requires { Addable n first.now second.now places.now × (i < n) × (row_start n ≤ length out.old) }
     ensures { out.new ≡ sets out.old (row_start i)
         (map (pooled (λ k. get_or places.now k 0) (score first.now)
         (score second.now) i) (below (suc i))) }
@@ -80,9 +64,7 @@ fn add_row(first: &[i32], second: &[i32], places: &[usize], n: usize, i: usize, 
 
 // Adds two pair lists of n entries, of which the second has entry i at its place.
 fn add(first: &[i32], second: &[i32], places: &[usize], n: usize, out: &mut [i32])
-    requires { (n ≤ 32) × (length first.now ≡ row_start n) × (length second.now ≡ row_start n)
-        × T (scores_in_range first.now) × T (scores_in_range second.now) × (length places.now ≡ 32)
-        × ((j : ℕ) → j < n → get_or places.now j 0 < n) × (row_start n ≤ length out.old) }
+    requires { Addable n first.now second.now places.now × (row_start n ≤ length out.old) }
     ensures { out.new ≡ pair_list n (pooled (λ k. get_or places.now k 0)
         (score first.now) (score second.now)) ++ drop (row_start n) out.old }
 {
@@ -124,11 +106,11 @@ fn pool_pairs(
     }
     let end = text::line_end(first, 0);
     let end2 = text::line_end(second, 0);
-    let Some(places) = places_on(&first[..end], &second[..end2], n) else {
+    let Some(places) = places_on(&first[..end], &second[..end2]) else {
         return Err(Refusal::NamesDiffer);
     };
     let mut sums = [0i32; 528];
-    add(scores, others, &places, n, &mut sums);
+    add(scores, others, places.as_slice(), n, &mut sums);
     let count = matrix::pair_count(n);
     write_sums(&first[..end], &sums[..count], n, out)
 }

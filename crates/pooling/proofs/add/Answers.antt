@@ -11,11 +11,7 @@ loop-i-preserved c = let v = c.loop-i.invariant in
 pub loop-i-init : goal.loop-i-init
 loop-i-init c = (omega arith, refl, rows_none)
 
-pub add_row-requires : goal.add_row-requires
-add_row-requires c = let p = c.requires in
-    (p.0, p.1, p.2, p.3, p.4, p.5, p.6, omega arith, omega arith)
-
 pub returns : goal.returns
 returns c =
     let e : c.loop-i.i ≡ c.args.n = omega arith in
-    rows_all c.args.n c.loop-i.invariant.2 e c.requires.7
+    rows_all c.args.n c.loop-i.invariant.2 e c.requires.1

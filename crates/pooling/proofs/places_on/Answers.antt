@@ -1,64 +1,49 @@
-use Rattle.std.specs.Prelude.{Option, Some, None}
-use mathlib.Core.Path.{◌≡◌, refl, sym, subst, ◌∙◌}
-use mathlib.Core.List.{List, []}
+use mathlib.Core.Path.{◌≡◌, ◌∙◌, subst}
+use mathlib.Core.List.{List}
 use Prim.Native.Nat.{ℕ, ◌<◌}
 use native.Mathlib.Omega.{arith}
-use lib.ListN.{length, get_or, length-set}
-use Rattle.lists.proofs.Walk.{started, next, failed, ended}
-use Rattle.lists.proofs.Written.{place_more}
+use borrow.Author.Rules.{rules}
+use borrow.Author.Tests.{tests}
+use lib.Dec.{eqb}
+use lib.ListN.{length, get_or, length-map}
+use Rattle.std.proofs.lemmas.List.{map_push}
+use Rattle.std.proofs.lemmas.Iterator.Consumers.{YieldsList-turn, YieldsList-end}
+use Rattle.std.proofs.lemmas.Iterator.Splits.{YieldsList-from_slice_split}
 use Rattle.interface.specs.Sheet.{cut}
-use Rattle.interface.specs.Pool.{place_of}
-use Rattle.text.proofs.Pieces.{piece_inside, piece_part}
-use Rattle.pooling.proofs.Pieces.{first_starts, piece_is, next_starts}
-use Rattle.pooling.specs.Pools.{PlaceAmong}
+use Rattle.sheet.proofs.Names.{split_cut}
+use Rattle.pooling.specs.Pools.{Placed}
+use Rattle.pooling.proofs.Places.{none_placed, as_many, one_more, one_missing}
+use Rattle.pooling.proofs.places_on.Goals.{In-Some}
 use Rattle.pooling.proofs.places_on.Goals as goal
 
--- the word is the name of an entry
-named : (ms : List (List ℕ)) {w v : List ℕ} (r : Option ℕ) → w ≡ v → PlaceAmong w ms r → PlaceAmong v ms r
-named ms r e p = subst (λ (w : List ℕ). PlaceAmong w ms r) e p
+pub loop-name-init : goal.loop-name-init
+loop-name-init c = none_placed _ c.new-places.ensures
 
-pub loop-i-init : goal.loop-i-init
-loop-i-init c = (omega arith, λ h. first_starts _, started, λ k h. absurd (omega arith), refl)
+-- the name that the loop is at
+turn : (c : In-Some) → let names = cut 32 c.args.first.now in
+    (length c.loop-name.yielded < length names) × (c.in-Some.name.now ≡ get_or names (length c.loop-name.yielded) c.in-Some.name.now)
+turn c = let first = c.args.first.now in
+    let name = c.in-Some.name in
+    let at = c.loop-name in
+    subst (λ (ws : List (List ℕ)). (length at.yielded < length ws) × (name.now ≡ get_or ws (length at.yielded) name.now)) (split_cut 32 first)
+    (YieldsList-turn (YieldsList-from_slice_split {s = c.into_iter-name-iterator.result} _ (λ (b : ℕ). eqb b 32) first (cc) (cc) (cc) (λ x b q k. search (rules, tests)))
+    at.yielded at.name-iterator at.yielded_by c.next.result c.next.new.self name c.in-Some.is c.next.ensures.steps)
 
-pub piece_end-end-requires : goal.piece_end-end-requires
-piece_end-end-requires c = (c.loop-i.invariant.1 (omega arith)).inside
+pub push-requires : goal.push-requires
+push-requires c = let t = turn (goal.at.push-requires c).In-Some in
+    omega (arith, t.0, as_many _ c.loop-name.invariant, length-map c.loop-name.yielded (λ w. w.now), c.requires)
 
-pub slice_bounds-place_among-end : goal.slice_bounds-place_among-end
-slice_bounds-place_among-end c =
-    piece_inside 32 c.args.first.now c.loop-i.from _ (c.loop-i.invariant.1 (omega arith)).inside c.piece_end-end.ensures
+pub returns-in_err-place_among : goal.returns-in_err-place_among
+returns-in_err-place_among c = let (h, e) = turn (goal.at.returns-in_err-place_among c).In-Some in
+    rw c.from_residual.ensures (one_missing _ (cut 32 c.args.first.now) _ h e (c.in_err-place_among.ensures))
 
-pub returns-in_err-place : goal.returns-in_err-place
-returns-in_err-place c = let l = c.loop-i in
-    let s = l.invariant.1 (omega arith) in
-    let has : l.i < length (cut 32 c.args.first.now) = omega (arith, c.requires.1) in
-    let word = piece_part 32 c.args.first.now l.from _ s.inside c.piece_end-end.ensures ∙ piece_is _ l.i _ s has in
-    rw c.from_residual.ensures (sym (failed l.invariant.2 [] has (named (cut 32 c.args.second.now) None word c.in_err-place.ensures)))
-
-pub overflow_add-from : goal.overflow_add-from
-overflow_add-from c =
-    let h = piece_inside 32 c.args.first.now c.loop-i.from _ (c.loop-i.invariant.1 (omega arith)).inside c.piece_end-end.ensures in
-    omega (arith, h)
-
-pub loop-i-preserved : goal.loop-i-preserved
-loop-i-preserved c = let l = c.loop-i in
-    let first = c.args.first.now in
-    let second = c.args.second.now in
-    let s = l.invariant.1 (omega arith) in
-    let has : l.i < length (cut 32 first) = omega (arith, c.requires.1) in
-    let word = piece_part 32 first l.from _ s.inside c.piece_end-end.ensures ∙ piece_is _ l.i _ s has in
-    let (there, placed) = named (cut 32 second) (Some c.in_ok-place.place) word c.in_ok-place.ensures in (
-      omega arith,
-      λ h. next_starts _ l.i l.from s has _ c.piece_end-end.ensures (omega (arith, c.requires.1)),
-      next l.invariant.2 [] has there,
-      place_more 0 (λ k. place_of (get_or (cut 32 first) k []) (cut 32 second)) l.places l.invariant.3
-          (omega (arith, l.invariant.4, c.requires.0)) placed,
-      length-set l.places l.i _ ∙ l.invariant.4,
-    )
+pub loop-name-preserved : goal.loop-name-preserved
+loop-name-preserved c = rw map_push (one_more _ c.loop-name.invariant _ c.in_ok-place_among.ensures c.push.ensures.items)
 
 pub returns : goal.returns
-returns c = let l = c.loop-i in
-    record {
-      long = l.invariant.4;
-      there = sym (ended l.invariant.2 (omega (arith, c.requires.1)));
-      are = λ k h. l.invariant.3 k (omega (arith, c.requires.1));
-    }
+returns c = let first = c.args.first.now in
+    let second = c.args.second.now in
+    let at = c.loop-name in
+    let end = YieldsList-end (YieldsList-from_slice_split {s = c.into_iter-name-iterator.result} _ (λ (b : ℕ). eqb b 32) first (cc) (cc) (cc) (λ x b q k. search (rules, tests)))
+    at.yielded at.name-iterator at.yielded_by c.next.result c.next.new.self c.in-None.is c.next.ensures.steps in
+    subst (λ (ws : List (List ℕ)). Placed ws (cut 32 second) at.places.items) (end.0 ∙ split_cut 32 first) at.invariant

@@ -1,6 +1,6 @@
 use mathlib.Core.Path.{refl}
 use Rattle.std.proofs.lemmas.Result.{err_from_is_err_and}
-use Rattle.pooling.proofs.Sheets.{few, lent_pairs, lent_long, lent_fit, refused_first, refused_second, both_accepted}
+use Rattle.pooling.proofs.Sheets.{few, lent_long, lent_fit, refused_first, refused_second, both_accepted}
 use Rattle.pooling.proofs.pool.Goals as goal
 
 pub returns-in_err-n : goal.returns-in_err-n
@@ -28,12 +28,6 @@ slice_bounds-others-end c = lent_fit _ (c.in_ok-m.ensures.accepted _ refl) c.pai
 
 pub slice_bounds-pool_pairs-end-2 : goal.slice_bounds-pool_pairs-end-2
 slice_bounds-pool_pairs-end-2 c = lent_long _ (c.in_ok-m.ensures.accepted _ refl) c.pair_count-count2.ensures
-
-pub pool_pairs-requires : goal.pool_pairs-requires
-pool_pairs-requires c = (
-  lent_pairs _ (c.in_ok-n.ensures.accepted _ refl) c.pair_count-count.ensures,
-  lent_pairs _ (c.in_ok-m.ensures.accepted _ refl) c.pair_count-count2.ensures,
-)
 
 pub returns : goal.returns
 returns c = both_accepted _ _ _ (c.in_ok-n.ensures.accepted _ refl) (c.in_ok-m.ensures.accepted _ refl) c.pool_pairs.ensures
