@@ -1,6 +1,6 @@
 // The links between the blocks of a linkage, in a table of rows of 32 numbers: made from the scores, kept up to date
 // by merges, and searched for the greatest.
-#![tactic(auto)]
+#![tactic(auto, using(integers::proofs::Operators::operators))]
 
 ghost use Rattle.std.specs.Prelude.{◌≡◌, ◌+◌, ◌*◌, ◌^◌, ◌<◌, ◌≤◌, length};
 ghost use Rattle.integers.specs.Range.{Within};
@@ -22,7 +22,7 @@ ghost use Rattle.links.specs.Table.{
 
 // How the link of a union to another block is made: of the scores between the two, the greatest (single linkage) or the
 // sum, which the sizes divide (average linkage).
-#[derive(Clone, Copy)]
+#[derive(Clone, Copy, Debug, PartialEq, Eq)]
 pub enum Method {
     Single,
     Average,
@@ -50,7 +50,7 @@ fn fill_row(pairs: &[i32], a: usize, start: usize, t: &mut [i64])
     ensures { Written a (score pairs.now a) a t.old t.new }
 {
     for b in 0..a {
-        put(t, a, b, integers::wide(pairs[start + b]));
+        put(t, a, b, i64::from(pairs[start + b]));
     }
 }
 
@@ -64,13 +64,14 @@ pub fn fill(pairs: &[i32], n: usize, t: &mut [i64])
     }
 }
 
+#[tactic(auto, using(integers::proofs::Operators::operators), unfolding(crate::specs::Table::joined))]
 fn join(method: Method, x: i64, y: i64) -> i64
     requires { Within (2 ^ 47) x × Within (2 ^ 47) y }
     ensures { result ≡ joined method x y }
 {
     match method {
-        Method::Single => integers::larger(x, y),
-        Method::Average => integers::sum(x, y),
+        Method::Single => x.max(y),
+        Method::Average => x + y,
     }
 }
 
@@ -96,7 +97,7 @@ pub fn move_row(last: usize, j: usize, t: &mut [i64])
 }
 
 // Two places of the table, in rising order, and the link of the blocks there: numerator and denominator.
-#[derive(Clone, Copy)]
+#[derive(Clone, Copy, Debug, PartialEq, Eq)]
 pub struct Found {
     pub i: usize,
     pub j: usize,
@@ -119,7 +120,7 @@ fn greatest_in_row(weights: &[usize; 32], t: &[i64], j: usize, found: Found) -> 
         let other = weights[i];
         let left = integers::times(best.den, num);
         let right = integers::times(other, scaled);
-        if integers::at_most(left, right) {
+        if left <= right {
             continue;
         }
         let den = own * other;

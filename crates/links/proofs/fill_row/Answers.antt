@@ -15,7 +15,7 @@ use Rattle.links.proofs.fill_row.Goals as goal
 
 pub loop-b-preserved : goal.loop-b-preserved
 loop-b-preserved c = let a = c.args in
-    let w = c.wide in
+    let w = c.from in
     let b = c.loop-b.b in
     let e : w.result ≡ score a.pairs.now a.a b = w.ensures
     ∙ to_z-of_z {w = w32} (search rules)
