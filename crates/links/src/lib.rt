@@ -36,6 +36,7 @@ pub fn get(t: &[i64], a: usize, b: usize) -> i64
 }
 
 // A link goes into the table both ways round.
+#[tactic(auto, using(integers::proofs::Operators::operators), unfolding(crate::specs::Table::stored))]
 fn put(t: &mut [i64], a: usize, b: usize, z: i64)
     requires { (a < 32) × (b < 32) × (a * 32 + b < length t.old) × (b * 32 + a < length t.old) }
     ensures { t.new ≡ stored a b z t.old }

@@ -32,9 +32,6 @@ right : (c : After-times-right) → let w = c.args.weights.now in
 right c = let p = c.times-right in
     passed w64 p.type_inv (p.ensures ∙ ap (λ z. pos (get_or c.args.weights.now c.loop-i.i 0) *ℤ z) c.loop-i.invariant.2)
 
-pub times-left-requires : goal.times-left-requires
-times-left-requires c = ((found_den c.loop-i.invariant.1 c.requires.2 (omega arith)).1, small (goal.at.times-left-requires c).After-get-num)
-
 pub times-right-requires : goal.times-right-requires
 times-right-requires c = (
   omega (arith, c.requires.2 c.loop-i.i (omega arith)),

@@ -4,7 +4,7 @@ use mir.Syntax.{w64}
 use mir.Val.{of_z, to_z}
 use Rattle.integers.proofs.Held.{passed}
 use Rattle.links.specs.Table.{entry, joined, joined_row}
-use Rattle.links.proofs.Rows.{written_left, written_next, small_any}
+use Rattle.links.proofs.Rows.{written_left, written_next}
 use Rattle.links.proofs.join_rows.Goals.{After-get-in-loop-q}
 use Rattle.links.proofs.join_rows.Goals as goal
 
@@ -15,11 +15,6 @@ first c = passed w64 c.get.type_inv (c.get.ensures ∙ written_left c.loop-q.inv
 second : (c : After-get-in-loop-q) → to_z w64 (of_z w64 c.get-in-loop-q.result) ≡ entry c.args.t.now c.args.j c.loop-q.q
 second c = passed w64 c.get-in-loop-q.type_inv
     (c.get-in-loop-q.ensures ∙ written_left c.loop-q.invariant.1 c.args.j (omega arith) (omega arith) (omega arith))
-
-pub join-requires : goal.join-requires
-join-requires c = let g = (goal.at.join-requires c).After-get-in-loop-q in
-    let s = c.requires.3 in
-    rw (first g, second g) (small_any s c.args.i c.loop-q.q (omega arith) (omega arith), small_any s c.args.j c.loop-q.q (omega arith) (omega arith))
 
 pub loop-q-preserved : goal.loop-q-preserved
 unfolding joined_row
