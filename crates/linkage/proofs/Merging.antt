@@ -1,28 +1,33 @@
 -- The blocks as the code holds them: what the stores of a merge leave, and that it is the merge of the two blocks, in another order.
-use mathlib.Core.Path.{◌≡◌, sym, ap, ◌∙◌}
+use mathlib.Core.Path.{◌≡◌, sym, ap, ◌∙◌, subst}
 use mathlib.Core.Logic.{◌≢◌}
-use mathlib.Core.List.{List, [], ◌∷◌, map-append}
-use Prim.Native.Nat.{ℕ, zero, suc, ◌+◌, ◌-◌, ◌^◌, ◌<◌, ◌≤◌}
+use mathlib.Core.List.{List, [], ◌∷◌, ◌++◌, map, append-nil}
+use Prim.Native.Nat.{ℕ, zero, suc, ◌-◌, ◌<◌, ◌≤◌}
 use native.Mathlib.Decide.{ℕ_discrete}
-use native.Mathlib.Numerals.{add-one}
 use native.Mathlib.Omega.{arith}
 use lib.IntN.{ℤ, ◌+ℤ◌}
-use lib.ListN.{length, get_or, take, set, length-set}
-use lib.Seq.{get_or-take, take-set-lt, take-take, take_all, take-suc, take-suc-set, get_or-set_same, get_or-set_other, length-take-le}
+use lib.ListN.{length, get_or, take, set, length-set, drop_of_length-le}
+use lib.Seq.{get_or-take, take-append_seam, take-set-lt, take-take, take_all, take-suc, get_or-set_same, get_or-set_other, length-take-le}
 use Rattle.lists.specs.Lists.{below}
 use Rattle.lists.proofs.Lists.{get_d_in}
+use Rattle.lists.proofs.Written.{Written, all_written}
 use Rattle.integers.specs.Integers.{sum_of}
 use Rattle.integers.proofs.Linear.{zarith, +at}
 use Rattle.integers.proofs.Sums.{sum_snoc}
 use Rattle.sets.specs.Sets.{◌∪◌}
 use Rattle.clusters.specs.Linkage.{merged, singles}
+use Rattle.clusters.proofs.Exists.{count_singles}
 use Rattle.clusters.proofs.Arrangement.{SameBlocks, sum_merged}
 use Rattle.linkage.specs.Blocks.{merged_at}
 
--- one more single entry
-pub singles_next : (l : List ℕ) (i : ℕ) → i < length l → take i l ≡ singles i → take (i + 1) (set l i (2 ^ i)) ≡ singles (i + 1)
-unfolding singles below
-singles_next l i h e = rw (add-one, take-suc-set l i (2 ^ i) h, e) (sym (map-append (λ i. 2 ^ i) (below i) (i ∷ [])))
+-- slots of which each is written
+pub all_slots : {f : ℕ → ℕ} (lent : List ℕ) {l : List ℕ} {i : ℕ} (n : ℕ) → n ≤ length lent → Written f (take n lent) l i → i ≡ n → l ≡ map f (below n)
+all_slots {f} lent n h w e =
+    all_written n w (omega arith) (omega arith) ∙ ap (λ (r : List ℕ). map f (below n) ++ r) (drop_of_length-le (take n lent) {i = n} (omega (arith, length-take-le n lent h))) ∙ append-nil (map f (below n))
+
+-- the single entries, at the front of slots
+pub front_singles : (n : ℕ) (l : List ℕ) → take n (singles n ++ l) ≡ singles n
+front_singles n l = subst (λ (k : ℕ). take k (singles n ++ l) ≡ singles n) (count_singles n) (take-append_seam (singles n) l)
 
 -- what the stores of a merge leave in the first k - 1 of the sets
 pub stores : (l : List ℕ) (k i j : ℕ) → i < j → j < k → k ≤ length l

@@ -1,7 +1,7 @@
 // The blocks of a linkage, and the linkage calls.
 #![tactic(auto)]
 
-ghost use Rattle.std.specs.Prelude.{◌≡◌, ◌-◌, ◌*◌, ◌<◌, ◌≤◌, length, get_or, set};
+ghost use Rattle.std.specs.Prelude.{◌≡◌, ◌-◌, ◌*◌, ◌<◌, ◌≤◌, ◌++◌, length, drop, get_or, set};
 ghost use Rattle.clusters.specs.Linkage.{single, average, singles};
 ghost use Rattle.matrix.specs.Rows.{Cleared};
 ghost use Rattle.linkage.specs.Blocks.{blocks_of, merged_at, linkage_of};
@@ -11,8 +11,18 @@ ghost use Rattle.interface.specs.Calls.{LinkageCall};
 use answers::Refusal;
 use links::{Found, Method};
 
+// The single entries, each into its slot.
+pub fn put_singles(n: usize, out: &mut [u32])
+    requires { (n ≤ 32) × (n ≤ length out.old) }
+    ensures { out.new ≡ singles n ++ drop n out.old }
+{
+    for (i, slot) in out[..n].iter_mut().enumerate() {
+        *slot = sets::single(i);
+    }
+}
+
 // "The blocks of a linkage number at most 32": the first `count` of the sets.
-#[derive(Clone, Copy)]
+#[derive(Clone, Copy, Debug, PartialEq, Eq)]
 pub struct Blocks {
     pub sets: [u32; 32],
     pub count: usize,
@@ -24,14 +34,9 @@ impl Blocks {
         requires { n ≤ 32 }
         ensures { (result.count ≡ n) × (blocks_of result ≡ singles n) }
     {
-        let mut filled = [0u32; 32];
-        for i in 0..n {
-            filled[i] = sets::single(i);
-        }
-        Blocks {
-            sets: filled,
-            count: n,
-        }
+        let mut sets = [0u32; 32];
+        put_singles(n, &mut sets);
+        Blocks { sets, count: n }
     }
 
     // The blocks that remain: the union of the two at the first's place, the last block at the second's.
