@@ -1,13 +1,14 @@
 -- Half points at a place of a line: the digits there, what stands behind them, and the sign before them.
 use mathlib.Core.Path.{◌≡◌, refl, sym, ap, ap₂, ◌∙◌, subst}
-use mathlib.Core.Bool.{Bool, true, false, cond, not, ◌&&◌, ◌||◌}
+use mathlib.Core.Bool.{Bool, true, false, true≢false, cond, not, ◌&&◌, ◌||◌}
 use mathlib.Core.List.{List, [], ◌∷◌, ◌++◌, append-nil}
+use Rattle.std.specs.Cmp.Lexicographic.{pointwise}
 use Prim.Native.Nat.{ℕ, zero, suc, ◌+◌, ◌*◌, ◌≤◌, ◌<◌}
 use native.Mathlib.Omega.{arith}
 use borrow.Author.Tests.{eqb-true, eqb-false, eq-eqb, ne_eqb}
 use lib.Dec.{T, eqb, leb, eqb→eq, lit<}
 use lib.IntN.{ℤ, pos, neg_ℤ, ◌-ℤ◌, +ℤ_idl}
-use lib.ListN.{length, get_or, drop, length-append}
+use lib.ListN.{length, get_or, take, drop, length-append}
 use lib.Seq.{drop-drop}
 use mir.Val.{SFits, to_z, bool_byte}
 use mir.Syntax.{w32}
@@ -16,6 +17,7 @@ use Rattle.lists.specs.Lists.{all}
 use Rattle.lists.proofs.Tests.{T_true, true_T, T_same}
 use Rattle.clusters.specs.PairList.{one_point}
 use Rattle.interface.specs.Sheet.{
+  cut,
   point,
   is_digit,
   is_numeral,
@@ -44,31 +46,36 @@ use Rattle.text.proofs.Pieces.{piece_none, piece_stop, piece_step}
 use Rattle.text.proofs.Words.{and_both}
 use Rattle.text.proofs.Numerals.{no_byte, first_end, first_byte, ends_empty, behind, digits_start, no_run}
 
--- a piece that is a text, byte by byte
-module _ (s : List ℕ) (at : ℕ) where
-  pub same_none : (c : ℕ) (l : List ℕ) → length s ≤ at → same_bytes (piece_at 32 s at) (c ∷ l) ≡ false
-  unfolding same_bytes
-  same_none c l h = rw (piece_none 32 s at h)
+-- the piece at a place is empty; it is a text w, which stands there with nothing more behind it
+ended : (t : List ℕ) → is_end t ≡ same_bytes (piece_at 32 t 0) []
+unfolding piece_at same_bytes
+ended t = ends_empty t ∙ go (piece_at 32 t 0)
+  where
+    go : (w : List ℕ) → eqb (length w) 0 ≡ same_bytes w []
+    go [] = refl
+    go (b ∷ w) = ne_eqb (suc (length w)) 0 (λ z. absurd (omega arith))
 
-  pub same_other : (c : ℕ) (l : List ℕ) → at < length s → (get_or s at 0 ≡ c → ⊥) → same_bytes (piece_at 32 s at) (c ∷ l) ≡ false
-  unfolding same_bytes
-  same_other c l h f = go (eqb (get_or s at 0) 32) refl
-    where
-      go : (x : Bool) → eqb (get_or s at 0) 32 ≡ x → same_bytes (piece_at 32 s at) (c ∷ l) ≡ false
-      go true e = rw (piece_stop 32 s at h (eqb-true _ 32 e))
-      go false e = rw (piece_step 32 s at h (eqb-false _ 32 e), ne_eqb _ c f)
+text_ahead : (w t : List ℕ) → all (λ c. not (eqb c 32)) w ≡ true
+    → (pointwise eqb w (take (length w) t) && is_end (drop (length w) t)) ≡ same_bytes (piece_at 32 t 0) w
+unfolding all piece_at cut same_bytes
+text_ahead [] t h = ended t
+text_ahead (c ∷ w) [] h = refl
+text_ahead (c ∷ w) (b ∷ t) h =
+    let (k, j) = and_both (not (eqb c 32)) (all (λ x. not (eqb x 32)) w) h in
+    go (λ e z. absurd (true≢false (sym k ∙ ap not (eq-eqb c 32 (z ∙ e))))) (text_ahead w t j) (eqb b 32) (eqb b c) refl refl
+  where
+    Ahead : List ℕ → Type 0
+    Ahead v = ((eqb c b && pointwise eqb w (take (length w) t)) && is_end (drop (length w) t)) ≡ same_bytes v (c ∷ w)
 
-  pub same_step : (c : ℕ) (l : List ℕ) → at < length s → get_or s at 0 ≡ c → (c ≡ 32 → ⊥) → same_bytes (piece_at 32 s at) (c ∷ l) ≡ same_bytes (piece_at 32 s (at + 1)) l
-  unfolding same_bytes
-  same_step c l h e f = rw (piece_step 32 s at h (λ z. f (sym e ∙ z)), eq-eqb _ c e)
+    go : (b ≡ 32 → c ≡ b → ⊥) → (pointwise eqb w (take (length w) t) && is_end (drop (length w) t)) ≡ same_bytes (piece_at 32 t 0) w
+        → (x y : Bool) → eqb b 32 ≡ x → eqb b c ≡ y → Ahead (piece_at 32 (b ∷ t) 0)
+    go f more true y e q = rw (piece_stop 32 (b ∷ t) 0 (omega arith) (eqb-true b 32 e), ne_eqb c b (f (eqb-true b 32 e)))
+    go f more false true e q = rw (piece_step 32 (b ∷ t) 0 (omega arith) (eqb-false b 32 e), q, eq-eqb c b (sym (eqb-true b c q))) more
+    go f more false false e q = rw (piece_step 32 (b ∷ t) 0 (omega arith) (eqb-false b 32 e), q, ne_eqb c b (λ z. eqb-false b c q (sym z)))
 
-  pub same_end : same_bytes (piece_at 32 s at) [] ≡ is_end (drop at s)
-  unfolding piece_at same_bytes
-  same_end = go (piece_at 32 s at) ∙ sym (ends_empty (drop at s))
-    where
-      go : (w : List ℕ) → same_bytes w [] ≡ eqb (length w) 0
-      go [] = refl
-      go (b ∷ w) = sym (ne_eqb (suc (length w)) 0 (λ z. absurd (omega arith)))
+pub half_ahead : (s : List ℕ) (at : ℕ) → (pointwise eqb half_text (take 2 (drop at s)) && is_end (drop (at + 2) s)) ≡ same_bytes (piece_at 32 s at) half_text
+unfolding half_text piece_at all
+half_ahead s at = rw (sym (drop-drop 2 at s)) (text_ahead half_text (drop at s) refl)
 
 -- the digits that t starts with, and what stands behind them
 module _ (t : List ℕ) where

@@ -1,19 +1,21 @@
 -- The pieces of a list from a place on, one after the other.
 use mathlib.Core.Path.{◌≡◌, refl, sym, ap, ◌∙◌}
-use mathlib.Core.Bool.{Bool, true, false, ◌||◌}
-use mathlib.Core.List.{List, [], ◌∷◌}
+use mathlib.Core.Bool.{Bool, true, false, not}
+use mathlib.Core.List.{List, [], ◌∷◌, ◌++◌}
 use Prim.Native.Nat.{ℕ, zero, suc, ◌+◌, ◌-◌, ◌≤◌, ◌<◌}
 use native.Mathlib.Numerals.{add-one}
 use native.Mathlib.Nat.{add-sub_cancel_left}
 use native.Mathlib.Omega.{arith}
-use borrow.Author.Tests.{eq-eqb, ne_eqb, eqb-true, eqb-false, ltb-true, ltb-false, lt-ltb, le-ltb}
-use lib.Dec.{eqb, ltb}
-use lib.ListN.{length, get_or, take, drop, length-drop, drop_of_length-le}
-use lib.Seq.{drop-cons, drop-drop, take_all}
+use borrow.Author.Tests.{eq-eqb, ne_eqb}
+use lib.Dec.{eqb}
+use lib.ListN.{length, get_or, take, drop, length-append, length-drop, drop_of_length-le}
+use lib.Seq.{drop-cons, drop-drop, drop-append_seam, take_all}
+use Rattle.lists.specs.Lists.{all}
 use Rattle.lists.proofs.Tests.{cond_elim}
 use Rattle.interface.specs.Sheet.{longer, cut}
 use Rattle.interface.specs.Calls.{piece_at}
 use Rattle.interface.proofs.Pieces.{some_piece, longer_length}
+use Rattle.text.proofs.Words.{and_both}
 
 -- the list from a place on is its first byte and the list from the next place on
 pub here : (s : List ℕ) (i : ℕ) → i < length s → drop i s ≡ get_or s i 0 ∷ drop (i + 1) s
@@ -141,27 +143,30 @@ module _ (c : ℕ) (s : List ℕ) (from end : ℕ) (inside : from ≤ length s) 
   unfolding piece_at
   pieces_last h = first_last c (drop from s) (omega (arith, length-drop from s))
 
--- k bytes of a piece, and whether it is shorter than one byte more
-module _ (c : ℕ) (s : List ℕ) (from k : ℕ) where
-  pub piece_on : k ≤ length (piece_at c s from) → length (piece_at c s from) ≡ k + length (piece_at c s (from + k))
+-- k bytes of a piece
+pub piece_on : (c : ℕ) (s : List ℕ) (from k : ℕ) → k ≤ length (piece_at c s from) → length (piece_at c s from) ≡ k + length (piece_at c s (from + k))
+unfolding piece_at
+piece_on c s from k h = first_on c k (drop from s) h ∙ ap (λ (l : List ℕ). k + length (first (cut c l))) (drop-drop k from s)
+
+-- a part without c is passed over
+passed : (c : ℕ) (l r : List ℕ) → all (λ b. not (eqb b c)) l ≡ true → length (first (cut c (l ++ r))) ≡ length l + length (first (cut c r))
+unfolding all cut
+passed c [] r h = omega arith
+passed c (b ∷ l) r h =
+    let (k, j) = and_both (not (eqb b c)) (all (λ x. not (eqb x c)) l) h in
+    rw (other (eqb b c) k) (omega (arith, ap length (longer_first b (cut c (l ++ r))), passed c l r j))
+  where
+    other : (x : Bool) → not x ≡ true → x ≡ false
+    other true h = sym h
+    other false h = refl
+
+module _ (s l r : List ℕ) (from : ℕ) (e : drop from s ≡ l ++ r) where
+  pub part_on : drop (from + length l) s ≡ r
+  part_on = sym (drop-drop (length l) from s) ∙ ap (drop (length l)) e ∙ drop-append_seam l r
+
+  pub part_inside : from ≤ length s → from + length l ≤ length s
+  part_inside h = omega (arith, length-drop from s, ap length e, length-append l r)
+
+  pub part_passed : (c : ℕ) → all (λ b. not (eqb b c)) l ≡ true → length (piece_at c s from) ≡ length l + length (piece_at c s (from + length l))
   unfolding piece_at
-  piece_on h = first_on c k (drop from s) h ∙ ap (λ (l : List ℕ). k + length (get_or (cut c l) 0 [])) (drop-drop k from s)
-
-  pub piece_near : from + k < length s
-      → (ltb (length (piece_at c s from)) k || eqb (get_or s (from + k) 0) c) ≡ ltb (length (piece_at c s from)) (k + 1)
-  piece_near h = go (ltb L k) (eqb b c) refl refl
-    where
-      L : ℕ
-      L = length (piece_at c s from)
-
-      b : ℕ
-      b = get_or s (from + k) 0
-
-      go : (x y : Bool) → ltb L k ≡ x → eqb b c ≡ y → (x || y) ≡ ltb L (k + 1)
-      go true y e u = sym (lt-ltb L (k + 1) (omega (arith, ltb-true L k e)))
-      go false true e u =
-          let z = piece_stop c s (from + k) h (eqb-true b c u) in
-          sym (lt-ltb L (k + 1) (omega (arith, piece_on (ltb-false L k e), ap length z)))
-      go false false e u =
-          let z = piece_step c s (from + k) h (eqb-false b c u) in
-          sym (le-ltb L (k + 1) (omega (arith, piece_on (ltb-false L k e), ap length z)))
+  part_passed c h = rw (e, part_on) (passed c l r h)

@@ -1,6 +1,6 @@
 #![tactic(auto)]
 
-ghost use Rattle.std.specs.Prelude.{◌≡◌, ℕ, Bool, ◌+◌, ◌≤◌, ◌<◌, ltb, length, drop};
+ghost use Rattle.std.specs.Prelude.{◌≡◌, ℕ, Bool, ◌+◌, ◌≤◌, ◌<◌, length, drop};
 ghost use Rattle.lists.specs.Lists.{all};
 ghost use Rattle.interface.specs.Refusals.{is_allowed};
 ghost use Rattle.interface.specs.Sheet.{
@@ -22,7 +22,7 @@ use answers::{Cursor, Refusal};
 use pairs::{Carried, Pair};
 
 // Digits as a number, and the place after them.
-#[derive(Clone, Copy)]
+#[derive(Clone, Copy, Debug, PartialEq, Eq)]
 struct Digits {
     number: u32,
     end: usize,
@@ -52,7 +52,7 @@ pub fn is_allowed(b: u8) -> bool
     is_name_byte(b) | (b == b'-') | (b == b'.') | (b == b' ') | (b == b'\n')
 }
 
-// Every byte passes the test. Without an early exit the loop becomes vector code, as in is_near and piece_count.
+// Every byte passes the test. Without an early exit the loop becomes vector code, as in piece_count.
 pub fn all_bytes<F: Fn(u8) -> bool>(s: &[u8], test: F) -> bool
     requires { F.IsAlwaysCallable test }
     ensures { (p : ℕ → Bool) → Decides (F.post test) p → result ≡ all p s.now }
@@ -77,18 +77,6 @@ pub fn piece_end(s: &[u8], c: u8, from: usize) -> usize
     s.len()
 }
 
-// A byte c stands among the 16 from a place on.
-fn is_near(s: &[u8], c: u8, from: usize) -> bool
-    requires { from + 16 ≤ length s.now }
-    ensures { result ≡ ltb (length (piece_at c s.now from)) 16 }
-{
-    let mut near = false;
-    for k in 0..16 {
-        near = near | (s[from + k] == c);
-    }
-    near
-}
-
 // Passes over 16 bytes of the piece that starts at from as long as none of them is c.
 fn skip(s: &[u8], c: u8, from: usize) -> usize
     requires { from ≤ length s.now }
@@ -96,8 +84,8 @@ fn skip(s: &[u8], c: u8, from: usize) -> usize
     ensures result_value { result + length (piece_at c s.now result) ≡ from + length (piece_at c s.now from) }
 {
     let mut at = from;
-    while s.len() - at >= 16 {
-        if is_near(s, c, at) {
+    for bytes in s[from..].chunks_exact(16) {
+        if !all_bytes(bytes, |b| b != c) {
             return at;
         }
         at += 16;
@@ -189,22 +177,10 @@ fn is_numeral(line: &[u8], from: usize, end: usize) -> bool
 
 // `.5` stands at the place, and nothing more.
 fn is_half(line: &[u8], at: usize) -> bool
+    requires { at ≤ length line.now }
     ensures { result ≡ same_bytes (piece_at space line.now at) half_text }
 {
-    if at >= line.len() {
-        return false;
-    }
-    if line[at] != b'.' {
-        return false;
-    }
-    let five = at + 1;
-    if five >= line.len() {
-        return false;
-    }
-    if line[five] != b'5' {
-        return false;
-    }
-    is_end(line, at + 2)
+    line[at..].starts_with(b".5") && is_end(line, at + 2)
 }
 
 // A number of half points with its sign, and the place after it; `-0` is none.
@@ -255,13 +231,7 @@ fn read_number(line: &[u8], at: usize) -> Option<(i32, Cursor)>
 fn is_lone_minus(line: &[u8], at: usize) -> bool
     ensures { result ≡ is_lone_minus (piece_at space line.now at) }
 {
-    if at >= line.len() {
-        return false;
-    }
-    if line[at] != b'-' {
-        return false;
-    }
-    is_end(line, at + 1)
+    at < line.len() && line[at] == b'-' && is_end(line, at + 1)
 }
 
 // The pair that stands at a place of a line, with the place after it: a number, or the mark, which is looked for last,

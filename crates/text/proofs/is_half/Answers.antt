@@ -1,41 +1,25 @@
-use mathlib.Core.Path.{◌≡◌, sym, ◌∙◌}
+use mathlib.Core.Path.{◌≡◌, sym, ap, ◌∙◌}
+use mathlib.Core.Bool.{Bool}
 use mathlib.Core.List.{List, [], ◌∷◌}
-use Prim.Native.Nat.{ℕ, ◌+◌, ◌<◌}
-use native.Mathlib.Omega.{arith}
-use lib.ListN.{length, get_or, drop}
-use Rattle.interface.specs.Sheet.{half_text, same_bytes}
-use Rattle.interface.specs.Calls.{piece_at}
-use Rattle.text.specs.Reading.{is_end}
-use Rattle.text.proofs.Halves.{same_none, same_other, same_step, same_end}
+use Prim.Native.Nat.{ℕ, ◌-◌}
+use lib.Dec.{eqb}
+use lib.ListN.{length, take, drop}
+use Rattle.std.specs.Cmp.Lexicographic.{pointwise}
+use Rattle.interface.specs.Sheet.{half_text}
+use Rattle.text.proofs.Pieces.{rest}
+use Rattle.text.proofs.Halves.{half_ahead}
 use Rattle.text.proofs.is_half.Goals as goal
 
--- a point stands there; behind it a 5
-pointed : (line : List ℕ) (at : ℕ) → at < length line → get_or line at 0 ≡ 46
-    → same_bytes (piece_at 32 line at) half_text ≡ same_bytes (piece_at 32 line (at + 1)) (53 ∷ [])
+begins : (s : List ℕ) (at : ℕ) {r : Bool} → r ≡ pointwise eqb (46 ∷ 53 ∷ []) (take 2 (take (length s - at) (drop at s))) → r ≡ pointwise eqb half_text (take 2 (drop at s))
 unfolding half_text
-pointed line at h e = same_step line at 46 (53 ∷ []) h e (λ z. omega arith)
+begins s at e = e ∙ ap (λ t. pointwise eqb half_text (take 2 t)) (rest s at)
 
-halved : (line : List ℕ) (at : ℕ) → at + 1 < length line → get_or line at 0 ≡ 46 → get_or line (at + 1) 0 ≡ 53
-    → is_end (drop (at + 2) line) ≡ same_bytes (piece_at 32 line at) half_text
-halved line at h e five =
-    let two : at + 1 + 1 ≡ at + 2 = omega arith in
-    sym (pointed line at (omega arith) e ∙ same_step line (at + 1) 53 [] h five (λ z. omega arith) ∙ same_end line (at + 1 + 1) ∙ rw two)
+pub returns-then-starts_with : goal.returns-then-starts_with
+returns-then-starts_with c =
+    let s = sym (begins c.args.line.now c.args.at c.starts_with.ensures.value) ∙ c.if-starts_with.true in
+    c.is_end.ensures ∙ rw s at (half_ahead c.args.line.now c.args.at)
 
-pub returns-then-at-line : goal.returns-then-at-line
-unfolding half_text
-returns-then-at-line c = sym (same_none _ _ _ _ c.if-at-line.true)
-
-pub returns-then-line-at-ne46 : goal.returns-then-line-at-ne46
-unfolding half_text
-returns-then-line-at-ne46 c = sym (same_other _ _ _ _ c.if-at-line.false c.if-line-at-ne46.true)
-
-pub returns-then-five-line : goal.returns-then-five-line
-returns-then-five-line c =
-    sym (pointed _ _ c.if-at-line.false c.if-line-at-ne46.false ∙ same_none _ _ _ _ c.if-five-line.true)
-
-pub returns-then-line-five-ne53 : goal.returns-then-line-five-ne53
-returns-then-line-five-ne53 c =
-    sym (pointed _ _ c.if-at-line.false c.if-line-at-ne46.false ∙ same_other _ _ _ _ c.if-five-line.false (λ e. omega (arith, c.if-line-five-ne53.true, e)))
-
-pub returns : goal.returns
-returns c = c.is_end.ensures ∙ halved _ _ c.if-five-line.false c.if-line-at-ne46.false c.if-line-five-ne53.false
+pub returns-else-starts_with : goal.returns-else-starts_with
+returns-else-starts_with c =
+    let s = sym (begins c.args.line.now c.args.at c.starts_with.ensures.value) ∙ c.if-starts_with.false in
+    c.if-starts_with.false ∙ rw s at (half_ahead c.args.line.now c.args.at)

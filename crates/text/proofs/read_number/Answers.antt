@@ -64,6 +64,13 @@ overflow_mul-number c = omega (arith, small c.args.line.now c.args.at c.read_dig
 pub signed-requires : goal.signed-requires
 signed-requires c = omega (arith, small c.args.line.now c.args.at c.read_digits-digits.result c.if-at-line.false c.read_digits-digits.ensures)
 
+pub is_half-requires : goal.is_half-requires
+is_half-requires c =
+    let line = c.args.line.now in
+    let at = c.args.at in
+    let f = found line at c.read_digits-digits.result c.if-at-line.false c.read_digits-digits.ensures in
+    digits_inside line (from line at) c.read_digits-digits.result.end f.place (inside line at c.if-at-line.false)
+
 pub returns-then-is_end : goal.returns-then-is_end
 returns-then-is_end c =
     let f = found c.args.line.now c.args.at c.read_digits-digits.result c.if-at-line.false c.read_digits-digits.ensures in
