@@ -1,22 +1,37 @@
 -- The extremes that a loop has seen, and the spread that they give.
-use mathlib.Core.Path.{◌≡◌, sym, subst, ap, ap₂, ◌∙◌}
+use mathlib.Core.Path.{◌≡◌, refl, sym, subst, ap, ap₂, ◌∙◌}
 use mathlib.Core.List.{List, map}
 use Prim.Native.Nat.{ℕ, ◌+◌, ◌-◌, ◌^◌, ◌<◌}
-use lib.Dec.{lit≤}
+use lib.Dec.{lit<, lit≤}
 use lib.IntN.{ℤ, pos, neg_ℤ, ◌-ℤ◌}
+use mir.Syntax.{w32}
+use mir.Val.{SFits, of_z, to_z}
+use mir.Facts.{to_z-of_z}
 use Rattle.lists.specs.Lists.{below}
 use Rattle.lists.proofs.Lists.{below_lt, lt_below, in_map, of_map}
 use Rattle.integers.specs.Integers.{min_z, max_z, least, greatest}
 use Rattle.integers.specs.Range.{Within}
 use Rattle.integers.proofs.Linear.{zarith}
 use Rattle.integers.proofs.Least.{least_of, greatest_of, greatest_ge}
-use Rattle.integers.proofs.Range.{within_grow, within_equal, within_difference}
+use Rattle.integers.proofs.Range.{within_grow, within_equal, within_difference, difference_fits_i32}
 use Rattle.integers.proofs.Running.{turn_all, running_least, running_greatest}
 use Rattle.matrix.specs.Rows.{number}
 use Rattle.indices.specs.Asked.{Table}
 use Rattle.indices.specs.Margins.{spread, AtMost}
 use Rattle.indices.specs.Seen.{Seen}
 use Rattle.indices.specs.declared.Extremes.{Extremes}
+use Rattle.indices.proofs.Values.{read}
+
+-- a value less the number of a table, of 32 bits
+module _ {a b : ℤ} (h : Within (2 ^ 22) a) (l : Within (2 ^ 30) b) where
+  reads : (to_z w32 (of_z w32 a) ≡ a) × (to_z w32 (of_z w32 b) ≡ b)
+  reads = (read w32 (lit< tt) refl h, read w32 (lit< tt) refl l)
+
+  pub less_fits : SFits w32 (to_z w32 (of_z w32 a) -ℤ to_z w32 (of_z w32 b))
+  less_fits = difference_fits_i32 (within_equal reads.0 h) (within_equal reads.1 l)
+
+  pub less_read : to_z w32 (of_z w32 (to_z w32 (of_z w32 a) -ℤ to_z w32 (of_z w32 b))) ≡ a -ℤ b
+  less_read = to_z-of_z {w = w32} less_fits ∙ ap₂ ◌-ℤ◌ reads.0 reads.1
 
 module _ {f : ℕ → ℤ} {inside outside : List ℤ} where
   pub seen_none : {e : Extremes} → e.least ≡ pos (2 ^ 31 - 1) → e.greatest ≡ neg_ℤ (pos (2 ^ 31 - 1)) → Seen f inside outside 0 e

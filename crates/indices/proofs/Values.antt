@@ -1,20 +1,23 @@
 -- The values that the loops over a pair list see are bounded; a loop finds the least of them.
-use mathlib.Core.Path.{◌≡◌, refl, sym, subst, ap, ◌∙◌}
+use mathlib.Core.Path.{◌≡◌, refl, sym, subst, ap, ap₂, ◌∙◌}
 use mathlib.Core.Bool.{Bool, true, false, not, beq}
 use mathlib.Core.List.{List, map}
 use Prim.Native.Nat.{ℕ, ◌+◌, ◌^◌, ◌<◌}
+use native.Mathlib.Omega.{arith}
+use Rattle.std.specs.Int.{int_max}
+use Rattle.integers.proofs.Operators.{operators}
 use lib.Dec.{T, lit<, lit≤}
 use lib.IntN.{ℤ, ◌-ℤ◌}
-use mir.Syntax.{w64}
+use mir.Syntax.{Width, w64}
 use lib.Signed.{mag}
 use mir.Val.{SFits, of_z, to_z, hbits}
 use mir.Facts.{to_z-of_z}
 use Rattle.lists.specs.Lists.{◌∈◌, below, keep}
 use Rattle.lists.proofs.Lists.{below_lt, in_map, of_map, of_keep, keep_cong}
-use Rattle.integers.specs.Integers.{min_z, least, greatest}
+use Rattle.integers.specs.Integers.{min_z, max_z, least, greatest}
 use Rattle.integers.specs.Range.{Within, Bounded}
 use Rattle.integers.proofs.Least.{least_of, greatest_of}
-use Rattle.integers.proofs.Range.{within_grow, within_equal, within_difference}
+use Rattle.integers.proofs.Range.{within_grow, within_equal, within_difference, within_max, within_fits}
 use Rattle.integers.proofs.Held.{Held, held_result, passed}
 use Rattle.integers.proofs.Running.{Run, run_yes, run_least}
 use Rattle.sets.specs.Sets.{has, ◌∋◌, members, others}
@@ -47,6 +50,26 @@ module _ {n A k : ℕ} (p : Proper n A) {f : ℕ → ℤ} (b : (y : ℕ) → y <
   margin_within : Within (k + k) (margin n f A)
   unfolding margin
   margin_within = within_difference least_in_within greatest_out_within
+
+-- what the code reads of a number that is small
+pub read : (w : Width) {k : ℕ} {r z : ℤ} → k < 2 ^ hbits w → r ≡ z → Within k z → to_z w (of_z w r) ≡ z
+read w lt e h = to_z-of_z {w = w} (within_fits w lt (within_equal e h)) ∙ e
+
+-- a score less the larger of two, as the code reads them
+module _ {own v u m o x y : ℤ} (p : own ≡ o) (q : v ≡ x) (r : u ≡ y) (e : m ≡ int_max (to_z w64 (of_z w64 v)) (to_z w64 (of_z w64 u)))
+    (h : Within (2 ^ 22) o) (k : Within (2 ^ 22) x) (l : Within (2 ^ 22) y) where
+  larger_is : m ≡ max_z x y
+  larger_is = grind (arith, operators, p, q, r, e, h.low, h.top, k.low, k.top, l.low, l.top)
+
+  less_larger_reads : (to_z w64 (of_z w64 own) ≡ o) × (to_z w64 (of_z w64 m) ≡ max_z x y)
+  less_larger_reads = (read w64 (lit< tt) p h, read w64 (lit< tt) larger_is (within_max k l))
+
+  pub less_larger_fits : SFits w64 (to_z w64 (of_z w64 own) -ℤ to_z w64 (of_z w64 m))
+  less_larger_fits = let (f, g) = less_larger_reads in
+      within_fits w64 (lit< tt) (within_difference (within_equal f h) (within_equal g (within_max k l)))
+
+  pub less_larger : to_z w64 (of_z w64 (to_z w64 (of_z w64 own) -ℤ to_z w64 (of_z w64 m))) ≡ o -ℤ max_z x y
+  less_larger = let (f, g) = less_larger_reads in to_z-of_z {w = w64} less_larger_fits ∙ ap₂ ◌-ℤ◌ f g
 
 -- beyond every value: what a running least starts from
 pub top_held : Held w64 (of_z w64 top) top

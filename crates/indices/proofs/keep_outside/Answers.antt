@@ -1,13 +1,9 @@
-use mathlib.Core.Path.{sym, ap, ap₂, ◌∙◌}
+use mathlib.Core.Path.{sym, ap, ◌∙◌}
 use mathlib.Core.Bool.{not}
 use Prim.Native.Nat.{◌<◌}
 use native.Mathlib.Omega.{arith}
-use lib.IntN.{◌-ℤ◌}
 use lib.ListN.{length}
-use mir.Syntax.{w64}
-use Rattle.integers.specs.Integers.{max_z}
-use Rattle.integers.proofs.Held.{passed}
-use Rattle.integers.proofs.Range.{within_equal, within_max}
+use Rattle.integers.proofs.Range.{value_within}
 use Rattle.sets.specs.Sets.{others}
 use Rattle.smallest.specs.Smallest.{kept_with}
 use Rattle.smallest.proofs.Kept.{kept_start, kept_yes, kept_no, kept_end}
@@ -15,7 +11,8 @@ use Rattle.clusters.specs.PairList.{place, score}
 use Rattle.clusters.specs.Indices.{weight}
 use Rattle.matrix.specs.Rows.{number}
 use Rattle.matrix.proofs.Places.{score_asked}
-use Rattle.matrix.proofs.Scores.{score_safe, value_safe}
+use Rattle.clusters.proofs.Bounds.{score_within}
+use Rattle.indices.proofs.Values.{less_larger, less_larger_fits}
 use Rattle.indices.specs.Triples.{keep_outside}
 use Rattle.indices.proofs.keep_outside.Goals.{In-loop-c}
 use Rattle.indices.proofs.keep_outside.Goals.{then-not-has, else-not-has}
@@ -47,14 +44,11 @@ value-requires c = let (p, q) = asked c.before.before in omega (arith, p, q)
 pub value-requires-then-not-has : goal.value-requires-then-not-has
 value-requires-then-not-has c = let (p, q) = asked c.before.before.before in omega (arith, p, q)
 
-pub difference-requires : goal.difference-requires
-difference-requires c = let v = c.value in
-    let u = c.value-then-not-has in
-    let small = c.requires.1 in (
-      within_equal (passed w64 c.score-own.type_inv c.score-own.ensures) (score_safe small _ _),
-      within_equal (passed w64 c.larger-other.type_inv c.larger-other.ensures)
-          (within_max (within_equal (passed w64 v.type_inv v.ensures) (value_safe small _)) (within_equal (passed w64 u.type_inv u.ensures) (value_safe small _))),
-    )
+pub overflow_sub-own : goal.overflow_sub-own
+overflow_sub-own c =
+    let small = c.requires.1 in
+    less_larger_fits c.score-own.ensures c.value.ensures c.value-then-not-has.ensures c.max-other.ensures.value
+    (score_within small _ _) (value_within _ _ small) (value_within _ _ small)
 
 pub next_place-of_a-requires : goal.next_place-of_a-requires
 next_place-of_a-requires c = let g = c.requires.0 in
@@ -68,6 +62,7 @@ pub loop-c-preserved : goal.loop-c-preserved
 unfolding weight score
 loop-c-preserved c =
     let own = c.score-own in
+    let small = c.requires.1 in
     let l = c.loop-c in
     let i = l.invariant in
     let at = number c.args.pairs.now in
@@ -80,10 +75,8 @@ loop-c-preserved c =
         next-a,
         next-b,
         kept_yes i.3 (t ∙ ap not w.if-not-has.true) w.kept-is
-            (w.keep.ensures ∙ ap (kept_with _) (passed w64 w.difference.type_inv (w.difference.ensures ∙ ap₂ ◌-ℤ◌ (passed w64 own.type_inv own.ensures)
-            (passed w64 w.larger-other.type_inv (w.larger-other.ensures
-            ∙ ap₂ max_z (passed w64 w.value.type_inv (w.value.ensures ∙ ap at i.1))
-            (passed w64 w.value-then-not-has.type_inv (w.value-then-not-has.ensures ∙ ap at i.2))))))),
+            (w.keep.ensures ∙ ap (kept_with _) (less_larger own.ensures (w.value.ensures ∙ ap at i.1) (w.value-then-not-has.ensures ∙ ap at i.2) w.max-other.ensures.value
+            (score_within small _ _) (score_within small _ _) (score_within small _ _))),
       )
       | else-not-has w ↦ (omega arith, next-a, next-b, kept_no i.3 (t ∙ ap not w.if-not-has.false) w.kept-is)
     ]

@@ -7,6 +7,7 @@ use mir.Syntax.{w64}
 use Rattle.lists.proofs.Tests.{true_T}
 use Rattle.integers.specs.Integers.{min_z}
 use Rattle.integers.proofs.Held.{passed}
+use Rattle.integers.proofs.Operators.{min_is}
 use Rattle.integers.proofs.Running.{run_start, run_no}
 use Rattle.indices.proofs.Parted.{tables, least_spread}
 use Rattle.indices.proofs.Values.{top_held, run_next}
@@ -34,8 +35,8 @@ loop-x-preserved c =
     elim c.if-has-inner.branch [
       | then-has-inner w ↦ (
         omega arith,
-        run_next l.invariant.1 (sfits_to_z l.auto.least-fits) (t ∙ w.if-has-inner.true) w.least-is w.smaller-least.type_inv
-            (w.smaller-least.ensures ∙ ap (min_z _) (passed w64 w.spread.type_inv w.spread.ensures)),
+        run_next l.invariant.1 (sfits_to_z l.auto.least-fits) (t ∙ w.if-has-inner.true) w.least-is w.min-least.type_inv
+            (w.min-least.ensures.value ∙ min_is _ _ ∙ ap (min_z _) (passed w64 w.spread.type_inv w.spread.ensures)),
       )
       | else-has-inner w ↦ (omega arith, run_no l.invariant.1 (t ∙ w.if-has-inner.false) (ap (of_z w64) w.least-is))
     ]

@@ -5,6 +5,7 @@ use borrow.Author.Tests.{not-true, not-false}
 use mir.Syntax.{w64}
 use Rattle.integers.specs.Integers.{min_z}
 use Rattle.integers.proofs.Held.{passed}
+use Rattle.integers.proofs.Operators.{min_is}
 use Rattle.integers.proofs.Running.{run_start, run_no}
 use Rattle.clusters.specs.PairList.{score}
 use Rattle.indices.proofs.Margins.{separation_margins}
@@ -19,8 +20,8 @@ pub loop-a-preserved-then-not-has : goal.loop-a-preserved-then-not-has
 loop-a-preserved-then-not-has c = let l = c.loop-a in
     (omega arith, run_no l.invariant.1 (sym c.has.ensures ∙ not-true _ (ap not c.if-not-has.true)) refl, l.invariant.2, l.invariant.3, l.invariant.4)
 
-pub separation_from-own-requires : goal.separation_from-own-requires
-separation_from-own-requires c =
+pub separation_from-requires : goal.separation_from-requires
+separation_from-requires c =
     let i = c.loop-a.invariant in
     let (scores, proper, small) = c.requires.scores in
     let (a, b, d) = c.requires.room in record {
@@ -32,10 +33,10 @@ pub loop-a-preserved : goal.loop-a-preserved
 loop-a-preserved c =
     let l = c.loop-a in
     let i = l.invariant in
-    let s = c.separation_from-own in (
+    let s = c.separation_from in (
       omega arith,
-      run_next i.1 (sfits_to_z l.auto.least-fits) (sym c.has.ensures ∙ not-false _ (ap not c.if-not-has.false)) refl c.smaller-least.type_inv
-          (c.smaller-least.ensures ∙ ap (min_z _) (passed w64 s.type_inv s.ensures)),
+      run_next i.1 (sfits_to_z l.auto.least-fits) (sym c.has.ensures ∙ not-false _ (ap not c.if-not-has.false)) refl c.min-least.type_inv
+          (c.min-least.ensures.value ∙ min_is _ _ ∙ ap (min_z _) (passed w64 s.type_inv s.ensures)),
       s.auto.inside ∙ i.2,
       s.auto.outside ∙ i.3,
       s.auto.numbers ∙ i.4,
