@@ -5,8 +5,8 @@ use Prim.Native.Nat.{ℕ, suc, ◌+◌, ◌-◌, ◌^◌, ◌≤◌, ◌<◌}
 use native.Mathlib.Numerals.{add-one}
 use native.Mathlib.Omega.{arith}
 use lib.IntN.{ℤ}
-use lib.ListN.{length, get_or, drop, set, length-append, length-map}
-use lib.Seq.{drop-cons, set_at}
+use lib.ListN.{length, get_or, take, drop, set, length-append, length-map, drop_of_length-le}
+use lib.Seq.{drop-cons, set_at, length-take-le}
 use Rattle.integers.specs.Range.{Within}
 use Rattle.sets.specs.Sets.{◌∪◌}
 use Rattle.clusters.specs.PairList.{Similarity, Symmetric, score}
@@ -110,10 +110,15 @@ module _ (method : Method) (n : ℕ) (s : Similarity)
             g.inside room (greatest_link method n s few r.partition w v r.table symm g)
             (back (λ m. Written i (joined_row method i j t) m t t₁) joins) (back (λ m. Written j (entry t₁ (m - 1)) (m - 1) t₁ t₂) moves))
 
-pub run_end : (method : Method) (n : ℕ) (l : List ℤ) {lent : List ℕ} {k : ℕ} {bs : List ℕ} {t : List ℤ} {out : List ℕ}
-    → Run method n (score l) lent k bs t out → length bs ≡ 1 → k ≡ n - 1 → Merged (linkage_of method) n l lent out
-run_end method n l {lent} r one e = record {
-  merges = r.merges;
-  tree = subst (Merges (link (linkage_of method) n (score l)) (singles n)) (append-nil r.merges) (r.further [] one);
-  written = r.written ∙ ap (λ (m : ℕ). merged_blocks r.merges ++ drop m lent) e;
-}
+-- the slots before the others
+pub run_end : (method : Method) (n : ℕ) (l : List ℤ) (lent : List ℕ) {k : ℕ} {bs : List ℕ} {t : List ℤ} {out : List ℕ}
+    → Run method n (score l) (take (n - 1) lent) k bs t out → n - 1 ≤ length lent → length bs ≡ 1 → k ≡ n - 1
+    → Merged (linkage_of method) n l lent (out ++ drop (n - 1) lent)
+run_end method n l lent r long one e =
+    let none = drop_of_length-le (take (n - 1) lent) {i = n - 1} (omega (arith, length-take-le (n - 1) lent long)) in
+    record {
+      merges = r.merges;
+      tree = subst (Merges (link (linkage_of method) n (score l)) (singles n)) (append-nil r.merges) (r.further [] one);
+      written = ap (λ (o : List ℕ). o ++ drop (n - 1) lent) (r.written ∙ ap (λ (m : ℕ). merged_blocks r.merges ++ drop m (take (n - 1) lent)) e
+          ∙ ap (λ (o : List ℕ). merged_blocks r.merges ++ o) none ∙ append-nil (merged_blocks r.merges));
+    }

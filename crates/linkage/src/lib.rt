@@ -79,7 +79,7 @@ fn merge_with(table: &mut [i64], method: Method, n: usize, pairs: &[i32], out: &
     let mut blocks = Blocks::singles(n);
     let mut weights = [1usize; 32];
     links::fill(pairs, n, table);
-    for k in 0..n - 1 {
+    for slot in &mut out[..n - 1] {
         let last = blocks.count - 1;
         let Found { i, j, .. } = links::greatest(blocks.count, &weights, table);
         links::join_rows(method, blocks.count, i, j, table);
@@ -87,7 +87,7 @@ fn merge_with(table: &mut [i64], method: Method, n: usize, pairs: &[i32], out: &
         blocks = blocks.merge(i, j);
         let union = blocks.sets[i];
         merge_weights(&mut weights, weight(method, union), i, j, last);
-        out[k] = union;
+        *slot = union;
     }
 }
 
