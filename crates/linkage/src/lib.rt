@@ -52,6 +52,7 @@ impl Blocks {
     }
 }
 
+#[tactic(auto, unfolding(crate::specs::Steps::weight))]
 fn weight(method: Method, set: u32) -> usize
     ensures { result ≡ weight method set }
 {
@@ -130,12 +131,14 @@ fn linkage(method: Method, n: usize, pairs: &[i32], blocks: &mut [u32]) -> Resul
     Ok(count)
 }
 
+#[tactic(auto, unfolding(crate::specs::Blocks::linkage_of))]
 pub fn single_linkage(n: usize, pairs: &[i32], blocks: &mut [u32]) -> Result<usize, Refusal>
     ensures { LinkageCall single n pairs.now blocks.old result blocks.new }
 {
     linkage(Method::Single, n, pairs, blocks)
 }
 
+#[tactic(auto, unfolding(crate::specs::Blocks::linkage_of))]
 pub fn average_linkage(n: usize, pairs: &[i32], blocks: &mut [u32]) -> Result<usize, Refusal>
     ensures { LinkageCall average n pairs.now blocks.old result blocks.new }
 {
