@@ -16,17 +16,15 @@ ghost use Rattle.reader.specs.Own.{SheetRead};
 use answers::Refusal;
 
 // Reads a line of n values into the slots from base on, or refuses it.
-fn read_row(line: &[u8], n: usize, base: usize, values: &mut [i32]) -> Result<(), Refusal>
-    requires { base + n ≤ length values.old }
+fn read_row(line: &[u8], n: usize, base: usize, values: &mut [i32; 1024]) -> Result<(), Refusal>
+    requires { base + n ≤ 1024 }
     ensures value { number_of result ≡ cond (not (is_row n (cut space line.now))) 8 0 }
     ensures values_after { OnOk result
         (values.new ≡ sets values.old base (map number_said (cut space line.now))) }
 {
     let mut at: usize = 0;
     for k in 0..n {
-        let Ok((pair, next)) = text::read_value(line, at) else {
-            return Err(Refusal::WrongValues);
-        };
+        let (pair, next) = text::read_value(line, at)?;
         let number = i32::from(pair);
         values[base + k] = number;
         let end = next.at;
@@ -42,9 +40,8 @@ fn read_row(line: &[u8], n: usize, base: usize, values: &mut [i32]) -> Result<()
 }
 
 // Reads the n value lines, or refuses one.
-fn read_rows(sheet: &[u8], n: usize, values: &mut [i32]) -> Result<(), Refusal>
-    requires { (n ≡ entries sheet.now) × (n ≤ 32) × (wrong_lines sheet.now ≡ false)
-        × (length values.old ≡ 1024) }
+fn read_rows(sheet: &[u8], n: usize, values: &mut [i32; 1024]) -> Result<(), Refusal>
+    requires { (n ≡ entries sheet.now) × (n ≤ 32) × (wrong_lines sheet.now ≡ false) }
     ensures value { number_of result ≡ cond (wrong_values sheet.now) 8 0 }
     ensures holds { OnOk result (Holds values.new n (value sheet.now)) }
 {
@@ -58,37 +55,25 @@ fn read_rows(sheet: &[u8], n: usize, values: &mut [i32]) -> Result<(), Refusal>
 }
 
 // Row i equals column i, up to the diagonal.
-fn is_mirrored_row(values: &[i32], i: usize) -> bool
-    requires { (i < 32) × (length values.now ≡ 1024) }
+fn is_mirrored_row(values: &[i32; 1024], i: usize) -> bool
+    requires { i < 32 }
     ensures { result
         ≡ all (λ j. eq_z (square values.now i j) (square values.now j i)) (below i) }
 {
-    for j in 0..i {
-        let a = i * 32 + j;
-        let b = j * 32 + i;
-        if values[a] != values[b] {
-            return false;
-        }
-    }
-    true
+    (0..i).all(|j| values[i * 32 + j] == values[j * 32 + i])
 }
 
 // Check 9.
-fn is_mirrored(values: &[i32], n: usize) -> bool
-    requires { (n ≤ 32) × (length values.now ≡ 1024) }
+fn is_mirrored(values: &[i32; 1024], n: usize) -> bool
+    requires { n ≤ 32 }
     ensures { result ≡ mirrored n (square values.now) }
 {
-    for i in 0..n {
-        if !is_mirrored_row(values, i) {
-            return false;
-        }
-    }
-    true
+    (0..n).all(|i| is_mirrored_row(values, i))
 }
 
 // Writes row i of the lower triangle to the slots from start on.
-fn fill_row(pairs: &mut [i32], values: &[i32], i: usize, start: usize)
-    requires { (i < 32) × (start + i < length pairs.old) × (length values.now ≡ 1024) }
+fn fill_row(pairs: &mut [i32; 528], values: &[i32; 1024], i: usize, start: usize)
+    requires { (i < 32) × (start + i < 528) }
     ensures { pairs.new
         ≡ sets pairs.old start (map (square values.now i) (below (suc i))) }
 {
@@ -98,8 +83,8 @@ fn fill_row(pairs: &mut [i32], values: &[i32], i: usize, start: usize)
 }
 
 // Writes the pair list to the first slots.
-fn fill(pairs: &mut [i32], values: &[i32], n: usize)
-    requires { (n ≤ 32) × (length pairs.old ≡ 528) × (length values.now ≡ 1024) }
+fn fill(pairs: &mut [i32; 528], values: &[i32; 1024], n: usize)
+    requires { n ≤ 32 }
     ensures { pairs.new
         ≡ pair_list n (square values.now) ++ drop (row_start n) pairs.old }
 {
@@ -190,7 +175,7 @@ fn piece_start(line: &[u8], i: usize) -> usize
 }
 
 // A part of the sheet, from its start up to its end.
-#[derive(Clone, Copy)]
+#[derive(Clone, Copy, Debug, PartialEq, Eq)]
 pub struct Part {
     pub start: usize,
     pub end: usize,

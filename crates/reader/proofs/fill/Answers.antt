@@ -1,4 +1,4 @@
-use mathlib.Core.Path.{refl, sym, ◌∙◌}
+use mathlib.Core.Path.{refl}
 use native.Mathlib.Omega.{arith}
 use Rattle.clusters.specs.PairList.{row_start}
 use Rattle.clusters.proofs.PairList.{row_start_le}
@@ -9,10 +9,10 @@ use Rattle.reader.proofs.fill.Goals as goal
 
 pub loop-i-init : goal.loop-i-init
 unfolding row_start
-loop-i-init c = (omega arith, omega arith, refl, rows_none)
+loop-i-init c = (omega arith, refl, rows_none)
 
 pub fill_row-requires : goal.fill_row-requires
-fill_row-requires c = (omega arith, omega (arith, row_room c.loop-i.i (omega arith)), omega arith)
+fill_row-requires c = (omega arith, omega (arith, row_room c.loop-i.i (omega arith)))
 
 pub overflow_add-start-in-loop-i : goal.overflow_add-start-in-loop-i
 overflow_add-start-in-loop-i c = omega (arith, row_room c.loop-i.i (omega arith))
@@ -21,15 +21,11 @@ pub loop-i-preserved : goal.loop-i-preserved
 loop-i-preserved c = let l = c.loop-i in
     let r = c.fill_row in (
       omega arith,
-      r.auto.pairs ∙ l.invariant.1,
-      next_start l.i l.invariant.2,
-      rows_row l.invariant.3 (rw l.invariant.2 at r.ensures),
+      next_start l.i l.invariant.1,
+      rows_row l.invariant.2 (rw l.invariant.1 at r.ensures),
     )
-
-pub shape_of-pairs : goal.shape_of-pairs
-shape_of-pairs c = c.loop-i.invariant.1 ∙ sym c.requires.1
 
 pub returns : goal.returns
 returns c = let a = c.args in
     let l = c.loop-i in
-    rows_all a.n l.invariant.3 (omega arith) (omega (arith, row_start_le a.n c.requires.0))
+    rows_all a.n l.invariant.2 (omega arith) (omega (arith, row_start_le a.n c.requires))

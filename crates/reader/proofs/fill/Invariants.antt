@@ -1,6 +1,5 @@
 use mathlib.Core.Path.{◌≡◌}
 use Prim.Native.Nat.{◌≤◌}
-use lib.ListN.{length}
 use Rattle.clusters.specs.PairList.{row_start}
 use Rattle.clusters.proofs.Rows.{Rows}
 use Rattle.reader.specs.Square.{square}
@@ -9,6 +8,5 @@ use Rattle.reader.proofs.fill.Given as goal
 abbrev pub invariant-loop-i : goal.invariant-loop-i
 invariant-loop-i l =
     (l.i ≤ l.n)
-    × (length l.pairs ≡ 528)
     × (l.start ≡ row_start l.i)
     × Rows (square l.values) l.initial.pairs l.pairs l.i

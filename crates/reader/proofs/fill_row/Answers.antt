@@ -36,6 +36,6 @@ pub returns : goal.returns
 returns c = let a = c.args in
     let l = a.values.now in
     let n : a.i * 32 + a.i + 1 - a.i * 32 ≡ suc a.i = omega arith in
-    let row = c.copy_from_slice.ensures.after ∙ ap (λ (k : ℕ). take k (drop (a.i * 32) l)) n ∙ row_values l a.i (suc a.i) (omega (arith, c.requires.2)) in
+    let row = c.copy_from_slice.ensures.after ∙ ap (λ (k : ℕ). take k (drop (a.i * 32) l)) n ∙ row_values l a.i (suc a.i) (omega arith) in
     let long = length-map (below (suc a.i)) (square l a.i) ∙ count_below (suc a.i) in
     copied_into a.pairs.now (map (square l a.i) (below (suc a.i))) a.start row (omega (arith, long)) (omega (arith, long, c.requires.1))

@@ -3,7 +3,6 @@ use mathlib.Core.Bool.{Bool, false, not, cond}
 use mathlib.Core.List.{List}
 use Prim.Native.Nat.{ℕ}
 use native.Mathlib.Omega.{arith}
-use borrow.Author.Rules.{rules}
 use lib.ListN.{drop}
 use Rattle.std.proofs.lemmas.Result.{err_from_is_err_and}
 use Rattle.answers.proofs.Answers.{number_above}
@@ -82,7 +81,7 @@ returns-then-wrong_lines c = let c2 = is c.wrong_length.ensures c.if-wrong_lengt
 pub read_rows-requires : goal.read_rows-requires
 read_rows-requires c =
     let few = right_count _ (is c.is_wrong_count.ensures c.if-is_wrong_count.false) in
-    (c.entry_count-n.ensures, few, is c.wrong_lines.ensures c.if-wrong_lines.false, search rules)
+    (c.entry_count-n.ensures, few, is c.wrong_lines.ensures c.if-wrong_lines.false)
 
 pub returns-in_err-read_rows : goal.returns-in_err-read_rows
 unfolding reader_checks
@@ -99,7 +98,7 @@ returns-in_err-read_rows c = let c2 = is c.wrong_length.ensures c.if-wrong_lengt
     rw (p.1, p.2) (refused _ _ {e = e} (rw eight (behind7 _ c2 c3 c4 c5 c6 c7 _ (first_yes wrong))))
 
 pub is_mirrored-requires : goal.is_mirrored-requires
-is_mirrored-requires c = (right_count _ (is c.is_wrong_count.ensures c.if-is_wrong_count.false), search rules)
+is_mirrored-requires c = right_count _ (is c.is_wrong_count.ensures c.if-is_wrong_count.false)
 
 -- check 9 by the square of the values that were read
 mirror : (s : List ℕ) {n : ℕ} {r v : Bool} → r ≡ mirrored n (value s) → n ≡ entries s → r ≡ v → not (mirrored (entries s) (value s)) ≡ not v
@@ -120,7 +119,7 @@ returns-then-not-is_mirrored c = let s = c.args.sheet.now in
     refused _ _ (behind7 _ c2 c3 c4 c5 c6 c7 _ (first_no c8 (first_yes c9)))
 
 pub fill-requires : goal.fill-requires
-fill-requires c = (right_count _ (is c.is_wrong_count.ensures c.if-is_wrong_count.false), search rules, search rules)
+fill-requires c = right_count _ (is c.is_wrong_count.ensures c.if-is_wrong_count.false)
 
 pub returns : goal.returns
 unfolding reader_checks

@@ -14,7 +14,6 @@ invariant-loop-k l =
     × (l.at ≤ length l.line)
     × (is_row (l.n - l.k) (cut 32 (drop l.at l.line)) ≡ is_row l.n (cut 32 l.line))
     × (sets l.values (l.base + l.k) (map number_said (cut 32 (drop l.at l.line))) ≡ sets l.initial.values l.base (map number_said (cut 32 l.line)))
-    × (length l.values ≡ length l.initial.values)
 
 abbrev pub decreases-loop-k : goal.decreases-loop-k
 decreases-loop-k l = l.n - l.k

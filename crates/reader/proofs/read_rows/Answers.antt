@@ -6,6 +6,7 @@ use mathlib.Core.List.{List}
 use lib.ListN.{length, drop}
 use native.Mathlib.Omega.{arith}
 use borrow.Author.Tests.{not-true, not-false}
+use borrow.Author.Rules.{rules}
 use lib.Seq.{sets}
 use Rattle.std.proofs.lemmas.Result.{err_from_is_err_and}
 use Rattle.answers.proofs.Answers.{number_above}
@@ -30,7 +31,7 @@ overflow_add-at c = omega (arith, (first c).inside)
 
 pub loop-i-init : goal.loop-i-init
 loop-i-init c = let s = c.args.sheet.now in
-    (omega arith, omega (arith, (first c).inside), (first c).next, started, λ a b p q. absurd (omega arith), c.requires.3)
+    (omega arith, omega (arith, (first c).inside), (first c).next, started, λ a b p q. absurd (omega arith), search rules)
 
 -- the line of a turn
 line : (s : List ℕ) (n i : ℕ) {at end : ℕ} → n ≡ entries s → wrong_lines s ≡ false → i < n → at ≤ length s
@@ -79,7 +80,7 @@ loop-i-preserved c = let l = c.loop-i in
       next_below l.invariant.3 (omega arith) y,
       square_next (value s) l.values _ (words s l.i) n l.i (omega arith) (omega arith) l.invariant.5
           (row_length n _ y) m (value_at_lem s l.i) l.invariant.4,
-      c.read_row.auto.values ∙ l.invariant.5,
+      c.read_row.array_long,
     )
 
 pub returns : goal.returns
