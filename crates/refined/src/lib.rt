@@ -1,5 +1,5 @@
 // The refined weight of a split (document 02, 2.5).
-#![tactic(auto)]
+#![tactic(auto, using(integers::proofs::Operators::operators))]
 
 ghost use Rattle.std.specs.Prelude.{◌≡◌, ◌*◌, ◌<◌, ◌≤◌, length};
 ghost use Rattle.sets.specs.Sets.{others};
@@ -40,17 +40,6 @@ fn check_weight(n: usize, pairs: &[i32], side: u32) -> Result<(), Refusal>
     Ok(())
 }
 
-// The doubled score of the quartet of a and a2 on one side, b and b2 on the other, by a table of the distances.
-fn doubled_score(t: &[i64], n: usize, a: usize, a2: usize, b: usize, b2: usize) -> i64
-    requires { DistanceTable n t.now × (a < n) × (a2 < n) × (b < n) × (b2 < n) }
-    ensures { result ≡ doubled_score (entry t.now) (quartet (a, a2) (b, b2)) }
-{
-    let straight = integers::sum(links::get(t, a, b), links::get(t, a2, b2));
-    let crossed = integers::sum(links::get(t, a, b2), links::get(t, a2, b));
-    let within = integers::sum(links::get(t, a, a2), links::get(t, b, b2));
-    integers::difference(integers::smaller(straight, crossed), within)
-}
-
 // The entries outside the side, rising.
 fn outside_of(n: usize, side: u32) -> ArrayVec<usize, 32>
     requires { n ≤ 32 }
@@ -65,55 +54,71 @@ fn outside_of(n: usize, side: u32) -> ArrayVec<usize, 32>
     outside
 }
 
-// Keeps the smallest, with the doubled scores of the quartets of a and a2 on one side, b and each of those before it on
-// the other.
-fn keep_beside(
-    kept: &mut Smallest,
-    t: &[i64],
+// A split: the distances of n entries in a table, the side, and the entries outside it.
+#[derive(Clone, Copy, Debug, PartialEq, Eq)]
+struct Split<'a> {
+    table: &'a [i64],
     n: usize,
-    before: &[usize],
-    a: usize,
-    a2: usize,
-    b: usize,
-)
-    requires { DistanceTable n t.now × (a < n) × (a2 < n) × (b < n) × Below n before.now }
-    ensures { kept.new ≡ keep_beside (entry t.now) a a2 b before.now kept.old }
-{
-    for &b2 in before {
-        kept.keep(doubled_score(t, n, a, a2, b, b2));
-    }
+    side: u32,
+    outside: &'a [usize],
+    ghost distances: { DistanceTable n table.now },
+    ghost entries: { Below n outside.now },
 }
 
-// The same for each entry outside the side.
-fn keep_across(kept: &mut Smallest, t: &[i64], n: usize, outside: &[usize], a: usize, a2: usize)
-    requires { DistanceTable n t.now × (a < n) × (a2 < n) × Below n outside.now }
-    ensures { kept.new ≡ keep_across (entry t.now) a a2 outside.now kept.old }
-{
-    for (i, &b) in outside.iter().enumerate() {
-        keep_beside(kept, t, n, &outside[..i], a, a2, b);
+impl<'a> Split<'a> {
+    // The doubled score of the quartet of a and a2 on one side, b and b2 on the other.
+    fn doubled_score(&self, a: usize, a2: usize, b: usize, b2: usize) -> i64
+        requires { (a < self.now.n) × (a2 < self.now.n) × (b < self.now.n) × (b2 < self.now.n) }
+        ensures { result ≡ doubled_score (entry self.now.table.now) (quartet (a, a2) (b, b2)) }
+    {
+        let straight = links::get(self.table, a, b) + links::get(self.table, a2, b2);
+        let crossed = links::get(self.table, a, b2) + links::get(self.table, a2, b);
+        let within = links::get(self.table, a, a2) + links::get(self.table, b, b2);
+        straight.min(crossed) - within
     }
-}
 
-// The same for each a2 of the side before a.
-fn keep_within(kept: &mut Smallest, t: &[i64], n: usize, side: u32, outside: &[usize], a: usize)
-    requires { DistanceTable n t.now × (a < n) × Below n outside.now }
-    ensures { kept.new ≡ keep_within (entry t.now) side outside.now a kept.old }
-{
-    for a2 in 0..a {
-        if sets::has(side, a2) {
-            keep_across(kept, t, n, outside, a, a2);
+    // Keeps the smallest, with the doubled scores of the quartets of a and a2 on one side, b and each of those before it
+    // on the other.
+    fn keep_beside(&self, kept: &mut Smallest, before: &[usize], a: usize, a2: usize, b: usize)
+        requires { (a < self.now.n) × (a2 < self.now.n) × (b < self.now.n) × Below self.now.n before.now }
+        ensures { kept.new ≡ keep_beside (entry self.now.table.now) a a2 b before.now kept.old }
+    {
+        for &b2 in before {
+            kept.keep(self.doubled_score(a, a2, b, b2));
         }
     }
-}
 
-// The same for each a of the side.
-fn keep_quartets(kept: &mut Smallest, t: &[i64], n: usize, side: u32, outside: &[usize])
-    requires { DistanceTable n t.now × Below n outside.now }
-    ensures { kept.new ≡ keep_quartets (entry t.now) n side outside.now kept.old }
-{
-    for a in 0..n {
-        if sets::has(side, a) {
-            keep_within(kept, t, n, side, outside, a);
+    // The same for each entry outside the side.
+    fn keep_across(&self, kept: &mut Smallest, a: usize, a2: usize)
+        requires { (a < self.now.n) × (a2 < self.now.n) }
+        ensures { kept.new ≡ keep_across (entry self.now.table.now) a a2 self.now.outside.now kept.old }
+    {
+        for (i, &b) in self.outside.iter().enumerate() {
+            self.keep_beside(kept, &self.outside[..i], a, a2, b);
+        }
+    }
+
+    // The same for each a2 of the side before a.
+    fn keep_within(&self, kept: &mut Smallest, a: usize)
+        requires { a < self.now.n }
+        ensures { kept.new ≡ keep_within (entry self.now.table.now) self.now.side self.now.outside.now a kept.old }
+    {
+        for a2 in 0..a {
+            if sets::has(self.side, a2) {
+                self.keep_across(kept, a, a2);
+            }
+        }
+    }
+
+    // The same for each a of the side.
+    fn keep_quartets(&self, kept: &mut Smallest)
+        ensures { kept.new
+            ≡ keep_quartets (entry self.now.table.now) self.now.n self.now.side self.now.outside.now kept.old }
+    {
+        for a in 0..self.n {
+            if sets::has(self.side, a) {
+                self.keep_within(kept, a);
+            }
         }
     }
 }
@@ -125,8 +130,14 @@ fn weight_with(table: &mut [i64], n: usize, pairs: &[i32], side: u32) -> i64
 {
     links::fill(pairs, n, table);
     let outside = outside_of(n, side);
+    let split = Split {
+        table,
+        n,
+        side,
+        outside: outside.as_slice(),
+    };
     let mut kept = Smallest::new(n - 3);
-    keep_quartets(&mut kept, table, n, side, outside.as_slice());
+    split.keep_quartets(&mut kept);
     kept.total()
 }
 

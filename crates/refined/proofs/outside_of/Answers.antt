@@ -34,6 +34,3 @@ loop-b-preserved c =
         listed_same c.args.side c.loop-b.b i.2 (t ∙ ap not w.if-not-has.false) (items w.outside-is),
       )
     ]
-
-pub returns : goal.returns
-returns c = c.loop-b.invariant.2 ∙ ap (λ (b : ℕ). others b c.args.side) (omega arith)

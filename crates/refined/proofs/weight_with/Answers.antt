@@ -1,6 +1,5 @@
 use mathlib.Core.Path.{◌≡◌, refl, sym, ap, ◌∙◌, subst}
 use Prim.Native.Nat.{◌^◌}
-use native.Mathlib.Omega.{arith}
 use mir.Syntax.{w64}
 use Rattle.integers.specs.Integers.{sum}
 use Rattle.integers.specs.Range.{Bounded}
@@ -16,13 +15,13 @@ use Rattle.refined.proofs.weight_with.Goals as goal
 is_outside : (c : After-as_slice) → c.as_slice.result.now ≡ others c.args.n c.args.side
 is_outside c = c.as_slice.ensures.value ∙ c.outside_of-outside.ensures
 
-pub keep_quartets-requires : goal.keep_quartets-requires
-keep_quartets-requires c = let g = c.requires in
-    let below = subst (Below c.args.n) (sym (is_outside c)) (others_below c.args.n c.args.side) in
-    (filled_table g.0.0 g.0.2 c.fill.ensures.0 g.2 c.fill.ensures.1, below)
+pub invariant_of-split-clause-distances : goal.invariant_of-split-clause-distances
+invariant_of-split-clause-distances c = let g = c.requires in
+    filled_table g.0.0 g.0.2 c.fill.ensures.0 g.2 c.fill.ensures.1
 
-pub new-kept-requires : goal.new-kept-requires
-new-kept-requires c = omega arith
+pub invariant_of-split-clause-entries : goal.invariant_of-split-clause-entries
+invariant_of-split-clause-entries c =
+    subst (Below c.args.n) (sym (is_outside (goal.at.invariant_of-split-clause-entries c).After-as_slice)) (others_below c.args.n c.args.side)
 
 pub total-requires : goal.total-requires
 total-requires c =

@@ -6,20 +6,14 @@ use Rattle.lists.specs.Lists.{below}
 use Rattle.lists.proofs.Lists.{keep_true}
 use Rattle.smallest.proofs.Kept.{kept_start, kept_yes, kept_end}
 use Rattle.refined.specs.Kept.{keep_across}
-use Rattle.refined.proofs.Outside.{below_first}
-use Rattle.refined.proofs.keep_across.Goals as goal
+use Rattle.refined.proofs.Split.keep_across.Goals as goal
 
 pub loop-i-init : goal.loop-i-init
 loop-i-init c = (omega arith, kept_start)
-
-pub keep_beside-requires : goal.keep_beside-requires
-keep_beside-requires c = let below = c.requires.3 in
-    let i = c.loop-i.i in
-    (c.requires.0, c.requires.1, c.requires.2, below i (omega arith), below_first _ c.args.outside.now i below)
 
 pub loop-i-preserved : goal.loop-i-preserved
 loop-i-preserved c = (omega arith, kept_yes c.loop-i.invariant.1 refl refl c.keep_beside.ensures)
 
 pub returns : goal.returns
 unfolding keep_across
-returns c = kept_end c.loop-i.invariant.1 (omega arith) ∙ ap (foldl _ _) (keep_true (below (length c.args.outside.now)))
+returns c = kept_end c.loop-i.invariant.1 (omega arith) ∙ ap (foldl _ _) (keep_true (below (length c.args.self.now.outside.now)))

@@ -3,14 +3,11 @@ use native.Mathlib.Omega.{arith}
 use Rattle.sets.specs.Sets.{members}
 use Rattle.smallest.proofs.Kept.{kept_start, kept_yes, kept_no, kept_end}
 use Rattle.refined.specs.Kept.{keep_within}
-use Rattle.refined.proofs.keep_within.Goals.{then-has, else-has}
-use Rattle.refined.proofs.keep_within.Goals as goal
+use Rattle.refined.proofs.Split.keep_within.Goals.{then-has, else-has}
+use Rattle.refined.proofs.Split.keep_within.Goals as goal
 
 pub loop-a2-init : goal.loop-a2-init
 loop-a2-init c = (omega arith, kept_start)
-
-pub keep_across-requires : goal.keep_across-requires
-keep_across-requires c = (c.requires.0, c.requires.1, omega arith, c.requires.2)
 
 pub loop-a2-preserved : goal.loop-a2-preserved
 loop-a2-preserved c = elim c.if-has.branch [

@@ -3,14 +3,11 @@ use native.Mathlib.Omega.{arith}
 use Rattle.sets.specs.Sets.{members}
 use Rattle.smallest.proofs.Kept.{kept_start, kept_yes, kept_no, kept_end}
 use Rattle.refined.specs.Kept.{keep_quartets}
-use Rattle.refined.proofs.keep_quartets.Goals.{then-has, else-has}
-use Rattle.refined.proofs.keep_quartets.Goals as goal
+use Rattle.refined.proofs.Split.keep_quartets.Goals.{then-has, else-has}
+use Rattle.refined.proofs.Split.keep_quartets.Goals as goal
 
 pub loop-a-init : goal.loop-a-init
 loop-a-init c = (omega arith, kept_start)
-
-pub keep_within-requires : goal.keep_within-requires
-keep_within-requires c = (c.requires.0, omega arith, c.requires.1)
 
 pub loop-a-preserved : goal.loop-a-preserved
 loop-a-preserved c = elim c.if-has.branch [

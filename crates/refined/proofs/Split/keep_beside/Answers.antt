@@ -13,7 +13,7 @@ use Rattle.integers.proofs.Held.{passed}
 use Rattle.smallest.specs.Smallest.{kept_with}
 use Rattle.smallest.proofs.Kept.{kept_start, kept_yes, kept_end}
 use Rattle.refined.specs.Kept.{keep_beside}
-use Rattle.refined.proofs.keep_beside.Goals as goal
+use Rattle.refined.proofs.Split.keep_beside.Goals as goal
 
 pub loop-b2-init : goal.loop-b2-init
 loop-b2-init c = (omega arith, kept_start)
@@ -30,5 +30,5 @@ unfolding keep_beside
 returns c =
     let a = c.args in
     kept_end c.loop-b2.invariant.1 (omega arith) ∙ ap (foldl _ _) (keep_true (below (length a.before.now)))
-    ∙ foldl_at (λ l b'. kept_with l (doubled_score (entry a.t.now) (quartet (a.a, a.a2) (a.b, b')))) a.before.now a.kept.now (length a.before.now) (omega arith)
+    ∙ foldl_at (λ l b'. kept_with l (doubled_score (entry a.self.now.table.now) (quartet (a.a, a.a2) (a.b, b')))) a.before.now a.kept.now (length a.before.now) (omega arith)
     ∙ ap (foldl _ _) (take_all (length a.before.now) a.before.now (omega arith))
