@@ -9,7 +9,7 @@ ghost use Rattle.interface.specs.Calls.{is_pair, pair_among};
 use answers::Refusal;
 use pairs::{Carried, Pair};
 
-#[derive(Clone, Copy)]
+#[derive(Clone, Copy, Debug, PartialEq, Eq)]
 pub struct Triangle<'a> {
     pub pairs: &'a [i32],
     pub n: usize,
