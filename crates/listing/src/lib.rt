@@ -24,7 +24,7 @@ fn digit(k: usize) -> u8
     }
 }
 
-// The number of decimal digits: the number is compared with 10, 100 and so on, which takes less time than dividing it.
+// The number of decimal digits. Comparing with 10, 100 and so on takes less time than dividing.
 fn decimal_length(n: usize) -> usize
     ensures { result ≡ length (decimal n) }
 {
