@@ -1,16 +1,18 @@
 -- The size of anchored scores and of distances back, and of what the code adds up for them.
-use mathlib.Core.Path.{◌≡◌, refl, sym, ap₂, subst, ◌∙◌}
+use mathlib.Core.Path.{◌≡◌, refl, sym, subst}
 use mathlib.Core.List.{List}
 use Prim.Native.Nat.{ℕ, ◌+◌, ◌-◌, ◌^◌, ◌<◌}
 use native.Mathlib.Omega.{arith}
 use lib.Dec.{T}
-use lib.IntN.{ℤ, ◌+ℤ◌}
-use lib.Signed.{mag}
+use lib.IntN.{ℤ, pos, ◌+ℤ◌, ◌-ℤ◌}
+use lib.Signed.{quot_z}
+use mir.Facts.{to_z-of_z}
 use mir.Syntax.{w64}
-use mir.Val.{hbits, of_z, to_z}
+use mir.Val.{SFits, of_z, to_z}
+use Rattle.std.proofs.lemmas.Int.{ints}
+use Rattle.integers.specs.Integers.{half}
 use Rattle.integers.specs.Range.{Within, Bounded}
-use Rattle.integers.proofs.Held.{passed}
-use Rattle.integers.proofs.Range.{within_grow, within_sum, within_difference}
+use Rattle.integers.proofs.Range.{within_grow, within_fits, within_sum, within_difference}
 use Rattle.clusters.specs.PairList.{score, one_point, point_limit, score_limit, in_range}
 use Rattle.clusters.specs.Farris.{farris, unfarris, anchored_scores, distances_back}
 use Rattle.clusters.proofs.PairList.{of_pair_list}
@@ -18,16 +20,32 @@ use Rattle.clusters.proofs.Farris.{score_back}
 use Rattle.clusters.proofs.Scored.{range_limit}
 use Rattle.clusters.proofs.Bounds.{score_within}
 
--- the results of two calls, numbers of 32 bits, and the result of a call that adds them: each may be added or subtracted
-pub addend : {u : ℤ} → mag u < 2 ^ hbits w64 → Within (2 ^ 31) u → Within (2 ^ 61) (to_z w64 (of_z w64 u))
-addend h p = subst (Within (2 ^ 61)) (sym (passed w64 h refl)) (within_grow (omega arith) p)
+-- half of a number of the machine is one
+half_fits : {z : ℤ} → SFits w64 z → SFits w64 (quot_z z (pos 2))
+half_fits f = grind (arith, ints)
 
-pub addends : {u v r : ℤ} → mag u < 2 ^ hbits w64 → mag v < 2 ^ hbits w64 → mag r < 2 ^ hbits w64 → r ≡ to_z w64 (of_z w64 u) +ℤ to_z w64 (of_z w64 v)
-    → Within (2 ^ 31) u → Within (2 ^ 31) v → Within (2 ^ 61) (to_z w64 (of_z w64 r))
-addends {u} {v} h k m e p q =
-    let f : to_z w64 (of_z w64 u) ≡ u = passed w64 h refl in
-    let g : to_z w64 (of_z w64 v) ≡ v = passed w64 k refl in
-    subst (Within (2 ^ 61)) (sym (passed w64 m (e ∙ ap₂ ◌+ℤ◌ f g))) (within_grow (omega arith) (within_sum p q))
+-- what a local of the machine holds
+abbrev m : ℤ → ℤ
+m z = to_z w64 (of_z w64 z)
+
+-- the distance of two entries as the machine finds it, from their own scores and that of the two
+pub back_value : {u v w : ℤ} → Within (2 ^ 31) u → Within (2 ^ 31) v → Within (2 ^ 31) w
+    → m (quot_z (m (m (m u +ℤ m v) -ℤ m (m w +ℤ m w))) (pos 2)) ≡ half (u +ℤ v -ℤ (w +ℤ w))
+unfolding half
+back_value {u} {v} {w} p q r =
+    let s = within_sum p q in
+    let t = within_sum r r in
+    let d = within_difference s t in
+    let f = within_fits w64 (omega arith) d in
+    rw (
+      to_z-of_z (within_fits w64 (omega arith) p),
+      to_z-of_z (within_fits w64 (omega arith) q),
+      to_z-of_z (within_fits w64 (omega arith) r),
+      to_z-of_z (within_fits w64 (omega arith) s),
+      to_z-of_z (within_fits w64 (omega arith) t),
+      to_z-of_z f,
+      to_z-of_z (half_fits f),
+    ) refl
 
 farris_within : (l : List ℤ) (x a b : ℕ) → T (in_range l) → Within (score_limit + score_limit + score_limit) (farris (score l) x a b)
 unfolding farris

@@ -9,6 +9,7 @@ ghost use Rattle.trees.specs.Trees.{Merged, Blocks};
 
 use kinds::Kind;
 use links::Method;
+use matrix::PairList;
 
 // The single entries.
 fn put_singles(n: usize, out: &mut [u32])
@@ -26,7 +27,7 @@ fn merge_anchored(n: usize, pairs: &[i32], out: &mut [u32])
     ensures { Merged splits n pairs.now out.old out.new }
 {
     let mut anchored = [0i32; 528];
-    farris::anchor(n, 0, pairs, &mut anchored);
+    farris::anchor(&PairList { n, pairs }, 0, &mut anchored);
     let count = matrix::pair_count(n);
     linkage::merge_all(Method::Single, n, &anchored[..count], out);
 }

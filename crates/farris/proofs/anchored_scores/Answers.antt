@@ -15,9 +15,14 @@ returns-in_err-check_anchored c =
     let (answered, written) = refused (row_start a.n) (anchored_scores a.n a.x a.pairs.now) a.out.now c.in_err-check_anchored.ensures in
     rw (p.1, p.2) (record { answered = answered; written = written })
 
+pub invariant_of-anchor : goal.invariant_of-anchor
+invariant_of-anchor c = let a = c.args in
+    let (few, long, anchor, range, room) = anchor_passes a.n a.x a.pairs.now (length a.out.now) c.in_ok-check_anchored.ensures in
+    record { fits = record { few = few; long = long } }
+
 pub anchor-requires : goal.anchor-requires
 anchor-requires c = let a = c.args in
-    let (few, long, anchor, range, room) = anchor_passes a.n a.x a.pairs.now (length a.out.now) c.in_ok-check_anchored.ensures in (few, anchor, long, range, room)
+    let (few, long, anchor, range, room) = anchor_passes a.n a.x a.pairs.now (length a.out.now) c.in_ok-check_anchored.ensures in (anchor, range, room)
 
 pub pair_count-requires : goal.pair_count-requires
 pair_count-requires c = let a = c.args in

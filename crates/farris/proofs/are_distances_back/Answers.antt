@@ -6,4 +6,4 @@ use Rattle.farris.proofs.are_distances_back.Goals as goal
 
 pub returns : goal.returns
 returns c = let a = c.args in
-    all_below _ _ _ c.all.ensures.ran refl (λ x b q k. search rules) ∙ back_test a.n a.scores.now
+    all_below _ _ _ c.all.ensures.ran refl (λ x b q k. search rules) ∙ back_test a.scores.now.n a.scores.now.pairs.now

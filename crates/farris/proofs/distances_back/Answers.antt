@@ -17,6 +17,11 @@ returns-in_err-check_back c =
     let (answered, written) = refused (row_start a.n) (distances_back a.n a.scores.now) a.out.now c.in_err-check_back.ensures in
     rw (p.1, p.2) (record { answered = answered; written = written })
 
+pub invariant_of-list : goal.invariant_of-list
+invariant_of-list c = let a = c.args in
+    let (few, long, anchored, room) = back_passes a.n a.x a.scores.now (length a.out.now) c.in_ok-check_back.ensures in
+    record { fits = record { few = few; long = long } }
+
 pub fill-requires : goal.fill-requires
 fill-requires c = let a = c.args in
     let (few, long, anchored, room) = back_passes a.n a.x a.scores.now (length a.out.now) c.in_ok-check_back.ensures in
