@@ -1,24 +1,26 @@
 -- Values less the numbers of two tables, of which each has the numbers of one side of a set: the spread is the margin.
-use mathlib.Core.Path.{◌≡◌, sym, subst₂, ap, ap₂, ◌∙◌}
+use mathlib.Core.Path.{◌≡◌, refl, sym, ap, ap₂, ◌∙◌}
 use mathlib.Core.Logic.{⊎_elim}
 use mathlib.Core.Bool.{Bool, true, false, cond, beq}
 use mathlib.Core.List.{List, map}
 use Prim.Native.Nat.{ℕ, ◌+◌, ◌^◌, ◌<◌}
 use native.Mathlib.Omega.{arith}
-use lib.Dec.{T, lit≤}
+use lib.Dec.{T, lit<, lit≤}
 use lib.IntN.{ℤ, pos, neg_ℤ, ◌-ℤ◌}
-use lib.ListN.{length, set, length-set}
+use lib.ListN.{length, set, get_or, length-set, replicate, length-replicate}
+use lib.Seq.{get_or-set_same, get_or-set_other}
+use native.Mathlib.Decide.{ℕ_discrete}
 use lib.Signed.{◌≤ℤ◌}
-use mir.Syntax.{w64}
-use mir.Val.{to_z}
+use mir.Syntax.{w32, w64}
+use mir.Val.{of_z, to_z}
 use Rattle.lists.specs.Lists.{below, keep}
 use Rattle.lists.proofs.Lists.{below_lt, lt_below, in_map, of_map, map_cong}
-use Rattle.lists.proofs.Tests.{T_true, T_false, cond_elim}
+use Rattle.lists.proofs.Tests.{T_true, T_false}
 use Rattle.lists.proofs.Written.{place_more}
 use Rattle.integers.specs.Integers.{min_z, least, greatest}
 use Rattle.integers.specs.Range.{Within}
 use Rattle.integers.proofs.Linear.{zarith, up, dn, -at}
-use Rattle.integers.proofs.Range.{within, zero_within, within_grow, within_equal, within_neg}
+use Rattle.integers.proofs.Range.{within, zero_within, within_grow, within_equal}
 use Rattle.integers.proofs.Running.{Run}
 use Rattle.integers.proofs.Least.{least_le, least_of, greatest_ge, greatest_of}
 use Rattle.sets.specs.Sets.{has, ◌∋◌, ◌∌◌, members, others}
@@ -32,24 +34,41 @@ use Rattle.matrix.proofs.Tables.{cleared_at}
 use Rattle.indices.specs.Asked.{SmallRow, Proper, Table}
 use Rattle.indices.specs.Margins.{margin, nearness, separation_from, least_margin, spread, Numbers, Parted, AtMost}
 use Rattle.indices.proofs.Margins.{a_member, an_other, strong_margins}
-use Rattle.indices.proofs.Values.{side_members, side_others, of_side, least_side, margin_beyond}
+use Rattle.indices.proofs.Values.{read, side_members, side_others, of_side, least_side, margin_beyond}
 
-far_within : {k : ℕ} → Within k (pos k)
+pub far_within : {k : ℕ} → Within k (pos k)
 unfolding up dn
 far_within = within (omega arith) (omega arith)
 
+pub number_within : {z : ℤ} → Within (2 ^ 22) z → Within (2 ^ 30) (to_z w32 (of_z w32 z))
+number_within h = within_equal (read w32 (lit< tt) refl h) (within_grow (lit≤ tt) h)
+
+-- a cleared table
+pub cleared : (n : ℕ) → Cleared (replicate n (pos 0))
+cleared n = ap (λ (k : ℕ). replicate k (pos 0)) (sym (length-replicate n (pos 0)))
+
+pub table_none : (n : ℕ) → Table n (replicate n (pos 0))
+table_none n = record { long = omega (arith, length-replicate n (pos 0)); small = λ y _. within_equal (cleared_at (cleared n) y) zero_within }
+
+-- a number put into a table
+pub table_set : {n : ℕ} (k : ℕ) {t : List ℤ} {z : ℤ} → k < n → Table n t → Within (2 ^ 30) z → Table n (set t k z)
+table_set {n} k {t} {z} l u w = record { long = omega (arith, u.long, length-set t k z); small = λ y h. go y h (ℕ_discrete y k) }
+  where
+    go : (y : ℕ) → y < n → Dec (y ≡ k) → Within (2 ^ 30) (get_or (set t k z) y (pos 0))
+    go y h (yes e) = rw (e, get_or-set_same t k z (pos 0) (omega (arith, u.long))) w
+    go y h (no e) = rw (get_or-set_other t k y z (pos 0) e) (u.small y h)
+
 -- both tables filled from the front
-pub part_more : {numbers inside outside inside' outside' : List ℤ} {A k : ℕ} {x z : ℤ} {b : Bool}
+pub part_more : {numbers inside outside : List ℤ} {A k : ℕ} {x z : ℤ} {b : Bool}
     → Parted k numbers A inside outside → has A k ≡ b → k < length inside → k < length outside
-    → inside' ≡ set inside k x → outside' ≡ set outside k z → x ≡ cond b (number numbers k) (neg_ℤ (pos (2 ^ 30))) → z ≡ cond b (pos (2 ^ 30)) (number numbers k)
-    → Parted (k + 1) numbers A inside' outside'
-part_more {numbers} {inside} {outside} {A} {k} {x} {z} p t h m r s e q = subst₂ (λ (i o : List ℤ). Parted (k + 1) numbers A i o) (sym r) (sym s) (record {
-  long = (omega (arith, length-set inside k x), omega (arith, length-set outside k z));
+    → x ≡ cond b (number numbers k) (neg_ℤ (pos (2 ^ 30))) → z ≡ cond b (pos (2 ^ 30)) (number numbers k)
+    → Parted (k + 1) numbers A (set inside k x) (set outside k z)
+part_more {numbers} {inside} {outside} {A} {k} {x} {z} p t h m e q = record {
   members = place_more (pos 0) (λ y. cond (has A y) (number numbers y) (neg_ℤ (pos (2 ^ 30)))) inside
       p.members h (e ∙ ap (λ (b : Bool). cond b (number numbers k) (neg_ℤ (pos (2 ^ 30)))) (sym t));
   others = place_more (pos 0) (λ y. cond (has A y) (pos (2 ^ 30)) (number numbers y)) outside p.others m
       (q ∙ ap (λ (b : Bool). cond b (pos (2 ^ 30)) (number numbers k)) (sym t));
-})
+}
 
 -- f on one side of A, and on the other side no less than any f, or no greater
 module _ {n A : ℕ} (p : Proper n A) (f h : ℕ → ℤ) where
@@ -106,18 +125,6 @@ module _ {n A : ℕ} {numbers inside outside : List ℤ} (t : Parted n numbers A
     parted_spread p = ap₂ ◌-ℤ◌
         (least_inside p (λ y. f y -ℤ number numbers y) (λ y. f y -ℤ number inside y) (λ y h k. ap (λ z. f y -ℤ z) (at_member y h k).0) far_inside)
         (greatest_outside p (λ y. f y -ℤ number numbers y) (λ y. f y -ℤ number outside y) (λ y h k. ap (λ z. f y -ℤ z) (at_other y h k).1) far_outside)
-
-  -- the numbers of either table are small
-  pub tables : Numbers n numbers → Table n inside × Table n outside
-  tables c = (record { long = t.long.0; small = in_small }, record { long = t.long.1; small = out_small })
-    where
-      in_small : (y : ℕ) → y < n → Within (2 ^ 30) (number inside y)
-      in_small y h = within_equal (t.members y h)
-          (cond_elim (has A y) (number numbers y) (neg_ℤ (pos (2 ^ 30))) (Within (2 ^ 30)) (λ _. within_grow (lit≤ tt) (c y h)) (λ _. within_neg far_within))
-
-      out_small : (y : ℕ) → y < n → Within (2 ^ 30) (number outside y)
-      out_small y h = within_equal (t.others y h)
-          (cond_elim (has A y) (pos (2 ^ 30)) (number numbers y) (Within (2 ^ 30)) (λ _. far_within) (λ _. within_grow (lit≤ tt) (c y h)))
 
 margin_cong : (n A : ℕ) {f g : ℕ → ℤ} → ((y : ℕ) → y < n → f y ≡ g y) → margin n f A ≡ margin n g A
 unfolding margin

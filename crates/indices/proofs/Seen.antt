@@ -1,7 +1,8 @@
 -- The extremes that a loop has seen, and the spread that they give.
 use mathlib.Core.Path.{◌≡◌, refl, sym, subst, ap, ap₂, ◌∙◌}
 use mathlib.Core.List.{List, map}
-use Prim.Native.Nat.{ℕ, ◌+◌, ◌-◌, ◌^◌, ◌<◌}
+use Prim.Native.Nat.{ℕ, ◌+◌, ◌-◌, ◌^◌, ◌<◌, ◌≤◌}
+use native.Mathlib.Omega.{arith}
 use lib.Dec.{lit<, lit≤}
 use lib.IntN.{ℤ, pos, neg_ℤ, ◌-ℤ◌}
 use mir.Syntax.{w32}
@@ -50,12 +51,12 @@ module _ {f : ℕ → ℤ} {inside outside : List ℤ} where
 
 -- the values less the numbers of a table are bounded, and so are the least and the greatest of them
 module _ {n : ℕ} {f : ℕ → ℤ} (b : (y : ℕ) → y < n → Within (2 ^ 22) (f y)) (some : 0 < n) where
-  module _ {t : List ℤ} (u : Table n t) where
+  module _ {m : ℕ} (fit : n ≤ m) {t : List ℤ} (u : Table m t) where
     abbrev less : ℕ → ℤ
     less y = f y -ℤ number t y
 
     less_within : (y : ℕ) → y < n → Within (2 ^ 31 - 1) (less y)
-    less_within y h = within_grow (lit≤ tt) (within_difference (b y h) (u.small y h))
+    less_within y h = within_grow (lit≤ tt) (within_difference (b y h) (u.small y (omega (arith, h, fit))))
 
     least_within : Within (2 ^ 31 - 1) (least (map less (below n)))
     least_within = let (y, m, e) = of_map less (below n) (least_of (map less (below n)) (in_map less (lt_below n 0 some))) in
@@ -65,15 +66,15 @@ module _ {n : ℕ} {f : ℕ → ℤ} (b : (y : ℕ) → y < n → Within (2 ^ 22
     greatest_within = let (y, m, e) = of_map less (below n) (greatest_of (map less (below n)) (in_map less (lt_below n 0 some))) in
         within_equal e (less_within y (below_lt n m))
 
-  module _ {inside outside : List ℤ} (ti : Table n inside) (to : Table n outside) {e : Extremes} (s : Seen f inside outside n e) where
-    low_is : e.least ≡ least (map (less ti) (below n))
-    low_is = s.low ∙ running_least (less ti) (pos (2 ^ 31 - 1)) (below n) (lt_below n 0 some) (less_within ti 0 some).top
+  module _ {m : ℕ} (fit : n ≤ m) {inside outside : List ℤ} (ti : Table m inside) (to : Table m outside) {e : Extremes} (s : Seen f inside outside n e) where
+    low_is : e.least ≡ least (map (less fit ti) (below n))
+    low_is = s.low ∙ running_least (less fit ti) (pos (2 ^ 31 - 1)) (below n) (lt_below n 0 some) (less_within fit ti 0 some).top
 
-    high_is : e.greatest ≡ greatest (map (less to) (below n))
-    high_is = s.high ∙ running_greatest (less to) (neg_ℤ (pos (2 ^ 31 - 1))) (below n) (lt_below n 0 some) (less_within to 0 some).low
+    high_is : e.greatest ≡ greatest (map (less fit to) (below n))
+    high_is = s.high ∙ running_greatest (less fit to) (neg_ℤ (pos (2 ^ 31 - 1))) (below n) (lt_below n 0 some) (less_within fit to 0 some).low
 
     pub seen_within : Within (2 ^ 61) e.least × Within (2 ^ 61) e.greatest
-    seen_within = (within_equal low_is (within_grow (lit≤ tt) (least_within ti)), within_equal high_is (within_grow (lit≤ tt) (greatest_within to)))
+    seen_within = (within_equal low_is (within_grow (lit≤ tt) (least_within fit ti)), within_equal high_is (within_grow (lit≤ tt) (greatest_within fit to)))
 
     pub seen_spread : e.least -ℤ e.greatest ≡ spread n f inside outside
     unfolding spread
@@ -81,4 +82,4 @@ module _ {n : ℕ} {f : ℕ → ℤ} (b : (y : ℕ) → y < n → Within (2 ^ 22
 
     -- a value of the second table is at most the greatest
     pub seen_greatest : AtMost n f outside e.greatest
-    seen_greatest y h = omega (zarith, high_is, greatest_ge (map (less to) (below n)) (in_map (less to) (lt_below n y h)))
+    seen_greatest y h = omega (zarith, high_is, greatest_ge (map (less fit to) (below n)) (in_map (less fit to) (lt_below n y h)))

@@ -18,10 +18,6 @@ pub record Proper (n A : ℕ) : Type 0 where
   pub some : 1 ≤ size n A
   pub rest : size n A < n
 
--- three tables with room for a number of each entry
-abbrev pub Room : ℕ → List ℤ → List ℤ → List ℤ → Type 0
-Room n inside outside numbers = (n ≤ length inside) × (n ≤ length outside) × (n ≤ length numbers)
-
 -- a table of a number for each entry, none farther off than what is beyond every score
 pub record Table (n : ℕ) (t : List ℤ) : Type 0 where
   pub long : n ≤ length t

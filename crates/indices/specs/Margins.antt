@@ -1,5 +1,5 @@
 -- The code's own vocabulary, which nobody need believe: the strong index and the separation index by their margins.
-use Rattle.std.specs.Prelude.{Bool, cond, List, map, ℕ, ◌^◌, ◌≤◌, ◌<◌, ℤ, pos, neg_ℤ, ◌-ℤ◌, ◌≤ℤ◌, length}
+use Rattle.std.specs.Prelude.{Bool, cond, List, map, ℕ, ◌^◌, ◌<◌, ℤ, pos, neg_ℤ, ◌-ℤ◌, ◌≤ℤ◌}
 use Rattle.std.specs.Bool.{beq}
 use Rattle.lists.specs.Lists.{below, keep}
 use Rattle.integers.specs.Integers.{least, greatest}
@@ -41,6 +41,5 @@ spread n f inside outside =
 
 -- the first table has the numbers of the members, the second those of the others, and else what is beyond every score
 pub record Parted (n : ℕ) (numbers : List ℤ) (A : ℕ) (inside outside : List ℤ) : Type 0 where
-  pub long : (n ≤ length inside) × (n ≤ length outside)
   pub members : Row n (λ y. cond (has A y) (number numbers y) (neg_ℤ (pos (2 ^ 30)))) inside
   pub others : Row n (λ y. cond (has A y) (pos (2 ^ 30)) (number numbers y)) outside

@@ -2,6 +2,7 @@ use mathlib.Core.Path.{refl, sym, ap, subst, ◌∙◌}
 use mathlib.Core.List.{List}
 use Prim.Native.Nat.{◌+◌}
 use native.Mathlib.Omega.{arith}
+use lib.Dec.{lit<}
 use lib.IntN.{ℤ, pos}
 use lib.ListN.{length, replicate, length-set}
 use mir.Syntax.{w32}
@@ -11,22 +12,20 @@ use Rattle.integers.proofs.Held.{passed}
 use Rattle.sets.proofs.Sets.{has_no}
 use Rattle.clusters.specs.PairList.{score}
 use Rattle.indices.specs.Triples.{Near}
-use Rattle.indices.proofs.Parted.{zeros, tables, near_most}
+use Rattle.indices.proofs.Parted.{zeros, near_most}
 use Rattle.indices.proofs.Triples.{near_more, near_none}
 use Rattle.indices.proofs.Values.{small_row}
 use Rattle.indices.proofs.nearest.Goals.{then-has, else-has}
 use Rattle.indices.proofs.nearest.Goals as goal
 
-pub sides_of-sides-requires : goal.sides_of-sides-requires
-sides_of-sides-requires c = let h = c.requires.0.few in (h, h)
+pub part-requires : goal.part-requires
+part-requires c = let h = c.requires.0.few in (lit< tt, (h, h, omega arith, zeros _ {t = replicate 32 (pos 0)} refl))
 
 pub loop-a-init : goal.loop-a-init
 loop-a-init c = (omega arith, refl, λ a h. absurd (omega arith))
 
 pub greatest_of-requires : goal.greatest_of-requires
-greatest_of-requires c = let g = c.requires in
-    let (inside, outside) = tables c.sides_of-sides.ensures (zeros _ {t = replicate 32 (pos 0)} refl) in
-    (g.0, omega arith, small_row g.2 _, inside, outside)
+greatest_of-requires c = let (scores, _, small) = c.requires in (lit< tt, (scores, omega arith, scores.few, small_row small _))
 
 pub loop-a-preserved : goal.loop-a-preserved
 loop-a-preserved c =
@@ -40,7 +39,7 @@ loop-a-preserved c =
         omega arith,
         ap length w.found-is ∙ length-set l.found l.a _ ∙ i.1,
         subst near (sym w.found-is) (near_more l.found i.2 (omega (arith, i.1, g.0.few)) λ c' k o.
-            omega (zarith, passed w32 {z = w.greatest_of.result} w.greatest_of.type_inv refl, near_most c.args.pairs.now refl c.sides_of-sides.ensures l.a w.greatest_of.ensures c' k o)),
+            omega (zarith, passed w32 {z = w.greatest_of.result} w.greatest_of.type_inv refl, near_most c.args.pairs.now refl c.part.ensures l.a w.greatest_of.ensures c' k o)),
       )
       | else-has w ↦ (
         omega arith,

@@ -8,11 +8,11 @@ use Rattle.sets.specs.Sets.{has}
 use Rattle.smallest.proofs.Tops.{top}
 use Rattle.clusters.specs.PairList.{score}
 use Rattle.indices.specs.Margins.{spread}
-use Rattle.indices.proofs.least_margin.Given as goal
+use Rattle.indices.proofs.Sides.least_margin.Given as goal
 
 abbrev pub invariant-loop-x : goal.invariant-loop-x
-invariant-loop-x l = (l.x ≤ l.n)
-    × Run min_z top (λ x'. beq (has l.set x') l.inner) (λ x'. spread l.n (score l.pairs x') l.inside l.outside) l.x (of_z w64 l.least)
+invariant-loop-x g l = (l.x ≤ l.n)
+    × Run min_z top (λ x'. beq (has l.set x') l.inner) (λ x'. spread l.n (score l.pairs x') l.self.inside l.self.outside) l.x (of_z w64 l.least)
 
 abbrev pub decreases-loop-x : goal.decreases-loop-x
-decreases-loop-x l = l.n - l.x
+decreases-loop-x g l = l.n - l.x

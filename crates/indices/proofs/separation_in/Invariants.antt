@@ -1,4 +1,3 @@
-use mathlib.Core.Path.{◌≡◌}
 use Prim.Native.Nat.{◌-◌, ◌≤◌}
 use lib.ListN.{length}
 use mir.Syntax.{w64}
@@ -9,12 +8,11 @@ use Rattle.sets.specs.Sets.{has}
 use Rattle.smallest.proofs.Tops.{top}
 use Rattle.clusters.specs.PairList.{score}
 use Rattle.indices.specs.Margins.{separation_from}
-use Rattle.indices.proofs.separation_with.Given as goal
+use Rattle.indices.proofs.separation_in.Given as goal
 
 abbrev pub invariant-loop-a : goal.invariant-loop-a
-invariant-loop-a l = (l.a ≤ l.n)
+invariant-loop-a g l = (l.a ≤ l.n) × (l.n ≤ length l.numbers)
     × Run min_z top (has l.set) (separation_from l.n (score l.pairs) l.set) l.a (of_z w64 l.least)
-    × (length l.inside ≡ length l.initial.inside) × (length l.outside ≡ length l.initial.outside) × (length l.numbers ≡ length l.initial.numbers)
 
 abbrev pub decreases-loop-a : goal.decreases-loop-a
-decreases-loop-a l = l.n - l.a
+decreases-loop-a g l = l.n - l.a

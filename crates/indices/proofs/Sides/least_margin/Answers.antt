@@ -9,27 +9,25 @@ use Rattle.integers.specs.Integers.{min_z}
 use Rattle.integers.proofs.Held.{passed}
 use Rattle.integers.proofs.Operators.{min_is}
 use Rattle.integers.proofs.Running.{run_start, run_no}
-use Rattle.indices.proofs.Parted.{tables, least_spread}
+use Rattle.indices.proofs.Parted.{least_spread}
 use Rattle.indices.proofs.Values.{top_held, run_next}
-use Rattle.indices.proofs.least_margin.Goals.{then-has-inner, else-has-inner}
-use Rattle.indices.proofs.least_margin.Goals as goal
+use Rattle.indices.proofs.Sides.least_margin.Goals.{then-has-inner, else-has-inner}
+use Rattle.indices.proofs.Sides.least_margin.Goals as goal
 
 pub part-requires : goal.part-requires
-part-requires c = let (inside, outside, numbers) = c.requires.room in
-    (c.requires.scores.0.few, (search inside, search outside, numbers))
+part-requires g c = let (fit, numbers, small) = c.requires.numbers in (omega arith, (c.requires.scores.0.few, fit, numbers, small))
 
 pub loop-x-init : goal.loop-x-init
-loop-x-init c = (omega arith, run_start top_held)
+loop-x-init g c = (omega arith, run_start top_held)
 
 pub spread-requires : goal.spread-requires
-spread-requires c =
-    let g = c.requires.scores in
-    let (inside, outside) = tables c.part.ensures g.2 in
+spread-requires g c =
+    let p = c.requires.scores in
     let side = ap (λ (b : Bool). beq b c.args.inner) c.has.ensures in
-    (g.0, omega arith, g.3 _ (omega arith) (true_T (sym side ∙ c.if-has-inner.true)), search inside, search outside)
+    (omega arith, (p.0, omega arith, c.requires.numbers.0, p.2 _ (omega arith) (true_T (sym side ∙ c.if-has-inner.true))))
 
 pub loop-x-preserved : goal.loop-x-preserved
-loop-x-preserved c =
+loop-x-preserved g c =
     let l = c.loop-x in
     let t = sym (ap (λ (b : Bool). beq b c.args.inner) c.has.ensures) in
     elim c.if-has-inner.branch [
@@ -42,7 +40,7 @@ loop-x-preserved c =
     ]
 
 pub returns : goal.returns
-returns c =
-    let g = c.requires.scores in
+returns g c =
+    let p = c.requires.scores in
     sym (to_z-of_z {w = w64} (sfits_to_z c.loop-x.auto.least-fits))
-    ∙ least_spread c.args.pairs.now g.1 _ g.2 c.part.ensures (omega arith) c.args.inner g.3 c.loop-x.invariant.1
+    ∙ least_spread c.args.pairs.now p.1 _ c.requires.numbers.2 c.part.ensures (omega arith) c.args.inner p.2 c.loop-x.invariant.1
