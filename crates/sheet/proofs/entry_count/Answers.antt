@@ -1,19 +1,13 @@
 use mathlib.Core.Path.{ap, ◌∙◌}
 use mathlib.Core.List.{List}
 use Prim.Native.Nat.{ℕ}
-use native.Mathlib.Omega.{arith}
 use lib.ListN.{length}
 use Rattle.interface.specs.Sheet.{cut, entries, names}
-use Rattle.sheet.proofs.Lines.{line_inside, line_length, first_line_lem}
+use Rattle.sheet.proofs.Lines.{line_length, first_line_lem}
 use Rattle.sheet.proofs.entry_count.Goals as goal
 
 pub slice_bounds-piece_count-end : goal.slice_bounds-piece_count-end
 slice_bounds-piece_count-end c = line_length c.args.sheet.now _ c.line_end-end.ensures
-
-pub piece_count-requires : goal.piece_count-requires
-piece_count-requires c = let s = c.args.sheet.now in
-    let e = c.line_end-end.result in
-    omega (arith, line_length s e c.line_end-end.ensures, line_inside s e c.line_end-end.ensures)
 
 pub returns : goal.returns
 unfolding entries names

@@ -4,14 +4,11 @@ use mathlib.Core.Bool.{not}
 use Prim.Native.Nat.{ℕ}
 use Rattle.lists.specs.Lists.{all}
 use Rattle.interface.specs.Sheet.{cut, is_name, names}
-use Rattle.sheet.proofs.Lines.{line_length, first_line_lem, no_feed, names_left}
+use Rattle.sheet.proofs.Lines.{first_line_lem, no_feed, names_left}
 use Rattle.sheet.proofs.wrong_names.Goals as goal
 
 pub returns-then-end-sheet : goal.returns-then-end-sheet
 returns-then-end-sheet c = no_feed c.args.sheet.now _ c.line_end-end.ensures c.if-end-sheet.true
-
-pub slice_bounds-are_names-end : goal.slice_bounds-are_names-end
-slice_bounds-are_names-end c = line_length c.args.sheet.now _ c.line_end-end.ensures
 
 pub returns : goal.returns
 unfolding names
