@@ -10,10 +10,10 @@ use native.Mathlib.Omega.{arith}
 use native.Mathlib.Decide.{ℕ_discrete}
 use borrow.Author.Tests.{ne_eqb}
 use lib.Dec.{T, eqb, leb, le→leb, leb→le, lit<, not_T, T_not}
-use lib.ListN.{length, get_or, set, drop, length-drop}
-use lib.Seq.{get_or-set_same, get_or-set_other}
-use Rattle.lists.specs.Lists.{all, below}
-use Rattle.lists.proofs.Lists.{lt_below, all_in, all_places, below_more}
+use lib.ListN.{length, get_or, drop, length-append, length-drop, get_or-append}
+use lib.Seq.{get_or-append_seam}
+use Rattle.lists.specs.Lists.{all}
+use Rattle.lists.proofs.Lists.{get_d_in, all_in, all_places, below_more}
 use Rattle.lists.proofs.Tests.{T_true, true_T, T_false, and_T, T_and, or_T, eqb_yes}
 use Rattle.interface.specs.Sheet.{is_upper, is_digit, is_name, cut, lines, names, entries, same_bytes, is_among, has_equal}
 use Rattle.interface.specs.Refusals.{wrong_names, equal_names}
@@ -100,15 +100,15 @@ abbrev name : List ℕ → ℕ → List ℕ
 name s a = get_or (names s) a []
 
 -- the names before place at are good, different, and known by their numbers
-pub record NamesState (s : List ℕ) (known : List ℕ) (count at : ℕ) : Type 0 where
-  pub here : Line s (names s) (drop 1 (lines s)) count at
-  pub good : (a : ℕ) → a < count → T (is_name (name s a))
-  pub number : (a : ℕ) → a < count → get_or known a 0 ≡ packed 0 (name s a)
-  pub different : (a b : ℕ) → a < b → b < count → name s a ≡ name s b → ⊥
+pub record NamesState (s known : List ℕ) (at : ℕ) : Type 0 where
+  pub here : Line s (names s) (drop 1 (lines s)) (length known) at
+  pub good : (a : ℕ) → a < length known → T (is_name (name s a))
+  pub number : (a : ℕ) → a < length known → get_or known a 0 ≡ packed 0 (name s a)
+  pub different : (a b : ℕ) → a < b → b < length known → name s a ≡ name s b → ⊥
 
-pub names_start : (s known : List ℕ) → NamesState s known 0 0
+pub names_start : (s : List ℕ) → NamesState s [] 0
 unfolding lines names piece_at
-names_start s known = record {
+names_start s = record {
   here = record { inside = omega arith; line = pieces_from 10 s 0; pieces = refl };
   good = λ a h. absurd (omega arith);
   number = λ a h. absurd (omega arith);
@@ -116,26 +116,26 @@ names_start s known = record {
 }
 
 -- one more name
-module _ {s known : List ℕ} {count at v k : ℕ} (n : NamesState s known count at) (r : NameRun s at v k) (o : 0 < k) (u : is_upper (get_or s at 0) ≡ true)
-    (new : T (all (λ j. not (eqb (get_or known j 0) v)) (below count))) (is : name s count ≡ part s at k) where
-  good_more : (a : ℕ) → a < count + 1 → T (is_name (name s a))
+module _ {s known : List ℕ} {at v k : ℕ} (n : NamesState s known at) (r : NameRun s at v k) (o : 0 < k) (u : is_upper (get_or s at 0) ≡ true)
+    (new : T (all (λ x. not (eqb x v)) known)) (is : name s (length known) ≡ part s at k) where
+  good_more : (a : ℕ) → a < length known + 1 → T (is_name (name s a))
   good_more = below_more {P = λ a. T (is_name (name s a))} n.good (subst (λ (w : List ℕ). T (is_name w)) (sym is) (name_good r o u))
 
-  apart : (a : ℕ) → a < count → name s a ≡ name s count → ⊥
-  apart a h e = T_not (eqb (get_or known a 0) v) (all_in (λ j. not (eqb (get_or known j 0) v)) (below count) new (lt_below count a h))
+  apart : (a : ℕ) → a < length known → name s a ≡ name s (length known) → ⊥
+  apart a h e = T_not (eqb (get_or known a 0) v) (all_in (λ x. not (eqb x v)) known new (get_d_in known a 0 h))
       (eqb_yes (get_or known a 0) v (n.number a h ∙ ap (packed 0) (e ∙ is) ∙ sym r.number))
 
-  different_more : (a b : ℕ) → a < b → b < count + 1 → name s a ≡ name s b → ⊥
-  different_more a b h k = go (ℕ_discrete b count)
+  different_more : (a b : ℕ) → a < b → b < length known + 1 → name s a ≡ name s b → ⊥
+  different_more a b h k = go (ℕ_discrete b (length known))
     where
-      go : Dec (b ≡ count) → name s a ≡ name s b → ⊥
+      go : Dec (b ≡ length known) → name s a ≡ name s b → ⊥
       go (yes e) q = apart a (omega arith) (q ∙ ap (name s) e)
       go (no f) q = n.different a b h (omega arith) q
 
-  number_more : count < length known → (a : ℕ) → a < count + 1 → get_or (set known count v) a 0 ≡ packed 0 (name s a)
-  number_more h = below_more {P = λ a. get_or (set known count v) a 0 ≡ packed 0 (name s a)}
-      (λ a q. get_or-set_other known count a v 0 (λ y. omega (arith, y)) ∙ n.number a q)
-      (get_or-set_same known count v 0 h ∙ r.number ∙ sym (ap (packed 0) is))
+  number_more : (a : ℕ) → a < length known + 1 → get_or (known ++ (v ∷ [])) a 0 ≡ packed 0 (name s a)
+  number_more = below_more {P = λ a. get_or (known ++ (v ∷ [])) a 0 ≡ packed 0 (name s a)}
+      (λ a h. get_or-append known (v ∷ []) 0 a h ∙ n.number a h)
+      (get_or-append_seam known v [] 0 ∙ r.number ∙ sym (ap (packed 0) is))
 
 -- no two are equal
 among_none : (w : List ℕ) (l : List (List ℕ)) → ((b : ℕ) → b < length l → w ≡ get_or l b [] → ⊥) → is_among w l ≡ false
@@ -150,20 +150,21 @@ unfolding has_equal
 equal_none [] f = refl
 equal_none (w ∷ l) f = rw (among_none w l (λ b h. f 0 (suc b) (omega arith) (omega arith))) (equal_none l (λ a b h k. f (suc a) (suc b) (omega arith) (omega arith)))
 
-module _ {s known : List ℕ} {count at v k : ℕ} (n : NamesState s known count at) (r : NameRun s at v k) (h : at + k < length s) (o : 0 < k) (u : is_upper (get_or s at 0) ≡ true)
-    (new : T (all (λ j. not (eqb (get_or known j 0) v)) (below count))) where
-  pub names_next : get_or s (at + k) 0 ≡ 32 → count < length known → NamesState s (set known count v) (count + 1) (at + k + 1)
-  names_next e long =
+module _ {s known : List ℕ} {at v k : ℕ} (n : NamesState s known at) (r : NameRun s at v k) (h : at + k < length s) (o : 0 < k) (u : is_upper (get_or s at 0) ≡ true)
+    (new : T (all (λ x. not (eqb x v)) known)) where
+  pub names_next : get_or s (at + k) 0 ≡ 32 → NamesState s (known ++ (v ∷ [])) (at + k + 1)
+  names_next e =
       let t = name_text r h e in
       let is = text_space n.here t in
+      let long : length (known ++ (v ∷ [])) ≡ length known + 1 = length-append known (v ∷ []) in
       record {
-        here = line_space n.here t;
-        good = good_more n r o u new is;
-        number = number_more n r o u new is long;
-        different = different_more n r o u new is;
+        here = rw long (line_space n.here t);
+        good = rw long (good_more n r o u new is);
+        number = rw long (number_more n r o u new is);
+        different = rw long (different_more n r o u new is);
       }
 
-  pub names_end : get_or s (at + k) 0 ≡ 10 → count < 32 → LineRead s (count + 1) (at + k + 1)
+  pub names_end : get_or s (at + k) 0 ≡ 10 → length known < 32 → LineRead s (length known + 1) (at + k + 1)
   unfolding wrong_names equal_names entries lines
   names_end e few =
       let t = name_text r h e in

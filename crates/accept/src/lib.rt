@@ -11,15 +11,17 @@ ghost use Rattle.accept.specs.Places.{Run, Half, CellAt, BothAt, At, RowRead};
 ghost use Rattle.accept.specs.Names.{NameRun, LineRead, NamesRead};
 ghost use Rattle.accept.specs.Read.{PairsRead};
 
+use arrayvec::ArrayVec;
+
 // A value's number in the pair list, and the length of its text.
-#[derive(Clone, Copy)]
+#[derive(Clone, Copy, Debug, PartialEq, Eq)]
 struct Cell {
     number: i32,
     size: usize,
 }
 
 // Digits as a number, and how many they are.
-#[derive(Clone, Copy)]
+#[derive(Clone, Copy, Debug, PartialEq, Eq)]
 struct Digits {
     number: u32,
     size: usize,
@@ -96,18 +98,11 @@ fn is_half(sheet: &[u8], at: usize, stop: u8) -> bool
 }
 
 // Digits with `.5` behind them, at p and at q; or whatever else stands there.
-fn read_half(
-    sheet: &[u8],
-    p: usize,
-    q: usize,
-    near: u8,
-    far: u8,
-    number: u32,
-    size: usize,
-) -> Option<Cell>
-    requires { (p + 10 ≤ length sheet.now) × (q + 10 ≤ length sheet.now) × Run sheet.now p q number size }
+fn read_half(sheet: &[u8], p: usize, q: usize, near: u8, far: u8, digits: Digits) -> Option<Cell>
+    requires { (p + 10 ≤ length sheet.now) × (q + 10 ≤ length sheet.now) × Run sheet.now p q digits.number digits.size }
     ensures { IfSome result (λ c. BothAt sheet.now p q near far c.number c.size) }
 {
+    let Digits { number, size } = digits;
     if !is_half(sheet, p + size, near) {
         return read_any_both(sheet, p, q, near, far);
     }
@@ -145,8 +140,7 @@ fn read_cell<const MIRRORED: bool>(
         return read_any_both(sheet, p, q, near, far);
     }
     let digits = read_digits::<MIRRORED>(sheet, p, q);
-    let size = digits.size;
-    let number = digits.number;
+    let Digits { number, size } = digits;
     let end = p + size;
     let other = q + size;
     if (size == 0)
@@ -154,7 +148,7 @@ fn read_cell<const MIRRORED: bool>(
         | (sheet[other] != far)
         | ((sheet[p] == b'0') & (size != 1))
     {
-        return read_half(sheet, p, q, near, far, number, size);
+        return read_half(sheet, p, q, near, far, digits);
     }
     let halves = (number * 2) as i32;
     Some(Cell {
@@ -197,23 +191,17 @@ fn read_row(
 }
 
 // A name as a number, its bytes the digits in base 256, and its length.
-#[derive(Clone, Copy)]
+#[derive(Clone, Copy, Debug, PartialEq, Eq)]
 struct Name {
     packed: u64,
     size: usize,
 }
 
 // The names of a sheet: how many, and where the value lines start.
-#[derive(Clone, Copy)]
+#[derive(Clone, Copy, Debug, PartialEq, Eq)]
 pub struct Names {
     pub count: usize,
     pub next: usize,
-}
-
-fn wide(b: u8) -> u64
-    ensures { result ≡ b }
-{
-    b as u64
 }
 
 // The bytes of names from p on, at most 8.
@@ -222,8 +210,7 @@ fn read_name(sheet: &[u8], p: usize) -> Name
     ensures { NameRun sheet.now p result.packed result.size }
 {
     let mut packed: u64 = 0;
-    let mut size: usize = 0;
-    while size < 8 {
+    for size in 0..8 {
         let at = p + size;
         if at >= sheet.len() {
             return Name { packed, size };
@@ -232,35 +219,28 @@ fn read_name(sheet: &[u8], p: usize) -> Name
         if !text::is_name_byte(b) {
             return Name { packed, size };
         }
-        packed = packed * 256 + wide(b);
-        size += 1;
+        packed = packed * 256 + u64::from(b);
     }
-    Name { packed, size }
+    Name { packed, size: 8 }
 }
 
-// None of the first count numbers is this one. Without an early exit the loop becomes vector code.
-fn is_new(known: &[u64], count: usize, packed: u64) -> bool
-    requires { count ≤ length known.now }
-    ensures { result ≡ all (λ k. not (eqb (get_or known.now k 0) packed)) (below count) }
+// None of the numbers is this one. Without an early exit the loop becomes vector code.
+fn is_new(known: &[u64], packed: u64) -> bool
+    ensures { result ≡ all (λ other. not (eqb other packed)) known.now }
 {
-    let mut good = true;
-    for k in 0..count {
-        good = good & (known[k] != packed);
-    }
-    good
+    known
+        .iter()
+        .fold(true, |good, other| good & (*other != packed))
 }
 
 // Line 1, name by name.
 fn read_line(sheet: &[u8]) -> Option<Names>
     ensures { IfSome result (λ names. LineRead sheet.now names.count names.next) }
 {
-    let mut known = [0u64; 32];
-    let mut count: usize = 0;
+    let mut known = ArrayVec::<u64, 32>::new();
     let mut at: usize = 0;
     loop {
-        let name = read_name(sheet, at);
-        let size = name.size;
-        let packed = name.packed;
+        let Name { packed, size } = read_name(sheet, at);
         let end = at + size;
         if end >= sheet.len() {
             return None;
@@ -271,17 +251,18 @@ fn read_line(sheet: &[u8]) -> Option<Names>
         if !text::is_upper(sheet[at]) {
             return None;
         }
-        if count >= 32 {
+        if known.is_full() {
             return None;
         }
-        if !is_new(&known, count, packed) {
+        if !is_new(known.as_slice(), packed) {
             return None;
         }
-        known[count] = packed;
-        count += 1;
+        known.push(packed);
         if sheet[end] == b'\n' {
-            let next = end + 1;
-            return Some(Names { count, next });
+            return Some(Names {
+                count: known.len(),
+                next: end + 1,
+            });
         }
         if sheet[end] != b' ' {
             return None;
@@ -300,31 +281,30 @@ pub fn read_names(sheet: &[u8]) -> Option<Names>
     read_line(sheet)
 }
 
-// The value lines of n entries, the first of which starts at from: checks 2 to 9 pass, and the pair list stands in the
+// The value lines behind the names: the number of entries, where checks 2 to 9 pass and the pair list stands in the
 // first slots; or the reader has to say which check refuses, if any, and nothing is known of the slots.
-pub fn read_rows(pairs: &mut [i32], sheet: &[u8], n: usize, from: usize) -> bool
-    requires { NamesRead sheet.now n from × (row_start n ≤ length pairs.old) }
-    ensures { result ≡ true → PairsRead sheet.now n pairs.old pairs.new }
+pub fn read_rows(pairs: &mut [i32], sheet: &[u8], names: Names) -> Option<usize>
+    requires { NamesRead sheet.now names.count names.next × (row_start names.count ≤ length pairs.old) }
+    ensures { IfSome result (λ n. PairsRead sheet.now n pairs.old pairs.new) }
 {
     let mut cur = [0usize; 32];
-    let mut at = from;
+    let mut at = names.next;
     let mut start: usize = 0;
-    let last = n - 1;
+    let last = names.count - 1;
     for i in 0..last {
-        let Some(next) = read_row(&mut cur, pairs, sheet, i, at, b' ', start) else {
-            return false;
-        };
+        let next = read_row(&mut cur, pairs, sheet, i, at, b' ', start)?;
         let end = text::line_end(sheet, next);
         if end >= sheet.len() {
-            return false;
+            return None;
         }
         at = end + 1;
         start += i + 1;
     }
-    let Some(next) = read_row(&mut cur, pairs, sheet, last, at, b'\n', start) else {
-        return false;
-    };
-    next == sheet.len()
+    let next = read_row(&mut cur, pairs, sheet, last, at, b'\n', start)?;
+    if next != sheet.len() {
+        return None;
+    }
+    Some(names.count)
 }
 
 // Both, with slots for every sheet: the number of entries, if the sheet is accepted.
@@ -333,8 +313,5 @@ pub fn accept(pairs: &mut [i32], sheet: &[u8]) -> Option<usize>
     ensures { IfSome result (λ n. PairsRead sheet.now n pairs.old pairs.new) }
 {
     let names = read_names(sheet)?;
-    if !read_rows(pairs, sheet, names.count, names.next) {
-        return None;
-    }
-    Some(names.count)
+    read_rows(pairs, sheet, names)
 }

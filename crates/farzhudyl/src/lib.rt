@@ -12,6 +12,7 @@ ghost use Rattle.kinds.specs.Kinds.{number_for};
 ghost use Rattle.accept.specs.Names.{NamesRead};
 ghost use Rattle.farzhudyl.specs.Pairs.{PairsListed};
 
+use accept::Names;
 use answers::Refusal;
 use kinds::Kind;
 
@@ -43,22 +44,20 @@ fn list_checked(kind: Kind, sheet: &[u8], out: &mut [u8]) -> Result<usize, Refus
     list_pairs(kind, n, &pairs[..count], out)
 }
 
-// The same in one pass where that will do, with slots for the pair list: the n names are read, and the value lines
-// start at from.
+// The same in one pass where that will do, with slots for the pair list: the names are read.
 fn list_with(
     pairs: &mut [i32],
     kind: Kind,
     sheet: &[u8],
-    n: usize,
-    from: usize,
+    names: Names,
     out: &mut [u8],
 ) -> Result<usize, Refusal>
-    requires { NamesRead sheet.now n from × (row_start n ≤ length pairs.old) }
+    requires { NamesRead sheet.now names.count names.next × (row_start names.count ≤ length pairs.old) }
     ensures { SheetCall (number_for kind) sheet.now out.old result out.new }
 {
-    if !accept::read_rows(pairs, sheet, n, from) {
+    let Some(n) = accept::read_rows(pairs, sheet, names) else {
         return list_checked(kind, sheet, out);
-    }
+    };
     let count = matrix::pair_count(n);
     list_pairs(kind, n, &pairs[..count], out)
 }
@@ -67,15 +66,14 @@ fn list_with(
 fn list_in<const N: usize>(
     kind: Kind,
     sheet: &[u8],
-    n: usize,
-    from: usize,
+    names: Names,
     out: &mut [u8],
 ) -> Result<usize, Refusal>
-    requires { NamesRead sheet.now n from × (row_start n ≤ N) × (N ≤ 528) }
+    requires { NamesRead sheet.now names.count names.next × (row_start names.count ≤ N) × (N ≤ 528) }
     ensures { SheetCall (number_for kind) sheet.now out.old result out.new }
 {
     let mut pairs = [0i32; N];
-    list_with(&mut pairs, kind, sheet, n, from, out)
+    list_with(&mut pairs, kind, sheet, names, out)
 }
 
 // The sheet call: the listing's length, and the listing in the first bytes; or the refusal, and nothing is written.
@@ -86,15 +84,13 @@ pub fn listing(kind: i32, sheet: &[u8], out: &mut [u8]) -> Result<usize, Refusal
     let Some(names) = accept::read_names(sheet) else {
         return list_checked(kind, sheet, out);
     };
-    let n = names.count;
-    let from = names.next;
-    if n <= 8 {
-        return list_in::<36>(kind, sheet, n, from, out);
+    if names.count <= 8 {
+        return list_in::<36>(kind, sheet, names, out);
     }
-    if n <= 16 {
-        return list_in::<136>(kind, sheet, n, from, out);
+    if names.count <= 16 {
+        return list_in::<136>(kind, sheet, names, out);
     }
-    list_in::<528>(kind, sheet, n, from, out)
+    list_in::<528>(kind, sheet, names, out)
 }
 
 // A refusal as minus its number.

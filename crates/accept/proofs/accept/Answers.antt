@@ -6,6 +6,3 @@ pub read_rows-requires : goal.read_rows-requires
 read_rows-requires c =
     let n = c.in_ok-names.ensures in
     (n, omega (arith, row_start_le _ n.line.few))
-
-pub returns : goal.returns
-returns c = c.read_rows.ensures c.if-not-read_rows.false

@@ -43,5 +43,5 @@ pub returns : goal.returns
 returns c =
     let a = c.args in
     let r = c.requires in
-    subst (λ (z : ℤ). BothAt a.sheet.now a.p a.q a.near a.far z (a.size + 2)) (sym (plus (a.number * 2 + 1) (omega (arith, run_small r.2 (omega (arith, r.2.few))))))
+    subst (λ (z : ℤ). BothAt a.sheet.now a.p a.q a.near a.far z (a.digits.size + 2)) (sym (plus (a.digits.number * 2 + 1) (omega (arith, run_small r.2 (omega (arith, r.2.few))))))
     (both_half r.2 r.0 r.1 c.if-sheet-p.false (omega arith) (c.is_half.ensures c.if-not-is_half.false) (c.is_half-2.ensures c.if-not-is_half-2.false))

@@ -19,13 +19,12 @@ pub overflow_mul-packed : goal.overflow_mul-packed
 overflow_mul-packed c = omega (arith, name_small c.loop-size.invariant (omega arith))
 
 pub overflow_add-packed : goal.overflow_add-packed
-overflow_add-packed c = omega (arith, name_small c.loop-size.invariant (omega arith), c.wide.ensures, name_byte_small _ (true_T (sym c.is_name_byte.ensures ∙ c.if-not-is_name_byte.false)))
+overflow_add-packed c = omega (arith, name_small c.loop-size.invariant (omega arith), name_byte_small _ (true_T (sym c.is_name_byte.ensures ∙ c.if-not-is_name_byte.false)))
 
 pub loop-size-preserved : goal.loop-size-preserved
 loop-size-preserved c =
-    let l = c.loop-size in
-    subst (λ (x : ℕ). NameRun c.args.sheet.now c.args.p (l.packed * 256 + x) (l.size + 1)) (sym c.wide.ensures)
-    (name_more l.invariant (omega arith) (omega arith) (true_T (sym c.is_name_byte.ensures ∙ c.if-not-is_name_byte.false)))
+    subst (λ (x : ℕ). NameRun c.args.sheet.now c.args.p (c.loop-size.packed * 256 + x) (c.loop-size.size + 1)) (sym c.from.ensures)
+    (name_more c.loop-size.invariant (omega arith) (omega arith) (true_T (sym c.is_name_byte.ensures ∙ c.if-not-is_name_byte.false)))
 
 pub returns : goal.returns
-returns c = c.loop-size.invariant
+returns c = subst (NameRun c.args.sheet.now c.args.p c.loop-size.packed) (omega arith) c.loop-size.invariant

@@ -1,9 +1,7 @@
-use mathlib.Core.Path.{◌≡◌, refl, sym, ap, ◌∙◌, subst}
+use mathlib.Core.Path.{◌≡◌, refl, ap, ◌∙◌, subst}
 use mathlib.Core.Logic.{inl, inr}
-use mathlib.Core.Bool.{true≢false}
 use Prim.Native.Nat.{ℕ, suc, ◌+◌, ◌-◌}
 use native.Mathlib.Omega.{arith}
-use borrow.Author.Tests.{eqb-true}
 use lib.ListN.{get_or}
 use lib.Seq.{sets}
 use mathlib.Core.List.{map}
@@ -22,14 +20,11 @@ loop-i-init c = (omega arith, refl, refl, rows_start c.requires.0.line.place, re
 
 pub read_row-requires : goal.read_row-requires
 read_row-requires c = let l = c.loop-i in
-    let n = c.args.n in
+    let n = c.args.names.count in
     (omega arith, omega (arith, row_lt n l.i l.i (omega arith) (omega arith)), inl refl, l.invariant.3.here, l.invariant.3.wait)
 
 pub line_end-end-requires : goal.line_end-end-requires
-line_end-end-requires c = next_inside c.in-Some.ensures.row_read
-
-pub returns-then-end-sheet : goal.returns-then-end-sheet
-returns-then-end-sheet c = λ e. absurd (true≢false (sym e))
+line_end-end-requires c = next_inside c.in_ok-next.ensures.row_read
 
 pub overflow_add-start-in-loop-i : goal.overflow_add-start-in-loop-i
 overflow_add-start-in-loop-i c =
@@ -40,7 +35,7 @@ pub loop-i-preserved : goal.loop-i-preserved
 loop-i-preserved c =
     let l = c.loop-i in
     let r = c.read_row in
-    let x = c.in-Some.ensures in (
+    let x = c.in_ok-next.ensures in (
       omega arith,
       r.auto.cur ∙ l.invariant.1,
       r.auto.pairs ∙ l.invariant.2,
@@ -53,19 +48,18 @@ pub read_row-requires-2 : goal.read_row-requires-2
 read_row-requires-2 c = let l = c.loop-i in
     let a = c.args in
     let s = a.sheet.now in
-    let e : l.i ≡ a.n - 1 = omega arith in
-    (omega arith, omega (arith, row_lt a.n l.i l.i (omega arith) (omega arith)), inr refl, subst (λ (k : ℕ). At s k 0 l.at) e l.invariant.3.here, λ j h. subst (λ (k : ℕ). At s j k (get_or l.cur j 0)) e (l.invariant.3.wait j (omega arith)))
+    let e : l.i ≡ a.names.count - 1 = omega arith in
+    (omega arith, omega (arith, row_lt a.names.count l.i l.i (omega arith) (omega arith)), inr refl, subst (λ (k : ℕ). At s k 0 l.at) e l.invariant.3.here, λ j h. subst (λ (k : ℕ). At s j k (get_or l.cur j 0)) e (l.invariant.3.wait j (omega arith)))
 
 pub returns : goal.returns
 returns c =
     let l = c.loop-i in
     let s = c.args.sheet.now in
-    let n = c.args.n in
-    let r = c.in-Some-read_row in
+    let n = c.args.names.count in
+    let r = c.in_ok-next-2 in
     let e : l.i ≡ n - 1 = omega arith in
     let z : n - 1 + 1 ≡ n = omega arith in
-    λ t.
-    sheet_accepted c.requires.0 (rows_end c.requires.0.line.number z (λ a h. l.invariant.3.mirror a (omega arith)) r.ensures.row_read (eqb-true _ _ t)
+    sheet_accepted c.requires.0 (rows_end c.requires.0.line.number z (λ a h. l.invariant.3.mirror a (omega arith)) r.ensures.row_read c.if-next-sheet.false
     (subst (Rows (value s) c.args.pairs.now l.pairs) e l.invariant.5)
     (r.ensures.pairs_after ∙ ap (λ (k : ℕ). sets l.pairs k (map (value s (n - 1)) (below (suc (n - 1))))) (l.invariant.4 ∙ ap row_start e))
     c.requires.1)

@@ -18,17 +18,17 @@ returns-in_default c = rw (number_read c.ranges.kind c.in_ok-kind.ensures) at c.
 
 pub list_in-requires : goal.list_in-requires
 unfolding row_start
-list_in-requires c = (c.in-Some.ensures, omega (arith, row_start_mono {k = 8} c.if-n-le8.true), omega arith)
+list_in-requires c = (c.in-Some.ensures, omega (arith, row_start_mono {k = 8} c.if-names-le8.true), omega arith)
 
-pub returns-then-n-le8 : goal.returns-then-n-le8
-returns-then-n-le8 c = rw (number_read c.ranges.kind c.in_ok-kind.ensures) at c.list_in.ensures
+pub returns-then-names-le8 : goal.returns-then-names-le8
+returns-then-names-le8 c = rw (number_read c.ranges.kind c.in_ok-kind.ensures) at c.list_in.ensures
 
-pub list_in-requires-then-n-le16 : goal.list_in-requires-then-n-le16
+pub list_in-requires-then-names-le16 : goal.list_in-requires-then-names-le16
 unfolding row_start
-list_in-requires-then-n-le16 c = (c.in-Some.ensures, omega (arith, row_start_mono {k = 16} c.if-n-le16.true), omega arith)
+list_in-requires-then-names-le16 c = (c.in-Some.ensures, omega (arith, row_start_mono {k = 16} c.if-names-le16.true), omega arith)
 
-pub returns-then-n-le16 : goal.returns-then-n-le16
-returns-then-n-le16 c = rw (number_read c.ranges.kind c.in_ok-kind.ensures) at c.list_in-then-n-le16.ensures
+pub returns-then-names-le16 : goal.returns-then-names-le16
+returns-then-names-le16 c = rw (number_read c.ranges.kind c.in_ok-kind.ensures) at c.list_in-then-names-le16.ensures
 
 pub list_in-requires-2 : goal.list_in-requires-2
 unfolding row_start
