@@ -31,7 +31,7 @@ use Rattle.clusters.specs.Indices.{strong_index}
 use Rattle.clusters.proofs.PairList.{score_symm}
 use Rattle.matrix.specs.Rows.{number, Row, Cleared}
 use Rattle.matrix.proofs.Tables.{cleared_at}
-use Rattle.indices.specs.Asked.{SmallRow, Proper, Table}
+use Rattle.indices.specs.Asked.{Proper, Table}
 use Rattle.indices.specs.Margins.{margin, nearness, separation_from, least_margin, spread, Numbers, Parted, AtMost}
 use Rattle.indices.proofs.Margins.{a_member, an_other, strong_margins}
 use Rattle.indices.proofs.Values.{read, side_members, side_others, of_side, least_side, margin_beyond}
@@ -137,7 +137,7 @@ zeros n z y _ = within_equal (cleared_at z y) zero_within
 module _ {n A : ℕ} {inside outside : List ℤ} (l : List ℤ) where
   -- a loop over one side has found the least margin
   pub least_spread : Proper n A → (t : List ℤ) → Numbers n t → Parted n t A inside outside → {x i : ℕ} → x ≡ n → (inner : Bool)
-      → ((x : ℕ) → x < n → T (beq (has A x) inner) → SmallRow n l x)
+      → ((x : ℕ) → x < n → T (beq (has A x) inner) → (y : ℕ) → y < n → Within (2 ^ 22) (score l x y))
       → Run min_z top (λ y. beq (has A y) inner) (λ y. spread n (score l y) inside outside) x i → to_z w64 i ≡ least_margin n (score l) A t inner
   unfolding least_margin
   least_spread p t u v e inner small r =

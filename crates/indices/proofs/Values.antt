@@ -1,32 +1,32 @@
 -- The values that the loops over a pair list see are bounded; a loop finds the least of them.
-use mathlib.Core.Path.{◌≡◌, refl, sym, subst, ap, ap₂, ◌∙◌}
+use mathlib.Core.Path.{◌≡◌, refl, sym, subst, ap, ◌∙◌}
 use mathlib.Core.Bool.{Bool, true, false, not, beq}
 use mathlib.Core.List.{List, map}
 use Prim.Native.Nat.{ℕ, ◌+◌, ◌^◌, ◌<◌}
 use native.Mathlib.Omega.{arith}
-use Rattle.std.specs.Int.{int_max}
-use Rattle.integers.proofs.Operators.{operators}
 use lib.Dec.{T, lit<, lit≤}
+use lib.ListN.{length}
 use lib.IntN.{ℤ, ◌-ℤ◌}
-use mir.Syntax.{Width, w64}
+use mir.Syntax.{Width, w32, w64}
 use lib.Signed.{mag}
 use mir.Val.{SFits, of_z, to_z, hbits}
 use mir.Facts.{to_z-of_z}
 use Rattle.lists.specs.Lists.{◌∈◌, below, keep}
 use Rattle.lists.proofs.Lists.{below_lt, in_map, of_map, of_keep, keep_cong}
-use Rattle.integers.specs.Integers.{min_z, max_z, least, greatest}
+use Rattle.integers.specs.Integers.{min_z, least, greatest}
 use Rattle.integers.specs.Range.{Within, Bounded}
 use Rattle.integers.proofs.Least.{least_of, greatest_of}
-use Rattle.integers.proofs.Range.{within_grow, within_equal, within_difference, within_max, within_fits}
+use Rattle.integers.proofs.Range.{within_grow, within_equal, within_difference, within_fits}
 use Rattle.integers.proofs.Held.{Held, held_result, passed}
 use Rattle.integers.proofs.Running.{Run, run_yes, run_least}
 use Rattle.sets.specs.Sets.{has, ◌∋◌, members, others}
 use Rattle.sets.proofs.Sets.{has_yes, of_members, of_others}
 use Rattle.smallest.proofs.Tops.{top}
-use Rattle.clusters.specs.PairList.{score}
+use Rattle.clusters.specs.PairList.{place, score}
 use Rattle.clusters.proofs.Bounds.{score_within}
-use Rattle.matrix.specs.Rows.{number}
-use Rattle.indices.specs.Asked.{SmallRow, Proper}
+use Rattle.matrix.specs.Rows.{Scores, number}
+use Rattle.matrix.proofs.Places.{place_few, score_asked}
+use Rattle.indices.specs.Asked.{Proper}
 use Rattle.indices.specs.Margins.{margin, nearness, separation_from, Numbers}
 use Rattle.indices.proofs.Margins.{a_member, an_other}
 
@@ -55,21 +55,17 @@ module _ {n A k : ℕ} (p : Proper n A) {f : ℕ → ℤ} (b : (y : ℕ) → y <
 pub read : (w : Width) {k : ℕ} {r z : ℤ} → k < 2 ^ hbits w → r ≡ z → Within k z → to_z w (of_z w r) ≡ z
 read w lt e h = to_z-of_z {w = w} (within_fits w lt (within_equal e h)) ∙ e
 
--- a score less the larger of two, as the code reads them
-module _ {own v u m o x y : ℤ} (p : own ≡ o) (q : v ≡ x) (r : u ≡ y) (e : m ≡ int_max (to_z w64 (of_z w64 v)) (to_z w64 (of_z w64 u)))
-    (h : Within (2 ^ 22) o) (k : Within (2 ^ 22) x) (l : Within (2 ^ 22) y) where
-  larger_is : m ≡ max_z x y
-  larger_is = grind (arith, operators, p, q, r, e, h.low, h.top, k.low, k.top, l.low, l.top)
+-- where the pair of x and y stands
+pub stands : {n at : ℕ} {l : List ℤ} (x y : ℕ) → Scores n l → x < n → y < n → at ≡ place x y → (at < length l) × (at < 528)
+stands x y s h k e = (
+  omega (arith, e, (score_asked s {a = x} {b = y} h k).2),
+  omega (arith, e, place_few {a = x} {b = y} (omega (arith, h, s.few)) (omega (arith, k, s.few))),
+)
 
-  less_larger_reads : (to_z w64 (of_z w64 own) ≡ o) × (to_z w64 (of_z w64 m) ≡ max_z x y)
-  less_larger_reads = (read w64 (lit< tt) p h, read w64 (lit< tt) larger_is (within_max k l))
-
-  pub less_larger_fits : SFits w64 (to_z w64 (of_z w64 own) -ℤ to_z w64 (of_z w64 m))
-  less_larger_fits = let (f, g) = less_larger_reads in
-      within_fits w64 (lit< tt) (within_difference (within_equal f h) (within_equal g (within_max k l)))
-
-  pub less_larger : to_z w64 (of_z w64 (to_z w64 (of_z w64 own) -ℤ to_z w64 (of_z w64 m))) ≡ o -ℤ max_z x y
-  less_larger = let (f, g) = less_larger_reads in to_z-of_z {w = w64} less_larger_fits ∙ ap₂ ◌-ℤ◌ f g
+-- what the code reads there
+pub read_score : (l : List ℤ) (x y : ℕ) {at : ℕ} → at ≡ place x y → Within (2 ^ 22) (score l x y) → to_z w32 (of_z w32 (number l at)) ≡ score l x y
+unfolding score
+read_score l x y e h = read w32 (lit< tt) (ap (number l) e) h
 
 -- beyond every value: what a running least starts from
 pub top_held : Held w64 (of_z w64 top) top
@@ -123,12 +119,12 @@ module _ {n A : ℕ} (p : Proper n A) {f : ℕ → ℤ} {x i : ℕ} (e : x ≡ n
       run_least m (subst (λ (y : ℕ). Run min_z top (λ y. beq (has A y) inner) f y i) e r) (b y h t).top
 
 -- the values that the loops over a pair list see
-pub margin_beyond : {n A : ℕ} → Proper n A → (l t : List ℤ) → Numbers n t → (x : ℕ) → SmallRow n l x
+pub margin_beyond : {n A : ℕ} → Proper n A → (l t : List ℤ) → Numbers n t → (x : ℕ) → ((y : ℕ) → y < n → Within (2 ^ 22) (score l x y))
     → Within (2 ^ 30) (margin n (λ y. score l x y -ℤ number t y) A)
 margin_beyond p l t u x r = within_grow (lit≤ tt) (margin_within p (λ y h. within_difference (r y h) (u y h)))
 
 module _ {l : List ℤ} (s : Bounded (2 ^ 22) l) where
-  pub small_row : {n : ℕ} (x : ℕ) → SmallRow n l x
+  pub small_row : {n : ℕ} (x y : ℕ) → y < n → Within (2 ^ 22) (score l x y)
   small_row x y _ = score_within s x y
 
   nearness_within : (a x y : ℕ) → Within (2 ^ 23) (nearness (score l) a x y)

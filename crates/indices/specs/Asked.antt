@@ -3,14 +3,15 @@ use Rattle.std.specs.Prelude.{List, ℕ, ◌^◌, ◌≤◌, ◌<◌, ℤ, pos, 
 use Rattle.integers.specs.Range.{Within}
 use Rattle.sets.specs.Sets.{size, ◌∋◌}
 use Rattle.clusters.specs.PairList.{score}
+use Rattle.matrix.specs.declared.PairList.{PairList}
 
 -- the scores of x are far from the machine's limits
-abbrev pub SmallRow : ℕ → List ℤ → ℕ → Type 0
-SmallRow n l x = (y : ℕ) → y < n → Within (2 ^ 22) (score l x y)
+abbrev pub SmallRow : PairList → ℕ → Type 0
+SmallRow list x = (y : ℕ) → y < list.n → Within (2 ^ 22) (score list.pairs.now x y)
 
 -- those of each member of A are
-abbrev pub SmallRows : ℕ → List ℤ → ℕ → Type 0
-SmallRows n l A = (a : ℕ) → a < n → A ∋ a → SmallRow n l a
+abbrev pub SmallRows : PairList → ℕ → Type 0
+SmallRows list A = (a : ℕ) → a < list.n → A ∋ a → SmallRow list a
 
 -- a set of the n entries that is neither empty nor all of them
 pub record Proper (n A : ℕ) : Type 0 where

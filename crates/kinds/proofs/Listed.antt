@@ -9,6 +9,7 @@ use lib.Dec.{T, leb, ltb, lit≤}
 use lib.IntN.{ℤ, pos}
 use Rattle.lists.proofs.Tests.{false_T}
 use Rattle.integers.specs.Integers.{eq_z}
+use Rattle.integers.specs.Range.{Within}
 use Rattle.integers.proofs.Range.{within_grow}
 use Rattle.sets.specs.Sets.{◌∋◌, size}
 use Rattle.sets.proofs.Sizes.{size_wide}
@@ -22,7 +23,7 @@ use Rattle.clusters.proofs.Untouched.{of_untouched}
 use Rattle.interface.specs.Refusals.{wrong_unscored}
 use Rattle.matrix.specs.Checks.{Checked}
 use Rattle.matrix.specs.Rows.{Scores}
-use Rattle.indices.specs.Asked.{Proper, SmallRow}
+use Rattle.indices.specs.Asked.{Proper}
 use Rattle.kinds.specs.Kinds.{Scored, Accepted}
 
 module _ {least n A m : ℕ} (most : n ≤ 32) (low : A < 2 ^ n) (e : m ≡ size 32 A) where
@@ -42,7 +43,7 @@ pub accepted_range : {l : List ℤ} {n : ℕ} → Checked n l → T (not (has_un
 accepted_range {l} c t = scored_in_range l c.range t
 
 -- of the members of a set that no unscored pair touches
-pub untouched_small : {n : ℕ} {l : List ℤ} → Checked n l → (A : ℕ) → T (untouched n (score l) A) → (a : ℕ) → a < n → A ∋ a → SmallRow n l a
+pub untouched_small : {n : ℕ} {l : List ℤ} → Checked n l → (A : ℕ) → T (untouched n (score l) A) → (a : ℕ) → a < n → A ∋ a → (y : ℕ) → y < n → Within (2 ^ 22) (score l a y)
 unfolding one_point point_limit score_limit
 untouched_small {n} {l} c A t a ha ka y hy =
     let q = scored_is (of_untouched n (score l) A t a y ha hy ka) in

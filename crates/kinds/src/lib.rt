@@ -87,10 +87,11 @@ impl Kind {
             × T (untouched n (score pairs.now) set) }
         ensures { result ≡ index (kind_for self) n (score pairs.now) set }
     {
+        let list = PairList { n, pairs };
         match self {
-            Kind::Strong => indices::strong_index(n, pairs, set),
-            Kind::Clean => indices::clean_index(n, pairs, set),
-            Kind::Splits => indices::separation_index(n, pairs, set),
+            Kind::Strong => indices::strong_index(&list, set),
+            Kind::Clean => indices::clean_index(&list, set),
+            Kind::Splits => indices::separation_index(&list, set),
         }
     }
 }

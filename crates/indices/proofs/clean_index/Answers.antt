@@ -12,14 +12,14 @@ use Rattle.indices.proofs.clean_index.Goals.{After-size}
 use Rattle.indices.proofs.clean_index.Goals as goal
 
 -- the size of the set, as the code counts it
-size_is : (c : After-size) → let a = c.args in (c.size.result ≡ size a.n a.set) × (1 ≤ c.size.result) × (c.size.result < 32)
-size_is c = counted c.requires.0 c.requires.1 c.size.ensures
+size_is : (c : After-size) → let a = c.args in (c.size.result ≡ size a.list.now.n a.set) × (1 ≤ c.size.result) × (c.size.result < 32)
+size_is c = counted c.args.list.now.fits c.requires.0 c.size.ensures
 
 pub nearest-near-requires : goal.nearest-near-requires
-nearest-near-requires c = c.requires
+nearest-near-requires c = c.requires.1
 
 pub keep_all-requires : goal.keep_all-requires
-keep_all-requires c = let (long, near) = c.nearest-near.ensures in (c.requires.0, c.requires.2, long, near)
+keep_all-requires c = c.nearest-near.ensures
 
 pub overflow_sub-size : goal.overflow_sub-size
 overflow_sub-size c = omega (arith, (size_is c).1)
@@ -28,10 +28,10 @@ pub new-kept-requires : goal.new-kept-requires
 new-kept-requires c = let (_, some, few) = size_is c in omega arith
 
 pub total-requires : goal.total-requires
-total-requires c = subst (Bounded (2 ^ 30)) (sym (c.keep_all.ensures ∙ ap (keep_all _ _ _) c.new-kept.ensures)) (kept_within c.requires.1 c.requires.2 _)
+total-requires c = subst (Bounded (2 ^ 30)) (sym (c.keep_all.ensures ∙ ap (keep_all _ _ _) c.new-kept.ensures)) (kept_within c.requires.0 c.requires.1 _)
 
 -- one weight less than the set has entries
 pub returns : goal.returns
 returns c = let e = size_is (goal.at.returns c).After-size in
     passed w64 c.total.type_inv
-    (c.total.ensures ∙ ap sum (c.keep_all.ensures ∙ ap (keep_all _ _ _) c.new-kept.ensures) ∙ kept_clean c.requires.1 c.requires.2 _ (ap (λ (m : ℕ). m - 1) e.0))
+    (c.total.ensures ∙ ap sum (c.keep_all.ensures ∙ ap (keep_all _ _ _) c.new-kept.ensures) ∙ kept_clean c.requires.0 c.requires.1 _ (ap (λ (m : ℕ). m - 1) e.0))

@@ -13,10 +13,7 @@ loop-a-init c = (omega arith, kept_start)
 
 pub keep_before-requires : goal.keep_before-requires
 keep_before-requires c =
-    let (scores, small, long, near) = c.requires in record {
-      scores = (scores, small, omega arith);
-      n_in_bounds = (long, near, has_yes c.args.set c.loop-a.a (true_T (sym c.has.ensures ∙ c.if-has.true)));
-    }
+    (record { entry = (omega arith, has_yes c.args.set c.loop-a.a (true_T (sym c.has.ensures ∙ c.if-has.true))); near = c.requires })
 
 pub loop-a-preserved : goal.loop-a-preserved
 loop-a-preserved c =

@@ -13,10 +13,9 @@ loop-b-init c = (omega arith, kept_start)
 
 pub keep_pair-requires : goal.keep_pair-requires
 keep_pair-requires c =
-    let (scores, small, low) = c.requires.scores in
-    let (long, near, member) = c.requires.n_in_bounds in record {
-      scores = (scores, small, low, omega arith);
-      n_in_bounds = (long, near, member, has_yes c.args.set c.loop-b.b (true_T (sym c.has.ensures ∙ c.if-has.true)));
+    let (low, member) = c.requires.entry in record {
+      entries = (low, omega arith, member, has_yes c.args.set c.loop-b.b (true_T (sym c.has.ensures ∙ c.if-has.true)));
+      near = c.requires.near;
     }
 
 pub loop-b-preserved : goal.loop-b-preserved

@@ -7,12 +7,11 @@ use Rattle.indices.proofs.Triples.{pair_still}
 use Rattle.indices.proofs.keep_pair.Goals as goal
 
 pub least_weight-requires : goal.least_weight-requires
-least_weight-requires c = let g = c.requires in (g.scores.0, g.scores.1, g.scores.2, g.scores.3, g.n_in_bounds.0)
+least_weight-requires c = let (ha, hb, _, _) = c.requires.entries in (ha, hb, c.requires.near.0)
 
 pub returns-else-not-at_most : goal.returns-else-not-at_most
 returns-else-not-at_most c =
     let x = c.args in
-    let (_, _, ha, hb) = c.requires.scores in
-    let (_, near, ma, mb) = c.requires.n_in_bounds in
-    sym (pair_still x.n (score x.pairs.now) x.set x.kept.now x.near.now near ha hb ma mb
+    let (ha, hb, ma, mb) = c.requires.entries in
+    sym (pair_still x.list.now.n (score x.list.now.pairs.now) x.set x.kept.now x.near.now c.requires.near.1 ha hb ma mb
     (passed w64 c.least_weight.type_inv c.least_weight.ensures) (c.at_most.ensures.unchanged (true_T c.if-not-at_most.false)))

@@ -19,27 +19,26 @@ use Rattle.indices.proofs.nearest.Goals.{then-has, else-has}
 use Rattle.indices.proofs.nearest.Goals as goal
 
 pub part-requires : goal.part-requires
-part-requires c = let h = c.requires.0.few in (lit< tt, (h, h, omega arith, zeros _ {t = replicate 32 (pos 0)} refl))
+part-requires c = let h = c.args.list.now.fits.few in (lit< tt, (h, h, omega arith, zeros _ {t = replicate 32 (pos 0)} refl))
 
 pub loop-a-init : goal.loop-a-init
 loop-a-init c = (omega arith, refl, λ a h. absurd (omega arith))
 
 pub greatest_of-requires : goal.greatest_of-requires
-greatest_of-requires c = let (scores, _, small) = c.requires in (lit< tt, (scores, omega arith, scores.few, small_row small _))
+greatest_of-requires c = (lit< tt, (omega arith, c.args.list.now.fits.few, small_row c.requires _))
 
 pub loop-a-preserved : goal.loop-a-preserved
 loop-a-preserved c =
-    let g = c.requires in
     let l = c.loop-a in
     let i = l.invariant in
     let t = sym c.has.ensures in
-    let near : List ℤ → Type 0 = Near c.args.n (score c.args.pairs.now) c.args.set (l.a + 1) in
+    let near : List ℤ → Type 0 = Near c.args.list.now.n (score c.args.list.now.pairs.now) c.args.set (l.a + 1) in
     elim c.if-has.branch [
       | then-has w ↦ (
         omega arith,
         ap length w.found-is ∙ length-set l.found l.a _ ∙ i.1,
-        subst near (sym w.found-is) (near_more l.found i.2 (omega (arith, i.1, g.0.few)) λ c' k o.
-            omega (zarith, passed w32 {z = w.greatest_of.result} w.greatest_of.type_inv refl, near_most c.args.pairs.now refl c.part.ensures l.a w.greatest_of.ensures c' k o)),
+        subst near (sym w.found-is) (near_more l.found i.2 (omega (arith, i.1, c.args.list.now.fits.few)) λ c' k o.
+            omega (zarith, passed w32 {z = w.greatest_of.result} w.greatest_of.type_inv refl, near_most c.args.list.now.pairs.now refl c.part.ensures l.a w.greatest_of.ensures c' k o)),
       )
       | else-has w ↦ (
         omega arith,
@@ -49,4 +48,4 @@ loop-a-preserved c =
     ]
 
 pub returns : goal.returns
-returns c = let l = c.loop-a in (omega (arith, l.invariant.1, c.requires.0.few), λ a h. l.invariant.2 a (omega arith))
+returns c = let l = c.loop-a in (omega (arith, l.invariant.1, c.args.list.now.fits.few), λ a h. l.invariant.2 a (omega arith))

@@ -6,7 +6,7 @@ use Rattle.indices.specs.Triples.{Near}
 use Rattle.indices.proofs.nearest.Given as goal
 
 abbrev pub invariant-loop-a : goal.invariant-loop-a
-invariant-loop-a l = (l.a ≤ l.n) × (length l.found ≡ 32) × Near l.n (score l.pairs) l.set l.a l.found
+invariant-loop-a l = (l.a ≤ l.list.n) × (length l.found ≡ 32) × Near l.list.n (score l.list.pairs.now) l.set l.a l.found
 
 abbrev pub decreases-loop-a : goal.decreases-loop-a
-decreases-loop-a l = l.n - l.a
+decreases-loop-a l = l.list.n - l.a

@@ -21,15 +21,15 @@ pub loop-a-init : goal.loop-a-init
 loop-a-init g c = (omega arith, omega (arith, length-replicate g.row.N (pos 0)), run_start top_held)
 
 pub put_row-requires : goal.put_row-requires
-put_row-requires g c = (c.requires.0, omega arith, c.loop-a.invariant.1)
+put_row-requires g c = (omega arith, c.loop-a.invariant.1)
 
 pub least_margin-requires : goal.least_margin-requires
-least_margin-requires g c = let (scores, proper, small, fit, _) = c.requires in
+least_margin-requires g c = let (proper, small, fit, _) = c.requires in
     let i = c.loop-a.invariant in (
       omega arith,
       (
-        (scores, proper, λ x _ _. small_row small x),
-        (fit, omega (arith, c.put_row.auto.row, i.1), λ y h. within_equal (c.put_row.ensures y h) (small_row small _ y h)),
+        (fit, proper, λ x _ _. small_row small x),
+        (omega (arith, c.put_row.auto.row, i.1), λ y h. within_equal (c.put_row.ensures y h) (small_row small _ y h)),
       ),
     )
 
@@ -43,14 +43,14 @@ loop-a-preserved g c =
         omega (arith, l.invariant.1, w.put_row.auto.row, ap length w.numbers-is),
         run_next l.invariant.2 (sfits_to_z l.auto.least-fits) (t ∙ w.if-has.true) w.least-is w.min-least.type_inv
             (w.min-least.ensures.value ∙ min_is _ _ ∙ ap (min_z _) (passed w64 w.least_margin.type_inv (w.least_margin.ensures
-            ∙ separation_least c.args.pairs.now c.requires.1 w.put_row.new.row l.a w.put_row.ensures))),
+            ∙ separation_least c.args.list.now.pairs.now c.requires.0 w.put_row.new.row l.a w.put_row.ensures))),
       )
       | else-has w ↦ (omega arith, omega (arith, l.invariant.1, ap length w.numbers-is), run_no l.invariant.2 (t ∙ w.if-has.false) (ap (of_z w64) w.least-is))
     ]
 
 pub returns : goal.returns
 returns g c =
-    let (_, proper, small, _, _) = c.requires in
+    let (proper, small, _, _) = c.requires in
     sym (to_z-of_z {w = w64} (sfits_to_z c.loop-a.auto.least-fits))
     ∙ least_member proper (omega arith) (separation_beyond small proper) c.loop-a.invariant.2
-    ∙ separation_margins c.args.n (score c.args.pairs.now) c.args.set proper
+    ∙ separation_margins c.args.list.now.n (score c.args.list.now.pairs.now) c.args.set proper

@@ -11,8 +11,8 @@ use Rattle.indices.specs.Margins.{separation_from}
 use Rattle.indices.proofs.separation_in.Given as goal
 
 abbrev pub invariant-loop-a : goal.invariant-loop-a
-invariant-loop-a g l = (l.a ≤ l.n) × (l.n ≤ length l.numbers)
-    × Run min_z top (has l.set) (separation_from l.n (score l.pairs) l.set) l.a (of_z w64 l.least)
+invariant-loop-a g l = (l.a ≤ l.list.n) × (l.list.n ≤ length l.numbers)
+    × Run min_z top (has l.set) (separation_from l.list.n (score l.list.pairs.now) l.set) l.a (of_z w64 l.least)
 
 abbrev pub decreases-loop-a : goal.decreases-loop-a
-decreases-loop-a g l = l.n - l.a
+decreases-loop-a g l = l.list.n - l.a

@@ -6,5 +6,5 @@ use Rattle.indices.proofs.Sides.greatest_of.Goals as goal
 pub returns : goal.returns
 returns g c y h =
     let (inside, outside) = c.args.self.now.tables in
-    let e = seen_greatest c.requires.3 (omega arith) c.requires.2 inside outside c.extremes_of.ensures y h in
+    let e = seen_greatest c.requires.2 (omega arith) c.requires.1 inside outside c.extremes_of.ensures y h in
     grind (arith, operators, e)

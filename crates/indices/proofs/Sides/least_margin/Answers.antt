@@ -15,7 +15,7 @@ use Rattle.indices.proofs.Sides.least_margin.Goals.{then-has-inner, else-has-inn
 use Rattle.indices.proofs.Sides.least_margin.Goals as goal
 
 pub part-requires : goal.part-requires
-part-requires g c = let (fit, numbers, small) = c.requires.numbers in (omega arith, (c.requires.scores.0.few, fit, numbers, small))
+part-requires g c = let (numbers, small) = c.requires.numbers in (omega arith, (c.args.list.now.fits.few, c.requires.scores.0, numbers, small))
 
 pub loop-x-init : goal.loop-x-init
 loop-x-init g c = (omega arith, run_start top_held)
@@ -24,7 +24,7 @@ pub spread-requires : goal.spread-requires
 spread-requires g c =
     let p = c.requires.scores in
     let side = ap (λ (b : Bool). beq b c.args.inner) c.has.ensures in
-    (omega arith, (p.0, omega arith, c.requires.numbers.0, p.2 _ (omega arith) (true_T (sym side ∙ c.if-has-inner.true))))
+    (omega arith, (omega arith, p.0, p.2 _ (omega arith) (true_T (sym side ∙ c.if-has-inner.true))))
 
 pub loop-x-preserved : goal.loop-x-preserved
 loop-x-preserved g c =
@@ -43,4 +43,4 @@ pub returns : goal.returns
 returns g c =
     let p = c.requires.scores in
     sym (to_z-of_z {w = w64} (sfits_to_z c.loop-x.auto.least-fits))
-    ∙ least_spread c.args.pairs.now p.1 _ c.requires.numbers.2 c.part.ensures (omega arith) c.args.inner p.2 c.loop-x.invariant.1
+    ∙ least_spread c.args.list.now.pairs.now p.1 _ c.requires.numbers.1 c.part.ensures (omega arith) c.args.inner p.2 c.loop-x.invariant.1

@@ -11,8 +11,8 @@ use Rattle.indices.specs.Margins.{spread}
 use Rattle.indices.proofs.Sides.least_margin.Given as goal
 
 abbrev pub invariant-loop-x : goal.invariant-loop-x
-invariant-loop-x g l = (l.x ≤ l.n)
-    × Run min_z top (λ x'. beq (has l.set x') l.inner) (λ x'. spread l.n (score l.pairs x') l.self.inside l.self.outside) l.x (of_z w64 l.least)
+invariant-loop-x g l = (l.x ≤ l.list.n)
+    × Run min_z top (λ x'. beq (has l.set x') l.inner) (λ x'. spread l.list.n (score l.list.pairs.now x') l.self.inside l.self.outside) l.x (of_z w64 l.least)
 
 abbrev pub decreases-loop-x : goal.decreases-loop-x
-decreases-loop-x g l = l.n - l.x
+decreases-loop-x g l = l.list.n - l.x

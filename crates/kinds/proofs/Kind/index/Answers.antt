@@ -21,9 +21,11 @@ use Rattle.kinds.proofs.Kind.index.Goals as goal
 small : {n : ℕ} {l : List ℤ} → Checked n l → T (not (has_unscored l)) → Bounded (2 ^ 22) l
 small {l} checked t = range_bounded l (accepted_range checked t)
 
+pub invariant_of-list : goal.invariant_of-list
+invariant_of-list c = record { fits = checked_scores c.requires.0.checked }
+
 pub strong_index-requires : goal.strong_index-requires
 strong_index-requires c = let r = c.requires in (
-  checked_scores r.0.checked,
   spoken c.args.n c.args.set r.1 (kind_for c.args.self) r.2,
   untouched_small r.0.checked c.args.set r.3,
 )
@@ -31,7 +33,6 @@ strong_index-requires c = let r = c.requires in (
 pub clean_index-requires : goal.clean_index-requires
 unfolding kind_for
 clean_index-requires c = let r = c.requires in (
-  checked_scores r.0.checked,
   spoken c.args.n c.args.set r.1 (kind_for c.args.self) r.2,
   small r.0.checked (subst (λ (k : Kind). Scored (kind_for k) c.args.pairs.now) c.in-Clean.is r.0.scored),
 )
@@ -39,7 +40,6 @@ clean_index-requires c = let r = c.requires in (
 pub separation_index-requires : goal.separation_index-requires
 unfolding kind_for
 separation_index-requires c = let r = c.requires in (
-  checked_scores r.0.checked,
   spoken c.args.n c.args.set r.1 (kind_for c.args.self) r.2,
   small r.0.checked (subst (λ (k : Kind). Scored (kind_for k) c.args.pairs.now) c.in-Splits.is r.0.scored),
 )
