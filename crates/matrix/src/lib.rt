@@ -2,7 +2,7 @@
 // 01, Where a call is turned away; document 02, 2.2).
 #![tactic(auto, using(integers::proofs::Operators::operators))]
 
-ghost use Rattle.std.specs.Prelude.{◌≡◌, ◌+◌, ◌^◌, ◌<◌, ◌≤◌, pos, length, get_or};
+ghost use Rattle.std.specs.Prelude.{◌≡◌, ◌+◌, ◌^◌, ◌<◌, ◌≤◌, pos, length};
 ghost use Rattle.std.specs.Int.Signed.{le_z};
 ghost use Rattle.lists.specs.Lists.{all, below};
 ghost use Rattle.integers.specs.Integers.{eq_z};
@@ -65,12 +65,14 @@ pub fn next_place(at: usize, a: usize, b: usize) -> usize
     if b < a { at + 1 } else { at + b + 1 }
 }
 
-// The value at a place.
-pub fn value(pairs: &[i32], i: usize) -> i64
-    requires { i < length pairs.now }
-    ensures { result ≡ get_or pairs.now i (pos 0) }
+// The score of a and b, in a list of any length; it has 32 bits, so that sums of a few do not wrap.
+#[tactic(auto, using(integers::proofs::Operators::operators), unfolding(clusters::specs::PairList::score))]
+pub fn score(pairs: &[i32], a: usize, b: usize) -> i64
+    requires { (a < 32) × (b < 32) × (place a b < length pairs.now) }
+    ensures value { result ≡ score pairs.now a b }
+    ensures narrow { Within (2 ^ 31) result }
 {
-    i64::from(pairs[i])
+    i64::from(pairs[place_of(a, b)])
 }
 
 // The pair of a and b, as the list has it.
@@ -180,14 +182,13 @@ fn are_not_negative(pairs: &[i32]) -> bool
 }
 
 impl<'a> PairList<'a> {
-    // The score of a and b; it has 32 bits, so that sums of a few do not wrap.
-    #[tactic(auto, using(integers::proofs::Operators::operators), unfolding(clusters::specs::PairList::score))]
+    // The score of a and b.
     pub fn score(&self, a: usize, b: usize) -> i64
         requires { (a < self.now.n) × (b < self.now.n) }
         ensures value { result ≡ score self.now.pairs.now a b }
         ensures narrow { Within (2 ^ 31) result }
     {
-        i64::from(self.pairs[place_of(a, b)])
+        score(self.pairs, a, b)
     }
 
     // Puts the scores of a into a table, one for each entry.
@@ -247,23 +248,6 @@ impl<'a> PairList<'a> {
     {
         are_not_negative(self.pairs) && self.are_own_zero()
     }
-}
-
-// The score of a and b, by the list alone.
-#[tactic(auto, using(integers::proofs::Operators::operators), unfolding(clusters::specs::PairList::score))]
-pub fn score(pairs: &[i32], a: usize, b: usize) -> i64
-    requires { (a < 32) × (b < 32) × (place a b < length pairs.now) }
-    ensures { result ≡ score pairs.now a b }
-{
-    value(pairs, place_of(a, b))
-}
-
-// The scores of a into a table, by the list and its number of entries.
-pub fn put_row(row: &mut [i32], n: usize, pairs: &[i32], a: usize)
-    requires { Scores n pairs.now × (a < n) × (n ≤ length row.old) }
-    ensures { Row n (score pairs.now a) row.new }
-{
-    PairList { n, pairs }.put_row(row, a);
 }
 
 // Checks 6, 10, 11, 16 and 12, of the calls that take distances, judged as kind 3.
