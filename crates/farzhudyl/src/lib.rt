@@ -15,22 +15,23 @@ ghost use Rattle.farzhudyl.specs.Pairs.{PairsListed};
 use accept::Names;
 use answers::Refusal;
 use kinds::Kind;
+use matrix::PairList;
 
 // The listing of a pair list, or the first of checks 11, 16, 12 and 14 that refuses.
-fn list_pairs(kind: Kind, n: usize, pairs: &[i32], out: &mut [u8]) -> Result<usize, Refusal>
-    requires { (1 ≤ n) × (n ≤ 32) × (length pairs.now ≡ row_start n) }
-    ensures { PairsListed (number_for kind) n pairs.now out.old result out.new }
+fn list_pairs(kind: Kind, list: &PairList<'_>, out: &mut [u8]) -> Result<usize, Refusal>
+    requires { 1 ≤ list.now.n }
+    ensures { PairsListed (number_for kind) list.now.n list.now.pairs.now out.old result out.new }
 {
-    if !matrix::scores_in_range(pairs) {
+    if !matrix::scores_in_range(list.pairs) {
         return Err(Refusal::OutOfRange);
     }
-    if kind.has_wrong_unscored(pairs) {
+    if kind.has_wrong_unscored(list.pairs) {
         return Err(Refusal::Unscored);
     }
-    if kind.are_wrong_distances(n, pairs) {
+    if kind.are_wrong_distances(list) {
         return Err(Refusal::NoDistances);
     }
-    let found = groups::of_kind(kind, n, pairs);
+    let found = groups::of_kind(kind, list);
     listing::hand_listing(found.as_slice(), out)
 }
 
@@ -41,7 +42,11 @@ fn list_checked(kind: Kind, sheet: &[u8], out: &mut [u8]) -> Result<usize, Refus
     let mut pairs = [0i32; 528];
     let n = reader::read_checked(sheet, &mut pairs)?;
     let count = matrix::pair_count(n);
-    list_pairs(kind, n, &pairs[..count], out)
+    let list = PairList {
+        n,
+        pairs: &pairs[..count],
+    };
+    list_pairs(kind, &list, out)
 }
 
 // The same in one pass where that will do, with slots for the pair list: the names are read.
@@ -59,7 +64,11 @@ fn list_with(
         return list_checked(kind, sheet, out);
     };
     let count = matrix::pair_count(n);
-    list_pairs(kind, n, &pairs[..count], out)
+    let list = PairList {
+        n,
+        pairs: &pairs[..count],
+    };
+    list_pairs(kind, &list, out)
 }
 
 // The same, with N slots: an array is cleared whole.

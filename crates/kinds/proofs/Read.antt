@@ -48,6 +48,10 @@ is_of Splits e = rw (sym e) (refl, refl)
 pub number_read : {k number : ℤ} → SFits w32 number → k ≡ to_z w32 (of_z w32 number) → k ≡ number
 number_read f e = e ∙ to_z-of_z f
 
+-- so it is that of the number
+pub kind_read : (k : Kind) {number : ℤ} → SFits w32 number → number_for k ≡ to_z w32 (of_z w32 number) → kind_for k ≡ kind_of number
+kind_read k f e = (is_of k (number_read f e)).1
+
 pub said : {r t : Bool} {k number : ℤ} (test : ℤ → Bool) → k ≡ number → r ≡ test k → r ≡ t → test number ≡ t
 said test e f p = ap test (sym e) ∙ sym f ∙ p
 

@@ -1,9 +1,9 @@
 // Kinds: what each speaks of, and its index.
 #![tactic(auto)]
 
-ghost use Rattle.std.specs.Prelude.{◌≡◌, ◌&&◌, ◌<◌, ◌≤◌, ◌^◌, T, leb, length};
+ghost use Rattle.std.specs.Prelude.{◌≡◌, ◌&&◌, ◌<◌, ◌≤◌, ◌^◌, T, leb};
 ghost use Rattle.sets.specs.Sets.{size};
-ghost use Rattle.clusters.specs.PairList.{row_start, score};
+ghost use Rattle.clusters.specs.PairList.{score};
 ghost use Rattle.clusters.specs.Touched.{untouched};
 ghost use Rattle.clusters.specs.Groups.{index, kind_of, proper, speaks_of};
 ghost use Rattle.interface.specs.Refusals.{wrong_unscored, wrong_distances};
@@ -62,11 +62,10 @@ impl Kind {
     }
 
     // Check 12.
-    pub fn are_wrong_distances(self, n: usize, pairs: &[i32]) -> bool
-        requires { (n ≤ 32) × (length pairs.now ≡ row_start n) }
-        ensures { result ≡ wrong_distances (number_for self) n pairs.now }
+    pub fn are_wrong_distances(self, list: &PairList<'_>) -> bool
+        ensures { result ≡ wrong_distances (number_for self) list.now.n list.now.pairs.now }
     {
-        self == Kind::Splits && !(PairList { n, pairs }).are_distances()
+        self == Kind::Splits && !list.are_distances()
     }
 
     // The sets that the kind speaks of.
@@ -82,16 +81,17 @@ impl Kind {
     }
 
     // The index of a set that the kind speaks of and no unscored pair touches.
-    pub fn index(self, n: usize, pairs: &[i32], set: u32) -> i64
-        requires { Accepted (kind_for self) n pairs.now × (set < 2 ^ n) × T (speaks_of (kind_for self) n set)
-            × T (untouched n (score pairs.now) set) }
-        ensures { result ≡ index (kind_for self) n (score pairs.now) set }
+    pub fn index(self, list: &PairList<'_>, set: u32) -> i64
+        requires accepted { Accepted (kind_for self) list.now.n list.now.pairs.now }
+        requires fits { set < 2 ^ list.now.n }
+        requires spoken { T (speaks_of (kind_for self) list.now.n set) }
+        requires untouched { T (untouched list.now.n (score list.now.pairs.now) set) }
+        ensures { result ≡ index (kind_for self) list.now.n (score list.now.pairs.now) set }
     {
-        let list = PairList { n, pairs };
         match self {
-            Kind::Strong => indices::strong_index(&list, set),
-            Kind::Clean => indices::clean_index(&list, set),
-            Kind::Splits => indices::separation_index(&list, set),
+            Kind::Strong => indices::strong_index(list, set),
+            Kind::Clean => indices::clean_index(list, set),
+            Kind::Splits => indices::separation_index(list, set),
         }
     }
 }
@@ -102,8 +102,5 @@ fn has_size(least: usize, n: usize, set: u32) -> bool
     ensures { result ≡ (leb least (size n set) && proper n set) }
 {
     let size = sets::size(set);
-    if size < least {
-        return false;
-    }
-    size < n
+    least <= size && size < n
 }

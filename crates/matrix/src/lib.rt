@@ -21,7 +21,7 @@ use answers::Refusal;
 use pairs::Pair;
 
 // A pair list as lent, of n entries.
-#[derive(Clone, Copy, Debug)]
+#[derive(Clone, Copy, Debug, PartialEq, Eq)]
 pub struct PairList<'a> {
     pub n: usize,
     pub pairs: &'a [i32],

@@ -1,20 +1,23 @@
 // The smallest group that two entries share (document 02, 2.1).
 #![tactic(auto)]
 
-ghost use Rattle.std.specs.Prelude.{◌≡◌, ◌<◌, ◌≤◌};
+ghost use Rattle.std.specs.Prelude.{◌≡◌, ◌<◌, ◌≤◌, IfOk};
 ghost use Rattle.clusters.specs.Groups.{sets_of};
 ghost use Rattle.clusters.specs.Nesting.{holds_both, smallest_shared};
 ghost use Rattle.answers.specs.Answers.{number_of};
+ghost use Rattle.kinds.specs.Kinds.{number_for};
 ghost use Rattle.interface.specs.Refusals.{shared_refusal};
 ghost use Rattle.interface.specs.Calls.{SharedCall};
 
 use answers::Refusal;
 use clusters::{Group, Hit};
 use kinds::Kind;
+use matrix::PairList;
 
-// The checks of the call. Line 12 is of kind 3, which line 1 refuses.
-fn check_shared(kind: i32, n: usize, pairs: &[i32], a: usize, b: usize) -> Result<(), Refusal>
-    ensures { number_of result ≡ shared_refusal kind n pairs.now a b }
+// The checks of the call, and the kind that it is for. Line 12 is of kind 3, which line 1 refuses.
+fn check_shared(kind: i32, n: usize, pairs: &[i32], a: usize, b: usize) -> Result<Kind, Refusal>
+    ensures refusal { number_of result ≡ shared_refusal kind n pairs.now a b }
+    ensures kind { IfOk result (λ k. number_for k ≡ kind) }
 {
     let kind = Kind::of_groups(kind)?;
     matrix::check_pairs(n, pairs)?;
@@ -24,7 +27,7 @@ fn check_shared(kind: i32, n: usize, pairs: &[i32], a: usize, b: usize) -> Resul
     if matrix::are_wrong_entries(n, a, b) {
         return Err(Refusal::OutOfPlace);
     }
-    Ok(())
+    Ok(kind)
 }
 
 fn holds_both(set: u32, a: usize, b: usize) -> bool
@@ -62,7 +65,7 @@ pub fn smallest_shared(
 ) -> Result<Hit, Refusal>
     ensures { SharedCall kind n pairs.now a b result }
 {
-    check_shared(kind, n, pairs, a, b)?;
-    let found = groups::find(kind, n, pairs);
+    let kind = check_shared(kind, n, pairs, a, b)?;
+    let found = groups::of_kind(kind, &PairList { n, pairs });
     Ok(first_shared(found.as_slice(), n, a, b))
 }

@@ -22,32 +22,34 @@ fn put_singles(n: usize, out: &mut [u32])
 }
 
 // The merged blocks for splits: the tree is that of the scores anchored at the first entry.
-fn merge_anchored(n: usize, pairs: &[i32], out: &mut [u32])
-    requires { Accepted splits n pairs.now × (n - 1 ≤ length out.old) }
-    ensures { Merged splits n pairs.now out.old out.new }
+fn merge_anchored(list: &PairList<'_>, out: &mut [u32])
+    requires { Accepted splits list.now.n list.now.pairs.now × (list.now.n - 1 ≤ length out.old) }
+    ensures { Merged splits list.now.n list.now.pairs.now out.old out.new }
 {
     let mut anchored = [0i32; 528];
-    farris::anchor(&PairList { n, pairs }, 0, &mut anchored);
-    let count = matrix::pair_count(n);
-    linkage::merge_all(Method::Single, n, &anchored[..count], out);
+    farris::anchor(list, 0, &mut anchored);
+    let count = matrix::pair_count(list.n);
+    linkage::merge_all(Method::Single, list.n, &anchored[..count], out);
 }
 
-fn merge(kind: Kind, n: usize, pairs: &[i32], out: &mut [u32])
-    requires { Accepted (kind_for kind) n pairs.now × (n - 1 ≤ length out.old) }
-    ensures { Merged (kind_for kind) n pairs.now out.old out.new }
+fn merge(kind: Kind, list: &PairList<'_>, out: &mut [u32])
+    requires { Accepted (kind_for kind) list.now.n list.now.pairs.now × (list.now.n - 1 ≤ length out.old) }
+    ensures { Merged (kind_for kind) list.now.n list.now.pairs.now out.old out.new }
 {
     match kind {
-        Kind::Strong => linkage::merge_all(Method::Single, n, pairs, out),
-        Kind::Clean => linkage::merge_all(Method::Average, n, pairs, out),
-        Kind::Splits => merge_anchored(n, pairs, out),
+        Kind::Strong => linkage::merge_all(Method::Single, list.n, list.pairs, out),
+        Kind::Clean => linkage::merge_all(Method::Average, list.n, list.pairs, out),
+        Kind::Splits => merge_anchored(list, out),
     }
 }
 
 // The single entries and the merged blocks.
-pub fn put_blocks(kind: Kind, n: usize, pairs: &[i32], out: &mut [u32])
-    requires { Accepted (kind_for kind) n pairs.now × (n + (n - 1) ≤ length out.old) }
-    ensures { Blocks (kind_for kind) n pairs.now (take (n + (n - 1)) out.new) }
+pub fn put_blocks(kind: Kind, list: &PairList<'_>, out: &mut [u32])
+    requires { Accepted (kind_for kind) list.now.n list.now.pairs.now
+        × (list.now.n + (list.now.n - 1) ≤ length out.old) }
+    ensures { Blocks (kind_for kind) list.now.n list.now.pairs.now
+        (take (list.now.n + (list.now.n - 1)) out.new) }
 {
-    put_singles(n, out);
-    merge(kind, n, pairs, &mut out[n..]);
+    put_singles(list.n, out);
+    merge(kind, list, &mut out[list.n..]);
 }

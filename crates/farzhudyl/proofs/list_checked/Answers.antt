@@ -16,14 +16,17 @@ pub slice_bounds-pairs-end : goal.slice_bounds-pairs-end
 slice_bounds-pairs-end c = let r = c.in_ok-n.ensures in
     pairs_fit _ r.answered _ c.pair_count-count.ensures (pairs_read _ r.answered _ r.written c.pair_count-count.ensures)
 
-pub slice_bounds-list_pairs-end : goal.slice_bounds-list_pairs-end
-slice_bounds-list_pairs-end c = let r = c.in_ok-n.ensures in
+pub slice_bounds-list-end : goal.slice_bounds-list-end
+slice_bounds-list-end c = let r = c.in_ok-n.ensures in
     c.pair_count-count.ensures ∙ sym (pairs_long _ r.answered (pairs_read _ r.answered _ r.written c.pair_count-count.ensures))
 
-pub list_pairs-requires : goal.list_pairs-requires
-list_pairs-requires c = let r = c.in_ok-n.ensures in
+pub invariant_of-list : goal.invariant_of-list
+invariant_of-list c = let r = c.in_ok-n.ensures in
     let p = pairs_read _ r.answered _ r.written c.pair_count-count.ensures in
-    (some_entries _ r.answered, few_entries _ r.answered, pairs_long _ r.answered p)
+    record { fits = record { few = few_entries _ r.answered; long = pairs_long _ r.answered p } }
+
+pub list_pairs-requires : goal.list_pairs-requires
+list_pairs-requires c = some_entries _ c.in_ok-n.ensures.answered
 
 pub returns : goal.returns
 returns c = let r = c.in_ok-n.ensures in

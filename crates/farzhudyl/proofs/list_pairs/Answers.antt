@@ -65,7 +65,7 @@ pub of_kind-found-requires : goal.of_kind-found-requires
 of_kind-found-requires c =
     let range = true_T (sym c.scores_in_range.ensures ∙ c.if-not-scores_in_range.false) in
     let sixteen = sym c.has_wrong_unscored.ensures ∙ c.if-has_wrong_unscored.false in
-    let checked : Checked c.args.n c.args.pairs.now = record { some = c.requires.0; few = c.requires.1; long = c.requires.2; range = range } in
+    let checked : Checked c.args.list.now.n c.args.list.now.pairs.now = record { some = c.requires; few = c.args.list.now.fits.few; long = c.args.list.now.fits.long; range = range } in
     rw (is_of c.args.kind refl).1 (accepted (number_for c.args.kind) checked sixteen)
 
 pub hand_listing-requires : goal.hand_listing-requires
@@ -79,5 +79,5 @@ returns c =
     let sixteen = sym c.has_wrong_unscored.ensures ∙ c.if-has_wrong_unscored.false in
     let twelve = sym c.are_wrong_distances.ensures ∙ c.if-are_wrong_distances.false in
     let (a, t) = handed_over refl (gives (first_no eleven (first_no sixteen (first_no twelve (record { is = refl })))))
-    (handed c.args.kind c.args.n c.args.pairs.now _ (c.as_slice.ensures.value ∙ c.of_kind-found.ensures) c.requires.1 c.hand_listing.ensures) in
+    (handed c.args.kind c.args.list.now.n c.args.list.now.pairs.now _ (c.as_slice.ensures.value ∙ c.of_kind-found.ensures) c.args.list.now.fits.few c.hand_listing.ensures) in
     record { answered = a; written = t }

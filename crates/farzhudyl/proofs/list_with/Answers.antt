@@ -12,26 +12,29 @@ pair_count-count-requires c =
     let f = accepted_answer r in
     few_entries _ f
 
-pub slice_bounds-list_pairs-end : goal.slice_bounds-list_pairs-end
-slice_bounds-list_pairs-end c =
+pub slice_bounds-list-end : goal.slice_bounds-list-end
+slice_bounds-list-end c =
     let r = c.in-Some.ensures in
     let f = accepted_answer r in
     let p : take c.pair_count-count.result c.read_rows.new.pairs ≡ pairs c.args.sheet.now = accepted_pairs r c.pair_count-count.ensures in
     pairs_fit _ f _ c.pair_count-count.ensures p
 
-pub slice_bounds-list_pairs-end-2 : goal.slice_bounds-list_pairs-end-2
-slice_bounds-list_pairs-end-2 c =
+pub slice_bounds-list-end-2 : goal.slice_bounds-list-end-2
+slice_bounds-list-end-2 c =
     let r = c.in-Some.ensures in
     let f = accepted_answer r in
     let p : take c.pair_count-count.result c.read_rows.new.pairs ≡ pairs c.args.sheet.now = accepted_pairs r c.pair_count-count.ensures in
     c.pair_count-count.ensures ∙ sym (pairs_long _ f p)
 
-pub list_pairs-requires : goal.list_pairs-requires
-list_pairs-requires c =
+pub invariant_of-list : goal.invariant_of-list
+invariant_of-list c =
     let r = c.in-Some.ensures in
     let f = accepted_answer r in
     let p : take c.pair_count-count.result c.read_rows.new.pairs ≡ pairs c.args.sheet.now = accepted_pairs r c.pair_count-count.ensures in
-    (some_entries _ f, few_entries _ f, pairs_long _ f p)
+    record { fits = record { few = few_entries _ f; long = pairs_long _ f p } }
+
+pub list_pairs-requires : goal.list_pairs-requires
+list_pairs-requires c = some_entries _ (accepted_answer (c.in-Some.ensures))
 
 pub returns : goal.returns
 returns c =

@@ -9,38 +9,38 @@ use Rattle.kinds.proofs.Read.{number_read, said}
 use Rattle.shared.proofs.Answers.{no_distances}
 use Rattle.shared.proofs.check_shared.Goals as goal
 
-pub returns-in_err-kind : goal.returns-in_err-kind
+pub returns-in_err-kind-clause-refusal : goal.returns-in_err-kind-clause-refusal
 unfolding shared_refusal shared_checks
-returns-in_err-kind c = let p = err_from_is_err_and c.from_residual.result c.from_residual.ensures.1 in
+returns-in_err-kind-clause-refusal c = let p = err_from_is_err_and c.from_residual.result c.from_residual.ensures.1 in
     let (is, wrong) = c.in_err-kind.ensures in
     rw (p.1, p.2, is) (gives (first_yes (rw (to_z-of_z {w = w32} c.ranges.kind) at wrong)))
 
-pub returns-in_err-check_pairs : goal.returns-in_err-check_pairs
+pub returns-in_err-check_pairs-clause-refusal : goal.returns-in_err-check_pairs-clause-refusal
 unfolding shared_refusal shared_checks all
-returns-in_err-check_pairs c = let r = c.from_residual-in_err-check_pairs in
+returns-in_err-check_pairs-clause-refusal c = let r = c.from_residual-in_err-check_pairs in
     let p = err_from_is_err_and r.result r.ensures.1 in
     rw (p.1, p.2) (gives (first_no (rw (to_z-of_z {w = w32} c.ranges.kind) at c.in_ok-kind.ensures.1)
     (record { is = refused_front (pair_checks _ _) _ tt _ c.in_err-check_pairs.ensures })))
 
-pub returns-then-has_wrong_unscored : goal.returns-then-has_wrong_unscored
+pub returns-then-has_wrong_unscored-clause-refusal : goal.returns-then-has_wrong_unscored-clause-refusal
 unfolding shared_refusal shared_checks all
-returns-then-has_wrong_unscored c =
+returns-then-has_wrong_unscored-clause-refusal c =
     gives (first_no (rw (to_z-of_z {w = w32} c.ranges.kind) at c.in_ok-kind.ensures.1) (record {
       is = passed_back (pair_checks _ _) _ tt c.in_ok-check_pairs.ensures
           (first_yes (said (λ k. wrong_unscored k c.args.pairs.now) (number_read c.ranges.kind c.in_ok-kind.ensures.0) c.has_wrong_unscored.ensures c.if-has_wrong_unscored.true));
     }))
 
-pub returns-then-are_wrong_entries : goal.returns-then-are_wrong_entries
+pub returns-then-are_wrong_entries-clause-refusal : goal.returns-then-are_wrong_entries-clause-refusal
 unfolding shared_refusal shared_checks all
-returns-then-are_wrong_entries c = let one = rw (to_z-of_z {w = w32} c.ranges.kind) at c.in_ok-kind.ensures.1 in
+returns-then-are_wrong_entries-clause-refusal c = let one = rw (to_z-of_z {w = w32} c.ranges.kind) at c.in_ok-kind.ensures.1 in
     gives (first_no one (record {
       is = passed_back (pair_checks _ _) _ tt c.in_ok-check_pairs.ensures (first_no (said (λ k. wrong_unscored k c.args.pairs.now) (number_read c.ranges.kind c.in_ok-kind.ensures.0) c.has_wrong_unscored.ensures c.if-has_wrong_unscored.false)
           (first_no (no_distances _ _ _ one) (first_yes (sym c.are_wrong_entries.ensures ∙ c.if-are_wrong_entries.true))));
     }))
 
-pub returns : goal.returns
+pub returns-clause-refusal : goal.returns-clause-refusal
 unfolding shared_refusal shared_checks all
-returns c = let one = rw (to_z-of_z {w = w32} c.ranges.kind) at c.in_ok-kind.ensures.1 in
+returns-clause-refusal c = let one = rw (to_z-of_z {w = w32} c.ranges.kind) at c.in_ok-kind.ensures.1 in
     gives (first_no one (record {
       is = passed_back (pair_checks _ _) _ tt c.in_ok-check_pairs.ensures (first_no (said (λ k. wrong_unscored k c.args.pairs.now) (number_read c.ranges.kind c.in_ok-kind.ensures.0) c.has_wrong_unscored.ensures c.if-has_wrong_unscored.false)
           (first_no (no_distances _ _ _ one) (first_no (sym c.are_wrong_entries.ensures ∙ c.if-are_wrong_entries.false) no_more)));

@@ -9,7 +9,7 @@ use Rattle.trees.proofs.merge.Goals.{Start}
 use Rattle.trees.proofs.merge.Goals as goal
 
 -- what the merges ask
-mergeable : (c : Start) → Mergeable c.args.n c.args.pairs.now c.args.out.now
+mergeable : (c : Start) → Mergeable c.args.list.now.n c.args.list.now.pairs.now c.args.out.now
 mergeable c = let p = c.requires.0.checked in (p.some, p.few, p.long, lent_bounded _ p.range, c.requires.1)
 
 pub merge_all-requires : goal.merge_all-requires
@@ -21,7 +21,7 @@ merge_all-requires-in-Clean c = mergeable (goal.at.merge_all-requires-in-Clean c
 pub merge_anchored-requires : goal.merge_anchored-requires
 unfolding kind_for
 merge_anchored-requires c =
-    (subst (λ (k : Kind). Accepted (kind_for k) c.args.n c.args.pairs.now) c.in-Splits.is c.requires.0, c.requires.1)
+    (subst (λ (k : Kind). Accepted (kind_for k) c.args.list.now.n c.args.list.now.pairs.now) c.in-Splits.is c.requires.0, c.requires.1)
 
 pub returns-in-Strong : goal.returns-in-Strong
 unfolding kind_for linkage_of

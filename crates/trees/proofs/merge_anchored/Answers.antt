@@ -2,12 +2,9 @@ use mathlib.Core.Path.{sym}
 use lib.Seq.{length-take-le}
 use Rattle.clusters.proofs.PairList.{row_start_le}
 use Rattle.linkage.specs.Blocks.{linkage_of}
-use Rattle.kinds.proofs.Listed.{accepted_range, checked_scores}
+use Rattle.kinds.proofs.Listed.{accepted_range}
 use Rattle.trees.proofs.Merging.{in_front, front_fits, front_long, front_bounded, merged_splits}
 use Rattle.trees.proofs.merge_anchored.Goals as goal
-
-pub invariant_of-anchor : goal.invariant_of-anchor
-invariant_of-anchor c = record { fits = checked_scores c.requires.0.checked }
 
 pub anchor-requires : goal.anchor-requires
 anchor-requires c = let a = c.requires.0 in let p = a.checked in (p.some, accepted_range p a.scored, row_start_le _ p.few)

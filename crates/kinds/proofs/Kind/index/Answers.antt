@@ -14,41 +14,38 @@ use Rattle.matrix.specs.Checks.{Checked}
 use Rattle.matrix.proofs.Scores.{range_bounded}
 use Rattle.kinds.specs.Kinds.{kind_for, Scored}
 use Rattle.kinds.specs.declared.Kind.{Kind}
-use Rattle.kinds.proofs.Listed.{checked_scores, accepted_range, untouched_small, spoken}
+use Rattle.kinds.proofs.Listed.{accepted_range, untouched_small, spoken}
 use Rattle.kinds.proofs.Kind.index.Goals as goal
 
 -- where every pair is scored
 small : {n : ℕ} {l : List ℤ} → Checked n l → T (not (has_unscored l)) → Bounded (2 ^ 22) l
 small {l} checked t = range_bounded l (accepted_range checked t)
 
-pub invariant_of-list : goal.invariant_of-list
-invariant_of-list c = record { fits = checked_scores c.requires.0.checked }
-
 pub strong_index-requires : goal.strong_index-requires
 strong_index-requires c = let r = c.requires in (
-  spoken c.args.n c.args.set r.1 (kind_for c.args.self) r.2,
-  untouched_small r.0.checked c.args.set r.3,
+  spoken c.args.list.now.n c.args.set r.fits (kind_for c.args.self) r.spoken,
+  untouched_small r.accepted.checked c.args.set r.untouched,
 )
 
 pub clean_index-requires : goal.clean_index-requires
 unfolding kind_for
 clean_index-requires c = let r = c.requires in (
-  spoken c.args.n c.args.set r.1 (kind_for c.args.self) r.2,
-  small r.0.checked (subst (λ (k : Kind). Scored (kind_for k) c.args.pairs.now) c.in-Clean.is r.0.scored),
+  spoken c.args.list.now.n c.args.set r.fits (kind_for c.args.self) r.spoken,
+  small r.accepted.checked (subst (λ (k : Kind). Scored (kind_for k) c.args.list.now.pairs.now) c.in-Clean.is r.accepted.scored),
 )
 
 pub separation_index-requires : goal.separation_index-requires
 unfolding kind_for
 separation_index-requires c = let r = c.requires in (
-  spoken c.args.n c.args.set r.1 (kind_for c.args.self) r.2,
-  small r.0.checked (subst (λ (k : Kind). Scored (kind_for k) c.args.pairs.now) c.in-Splits.is r.0.scored),
+  spoken c.args.list.now.n c.args.set r.fits (kind_for c.args.self) r.spoken,
+  small r.accepted.checked (subst (λ (k : Kind). Scored (kind_for k) c.args.list.now.pairs.now) c.in-Splits.is r.accepted.scored),
 )
 
 pub returns-in-Strong : goal.returns-in-Strong
 unfolding index kind_for
 returns-in-Strong c = rw c.in-Strong.is
     (passed w64 c.strong_index.type_inv c.strong_index.ensures
-    ∙ sym (untouched_index score_limit c.args.n (score c.args.pairs.now) c.args.set c.requires.3))
+    ∙ sym (untouched_index score_limit c.args.list.now.n (score c.args.list.now.pairs.now) c.args.set c.requires.untouched))
 
 pub returns-in-Clean : goal.returns-in-Clean
 unfolding index kind_for
