@@ -9,4 +9,5 @@ pub mod Halves
 pub mod Range
 pub mod Held
 pub mod Running
+pub mod Methods
 pub mod Operators
