@@ -1,8 +1,7 @@
 // The tree in which every group of a kind is found.
 #![tactic(auto)]
 
-ghost use Rattle.std.specs.Prelude.{◌≡◌, ◌++◌, ◌+◌, ◌-◌, ◌≤◌, length, take, drop};
-ghost use Rattle.clusters.specs.Linkage.{singles};
+ghost use Rattle.std.specs.Prelude.{◌+◌, ◌-◌, ◌≤◌, length, take};
 ghost use Rattle.clusters.specs.Groups.{splits};
 ghost use Rattle.kinds.specs.Kinds.{kind_for, Accepted};
 ghost use Rattle.trees.specs.Trees.{Merged, Blocks};
@@ -10,16 +9,6 @@ ghost use Rattle.trees.specs.Trees.{Merged, Blocks};
 use kinds::Kind;
 use links::Method;
 use matrix::PairList;
-
-// The single entries.
-fn put_singles(n: usize, out: &mut [u32])
-    requires { (n ≤ 32) × (n ≤ length out.old) }
-    ensures { out.new ≡ singles n ++ drop n out.old }
-{
-    for i in 0..n {
-        out[i] = sets::single(i);
-    }
-}
 
 // The merged blocks for splits: the tree is that of the scores anchored at the first entry.
 fn merge_anchored(list: &PairList<'_>, out: &mut [u32])
@@ -50,6 +39,6 @@ pub fn put_blocks(kind: Kind, list: &PairList<'_>, out: &mut [u32])
     ensures { Blocks (kind_for kind) list.now.n list.now.pairs.now
         (take (list.now.n + (list.now.n - 1)) out.new) }
 {
-    put_singles(list.n, out);
+    linkage::put_singles(list.n, out);
     merge(kind, list, &mut out[list.n..]);
 }
