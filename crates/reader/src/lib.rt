@@ -24,7 +24,9 @@ fn read_row(line: &[u8], n: usize, base: usize, values: &mut [i32; 1024]) -> Res
 {
     let mut at: usize = 0;
     for k in 0..n {
-        let (pair, next) = text::read_value(line, at)?;
+        let Ok((pair, next)) = text::read_value(line, at) else {
+            return Err(Refusal::WrongValues);
+        };
         let number = i32::from(pair);
         values[base + k] = number;
         let end = next.at;

@@ -7,7 +7,6 @@ use borrow.Author.Tests.{eq-eqb, ne_eqb}
 use lib.Dec.{eqb}
 use lib.Seq.{sets}
 use mir.Syntax.{w32}
-use Rattle.std.proofs.lemmas.Result.{err_from_is_err_and}
 use Rattle.interface.specs.Sheet.{cut}
 use Rattle.interface.specs.Refusals.{is_row}
 use Rattle.integers.proofs.Held.{passed}
@@ -26,17 +25,14 @@ loop-k-init c = let a = c.args in
       ap (λ (i : ℕ). sets a.values.now i (map number_said (cut 32 a.line.now))) q,
     )
 
-pub returns-in_err-pair : goal.returns-in_err-pair
-returns-in_err-pair c = let l = c.loop-k in
-    let a = c.args in
-    let e = row_refused (a.n - l.k) a.line.now l.at (value_not c.in_err-pair.ensures refl) in
-    let p = err_from_is_err_and c.from_residual.result c.from_residual.ensures.1 in
-    let eight = c.in_err-pair.ensures.number in
-    rw (p.1, p.2) (record { value = eight ∙ rw (value_not c.in_err-pair.ensures refl, sym l.invariant.2 ∙ e) refl; values_after = tt })
+pub returns-in_default : goal.returns-in_default
+returns-in_default c = let l = c.loop-k in
+    let e = row_refused _ _ l.at (value_not c.read_value.ensures c.in_default.is) in
+    record { value = row_eight _ _ (sym l.invariant.2 ∙ e); values_after = tt }
 
 pub returns-then-k-n : goal.returns-then-k-n
 returns-then-k-n c = let l = c.loop-k in
-    let g = value_got _ _ c.in_ok-pair.ensures refl in
+    let g = value_got _ _ c.read_value.ensures c.in-Ok.is in
     let left = c.args.n - l.k in
     let e : eqb 1 left ≡ false = ne_eqb 1 left (λ z. omega arith) in
     let ends = sym l.invariant.2 ∙ row_last _ l.at _ l.invariant.1 g.end left c.if-end-line.true g.good in
@@ -46,7 +42,7 @@ pub returns-then-end-line : goal.returns-then-end-line
 unfolding number_said
 returns-then-end-line c = let l = c.loop-k in
     let a = c.args in
-    let g = value_got _ _ c.in_ok-pair.ensures refl in
+    let g = value_got _ _ c.read_value.ensures c.in-Ok.is in
     let stored = passed w32 c.from-number.type_inv (c.from-number.ensures ∙ g.number) in
     let left = a.n - l.k in
     let e : eqb 1 left ≡ true = eq-eqb 1 left (omega arith) in
@@ -60,7 +56,7 @@ pub loop-k-preserved : goal.loop-k-preserved
 unfolding number_said
 loop-k-preserved c = let l = c.loop-k in
     let a = c.args in
-    let g = value_got _ _ c.in_ok-pair.ensures refl in
+    let g = value_got _ _ c.read_value.ensures c.in-Ok.is in
     let stored = passed w32 c.from-number.type_inv (c.from-number.ensures ∙ g.number) in
     let e : a.n - l.k ≡ suc (a.n - (l.k + 1)) = omega arith in
     let i : a.base + (l.k + 1) ≡ a.base + l.k + 1 = omega arith in (
