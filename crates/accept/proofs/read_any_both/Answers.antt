@@ -6,12 +6,6 @@ use Rattle.interface.proofs.Pieces.{same_bytes_lem}
 use Rattle.accept.proofs.Found.{both_of}
 use Rattle.accept.proofs.read_any_both.Goals as goal
 
-pub overflow_add-end : goal.overflow_add-end
-overflow_add-end c = omega (arith, c.in_ok-cell.ensures.inside)
-
-pub slice_bounds-same_bytes-end : goal.slice_bounds-same_bytes-end
-slice_bounds-same_bytes-end c = omega (arith, c.in_ok-cell.ensures.inside)
-
 pub returns : goal.returns
 returns c =
     let a = c.args in

@@ -15,9 +15,6 @@ use Rattle.accept.proofs.Parts.{run_small}
 use Rattle.accept.proofs.Found.{some_digits, both_run}
 use Rattle.accept.proofs.read_cell.Goals as goal
 
-pub returns-then-sheet-p : goal.returns-then-sheet-p
-returns-then-sheet-p g c = c.read_any_both.ensures
-
 -- there is room at both places
 room : (n p q : ℕ) → (ltb (n - p) 10 || ltb (n - q) 10) ≡ false → (p + 10 ≤ n) × (q + 10 ≤ n)
 room n p q e =
@@ -58,9 +55,6 @@ pub read_half-requires : goal.read_half-requires
 read_half-requires g c =
     let r = room (length c.args.sheet.now) c.args.p c.args.q c.if-sheet-p.false in
     (r.0, r.1, c.read_digits-digits.ensures)
-
-pub returns-then-size-sheet : goal.returns-then-size-sheet
-returns-then-size-sheet g c = c.read_half.ensures
 
 small : (s : List ℕ) (p q v k : ℕ) → p + 10 ≤ length s → Run s p q v k → v < 10000000
 small s p q v k h r = run_small r (omega (arith, r.few))

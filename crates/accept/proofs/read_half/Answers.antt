@@ -9,24 +9,6 @@ use Rattle.accept.proofs.Found.{both_half}
 use Rattle.accept.proofs.read_half.Goals.{Else-sheet-p}
 use Rattle.accept.proofs.read_half.Goals as goal
 
-pub overflow_add-p : goal.overflow_add-p
-overflow_add-p c = omega (arith, c.requires.2.few)
-
-pub is_half-requires : goal.is_half-requires
-is_half-requires c = omega (arith, c.requires.2.few)
-
-pub read_any_both-requires : goal.read_any_both-requires
-read_any_both-requires c = (omega arith, omega arith)
-
-pub returns-then-not-is_half : goal.returns-then-not-is_half
-returns-then-not-is_half c = c.read_any_both.ensures
-
-pub overflow_add-q : goal.overflow_add-q
-overflow_add-q c = omega (arith, c.requires.2.few)
-
-pub is_half-requires-2 : goal.is_half-requires-2
-is_half-requires-2 c = omega (arith, c.requires.2.few)
-
 pub overflow_mul-halves : goal.overflow_mul-halves
 overflow_mul-halves c = omega (arith, run_small c.requires.2 (omega (arith, c.requires.2.few)))
 
@@ -35,9 +17,6 @@ overflow_add-halves c = omega (arith, run_small c.requires.2 (omega (arith, c.re
 
 pub overflow_cast-halves : goal.overflow_cast-halves
 overflow_cast-halves c = record { sfits = omega (arith, run_small c.requires.2 (omega (arith, c.requires.2.few))) }
-
-pub overflow_add-whole : goal.overflow_add-whole
-overflow_add-whole c = omega (arith, c.requires.2.few)
 
 pub returns : goal.returns
 returns c =

@@ -21,12 +21,6 @@ fewer {n} h is e = let f = eqb-false n 32 (sym is ∙ e) in omega arith
 pub loop-known-init : goal.loop-known-init
 loop-known-init c = subst (λ (l : List ℕ). NamesState c.args.sheet.now l 0) (sym c.new-known.ensures) (names_start _)
 
-pub read_name-packed-requires : goal.read_name-packed-requires
-read_name-packed-requires c = c.loop-known.invariant.here.inside
-
-pub overflow_add-end : goal.overflow_add-end
-overflow_add-end c = omega (arith, c.read_name-packed.ensures.inside)
-
 pub returns-then-sheet-end-eq10 : goal.returns-then-sheet-end-eq10
 returns-then-sheet-end-eq10 c =
     let upper = sym c.is_upper.ensures ∙ c.if-not-is_upper.false in

@@ -9,12 +9,6 @@ use Rattle.accept.proofs.read_name.Goals as goal
 pub loop-size-init : goal.loop-size-init
 loop-size-init c = name_none _ _ c.requires
 
-pub returns-then-at-sheet : goal.returns-then-at-sheet
-returns-then-at-sheet c = c.loop-size.invariant
-
-pub returns-then-not-is_name_byte : goal.returns-then-not-is_name_byte
-returns-then-not-is_name_byte c = c.loop-size.invariant
-
 pub overflow_mul-packed : goal.overflow_mul-packed
 overflow_mul-packed c = omega (arith, name_small c.loop-size.invariant (omega arith))
 

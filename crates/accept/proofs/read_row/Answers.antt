@@ -17,18 +17,6 @@ loop-j-init c = (omega arith, refl, refl, row_start_lem c.requires.3 c.requires.
 pub read_cell-requires : goal.read_cell-requires
 read_cell-requires c = let l = c.loop-j in (l.invariant.3.here.inside, (l.invariant.3.wait l.j (omega arith) (omega arith)).inside, inl refl)
 
-pub overflow_add-cur : goal.overflow_add-cur
-overflow_add-cur c = omega (arith, c.in_ok-cell.ensures.far.inside)
-
-pub overflow_add-cur-in-loop-j : goal.overflow_add-cur-in-loop-j
-overflow_add-cur-in-loop-j c = omega (arith, c.in_ok-cell.ensures.far.inside)
-
-pub overflow_add-at : goal.overflow_add-at
-overflow_add-at c = omega (arith, c.in_ok-cell.ensures.near.inside)
-
-pub overflow_add-at-in-loop-j : goal.overflow_add-at-in-loop-j
-overflow_add-at-in-loop-j c = omega (arith, c.in_ok-cell.ensures.near.inside)
-
 pub loop-j-preserved : goal.loop-j-preserved
 loop-j-preserved c =
     let l = c.loop-j in
@@ -44,12 +32,6 @@ loop-j-preserved c =
 
 pub read_cell-requires-2 : goal.read_cell-requires-2
 read_cell-requires-2 c = let h = c.loop-j.invariant.3.here.inside in (h, h, inr refl)
-
-pub overflow_add-next : goal.overflow_add-next
-overflow_add-next c = omega (arith, c.in_ok-cell-2.ensures.near.inside)
-
-pub overflow_add-next-2 : goal.overflow_add-next-2
-overflow_add-next-2 c = omega (arith, c.in_ok-cell-2.ensures.near.inside)
 
 pub returns : goal.returns
 returns c =
