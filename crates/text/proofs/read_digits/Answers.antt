@@ -1,4 +1,4 @@
-use mathlib.Core.Path.{◌≡◌, refl, sym, ◌∙◌}
+use mathlib.Core.Path.{◌≡◌, sym, ◌∙◌}
 use mathlib.Core.Bool.{true, false}
 use mathlib.Core.List.{[]}
 use Prim.Native.Nat.{ℕ, ◌+◌, ◌-◌, ◌^◌, ◌<◌}
@@ -10,9 +10,6 @@ use Rattle.text.specs.Reading.{digits}
 use Rattle.text.proofs.Numerals.{digit_low, digit_high, ten_step, read_nothing, read_digit, no_more, no_byte, no_digit}
 use Rattle.text.proofs.read_digits.Goals.{Else-not-is_digit}
 use Rattle.text.proofs.read_digits.Goals as goal
-
-pub loop-size-init : goal.loop-size-init
-loop-size-init c = let z : c.args.from + 0 ≡ c.args.from = omega arith in rw z (omega arith, omega arith, refl)
 
 pub returns-then-end-line : goal.returns-then-end-line
 returns-then-end-line c =

@@ -36,9 +36,6 @@ small line at r h e = rw (found line at r h e).number (digits_small _)
 pub returns-then-at-line : goal.returns-then-at-line
 returns-then-at-line c = no_number c.args.line.now c.args.at c.if-at-line.true
 
-pub overflow_add-from : goal.overflow_add-from
-overflow_add-from c = omega (arith, inside c.args.line.now c.args.at c.if-at-line.false)
-
 pub returns-then-from-line : goal.returns-then-from-line
 returns-then-from-line c =
     let line = c.args.line.now in

@@ -5,11 +5,8 @@ use borrow.Author.Tests.{eq-eqb, ne_eqb}
 use lib.Dec.{eqb}
 use mir.Facts.{to_z-of_z}
 use Rattle.text.specs.Reading.{signed_read}
-use Rattle.text.proofs.Halves.{plus_fits, neg_fits, plus, minus}
+use Rattle.text.proofs.Halves.{neg_fits, plus, minus}
 use Rattle.text.proofs.signed.Goals as goal
-
-pub overflow_cast-result : goal.overflow_cast-result
-overflow_cast-result c = plus_fits _ c.before.requires
 
 pub returns-then-not-negative : goal.returns-then-not-negative
 unfolding signed_read
@@ -19,13 +16,6 @@ pub returns-then-halves-eq0 : goal.returns-then-halves-eq0
 unfolding signed_read
 returns-then-halves-eq0 c = let zero : c.before.before.args.halves ≡ 0 = omega (arith, c.before.before.requires) in
     rw (c.before.if-not-negative.false, eq-eqb _ 0 zero)
-
-pub overflow_cast-result-2 : goal.overflow_cast-result-2
-overflow_cast-result-2 c = plus_fits _ c.before.before.requires
-
-pub overflow_sub-result : goal.overflow_sub-result
-overflow_sub-result c = let p = c.before.before.requires in
-    rw (minus _ p) (neg_fits _ p)
 
 pub returns : goal.returns
 unfolding signed_read
