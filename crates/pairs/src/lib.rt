@@ -47,7 +47,7 @@ impl From<i32> for Pair {
 impl From<Pair> for i32 {
     ghost from_gives = { λ pair x. x ≡ list_number pair };
 
-    #[tactic(auto, unfolding(crate::specs::Pairs::list_number, crate::specs::Pairs::number_for, crate::specs::Pairs::mark))]
+    #[tactic(auto, unfolding(crate::specs::Pairs::list_number, crate::specs::Pairs::number_for))]
     fn from(pair: Pair) -> i32 {
         match pair.carries {
             Carried::Scored(score) => score,
