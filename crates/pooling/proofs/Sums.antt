@@ -2,16 +2,15 @@
 use mathlib.Core.Path.{◌≡◌, refl, sym, ap, ap₂, subst, ◌∙◌}
 use mathlib.Core.Bool.{true, false}
 use native.Mathlib.Omega.{arith}
-use lib.Dec.{T}
+use lib.Dec.{T, lit<}
 use mir.Syntax.{w32}
 use mir.Val.{SFits}
-use Rattle.std.proofs.lemmas.Int.{ints}
 use lib.IntN.{ℤ, ◌+ℤ◌}
 use Rattle.lists.proofs.Tests.{true_T}
 use Rattle.integers.specs.Integers.{eq_z}
 use Rattle.integers.specs.Range.{Within}
 use Rattle.integers.proofs.Linear.{eq_z_yes}
-use Rattle.integers.proofs.Range.{within_sum}
+use Rattle.integers.proofs.Range.{within_sum, within_fits}
 use Rattle.pairs.specs.declared.Carried.{Carried}
 use Rattle.pairs.specs.declared.Carried.TheVariants.{Scored, Unscored}
 use Rattle.pairs.specs.Pairs.{mark, number_for, carried}
@@ -45,10 +44,10 @@ unfolding added number_for
 both_scored x y e f = sym (ap₂ (λ p q. number_for (added p q)) (scored e) (scored f))
 
 -- an allowed score is small, and so is the sum of two
-score_small : {x : ℤ} → T (is_allowed_pair score_limit (carried x)) → eq_z x mark ≡ false → Within 2000000 x
+pub score_small : {x : ℤ} → T (is_allowed_pair score_limit (carried x)) → eq_z x mark ≡ false → Within 2000000 x
 unfolding score_limit one_point point_limit
 score_small t e = allowed_within (subst (λ p. T (is_allowed_pair score_limit p)) (scored e) t)
 
 pub sum_fits : (x y : ℤ) → T (is_allowed_pair score_limit (carried x)) → T (is_allowed_pair score_limit (carried y))
     → eq_z x mark ≡ false → eq_z y mark ≡ false → SFits w32 (x +ℤ y)
-sum_fits x y t u e f = let small = within_sum (score_small t e) (score_small u f) in grind (arith, ints, small.top, small.low)
+sum_fits x y t u e f = within_fits w32 (lit< tt) (within_sum (score_small t e) (score_small u f))

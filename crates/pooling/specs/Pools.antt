@@ -1,5 +1,6 @@
 -- The code's own vocabulary for the pool of two sheets, which a reader of the statements need not believe.
-use Rattle.std.specs.Prelude.{◌≡◌, true, false, Ok, Option, Some, None, List, [], ◌∷◌, map, ℕ, ◌≤◌, ◌<◌, ℤ, T, length, get_or, take}
+use Rattle.std.specs.Prelude.{◌≡◌, true, false, Ok, Option, Some, None, List, [], ◌∷◌, map}
+use Rattle.std.specs.Prelude.{ℕ, ◌≤◌, ◌<◌, ℤ, T, length, get_or, take}
 use Rattle.arrayvec.specs.ArrayVec.{ArrayVec}
 use Rattle.lists.specs.Lists.{all}
 use Rattle.answers.specs.Answers.{Answer, Answered, slots}

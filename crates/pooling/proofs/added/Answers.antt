@@ -1,12 +1,14 @@
 use mathlib.Core.Path.{◌≡◌, sym, ap, ◌∙◌}
 use mathlib.Core.Bool.{Bool}
 use lib.IntN.{ℤ}
+use native.Mathlib.Omega.{arith}
+use Rattle.std.proofs.lemmas.Int.{ints}
 use mir.Facts.{to_z-of_z}
 use mir.Syntax.{w32}
 use mir.Val.{SFits, to_z, of_z}
 use Rattle.integers.specs.Integers.{eq_z}
 use Rattle.pairs.specs.Pairs.{mark}
-use Rattle.pooling.proofs.Sums.{first_marked, second_marked, both_scored, sum_fits}
+use Rattle.pooling.proofs.Sums.{first_marked, second_marked, both_scored, score_small, sum_fits}
 use Rattle.pooling.proofs.added.Goals as goal
 
 -- what was asked of a number
@@ -23,7 +25,9 @@ pub overflow_add-result : goal.overflow_add-result
 overflow_add-result c =
     let x = asked _ c.ranges.x c.is_mark.ensures c.if-is_mark.false in
     let y = asked _ c.ranges.y c.is_mark-2.ensures c.if-is_mark-2.false in
-    rw (to_z-of_z c.ranges.x, to_z-of_z c.ranges.y) (sum_fits _ _ c.requires.0 c.requires.1 x y)
+    let h = score_small c.requires.0 x in
+    let k = score_small c.requires.1 y in
+    grind (arith, ints, to_z-of_z c.ranges.x, to_z-of_z c.ranges.y, h.top, h.low, k.top, k.low)
 
 pub returns : goal.returns
 returns c =
