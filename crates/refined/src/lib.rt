@@ -77,8 +77,8 @@ impl<'a> Split<'a> {
         straight.min(crossed) - within
     }
 
-    // Keeps the smallest, with the doubled scores of the quartets of a and a2 on one side, b and each of those before it
-    // on the other.
+    // Keeps the smallest, with the doubled scores of the quartets of a and a2 on one side, b and each of those before
+    // it on the other.
     fn keep_beside(&self, kept: &mut Smallest, before: &[usize], a: usize, a2: usize, b: usize)
         requires { (a < self.now.n) × (a2 < self.now.n) × (b < self.now.n) × Below self.now.n before.now }
         ensures { kept.new ≡ keep_beside (entry self.now.table.now) a a2 b before.now kept.old }
