@@ -5,18 +5,16 @@ use Rattle.sets.specs.Sets.{members}
 use Rattle.sets.proofs.Sets.{has_yes}
 use Rattle.smallest.proofs.Kept.{kept_start, kept_yes, kept_no, kept_end}
 use Rattle.indices.specs.Triples.{keep_before}
-use Rattle.indices.proofs.keep_before.Goals.{then-has, else-has}
-use Rattle.indices.proofs.keep_before.Goals as goal
+use Rattle.indices.proofs.Nearest.keep_before.Goals.{then-has, else-has}
+use Rattle.indices.proofs.Nearest.keep_before.Goals as goal
 
 pub loop-b-init : goal.loop-b-init
 loop-b-init c = (omega arith, kept_start)
 
 pub keep_pair-requires : goal.keep_pair-requires
 keep_pair-requires c =
-    let (low, member) = c.requires.entry in record {
-      entries = (low, omega arith, member, has_yes c.args.set c.loop-b.b (true_T (sym c.has.ensures ∙ c.if-has.true)));
-      near = c.requires.near;
-    }
+    let (low, member) = c.requires in
+    (low, omega arith, member, has_yes c.args.self.now.set c.loop-b.b (true_T (sym c.has.ensures ∙ c.if-has.true)))
 
 pub loop-b-preserved : goal.loop-b-preserved
 loop-b-preserved c =

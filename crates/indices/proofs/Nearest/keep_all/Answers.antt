@@ -5,15 +5,15 @@ use Rattle.sets.specs.Sets.{members}
 use Rattle.sets.proofs.Sets.{has_yes}
 use Rattle.smallest.proofs.Kept.{kept_start, kept_yes, kept_no, kept_end}
 use Rattle.indices.specs.Triples.{keep_all}
-use Rattle.indices.proofs.keep_all.Goals.{then-has, else-has}
-use Rattle.indices.proofs.keep_all.Goals as goal
+use Rattle.indices.proofs.Nearest.keep_all.Goals.{then-has, else-has}
+use Rattle.indices.proofs.Nearest.keep_all.Goals as goal
 
 pub loop-a-init : goal.loop-a-init
 loop-a-init c = (omega arith, kept_start)
 
 pub keep_before-requires : goal.keep_before-requires
 keep_before-requires c =
-    (record { entry = (omega arith, has_yes c.args.set c.loop-a.a (true_T (sym c.has.ensures ∙ c.if-has.true))); near = c.requires })
+    (omega arith, has_yes c.args.self.now.set c.loop-a.a (true_T (sym c.has.ensures ∙ c.if-has.true)))
 
 pub loop-a-preserved : goal.loop-a-preserved
 loop-a-preserved c =

@@ -15,8 +15,8 @@ use Rattle.indices.specs.Triples.{Near}
 use Rattle.indices.proofs.Parted.{zeros, near_most}
 use Rattle.indices.proofs.Triples.{near_more, near_none}
 use Rattle.indices.proofs.Values.{small_row}
-use Rattle.indices.proofs.nearest.Goals.{then-has, else-has}
-use Rattle.indices.proofs.nearest.Goals as goal
+use Rattle.indices.proofs.Nearest.new.Goals.{then-has, else-has}
+use Rattle.indices.proofs.Nearest.new.Goals as goal
 
 pub part-requires : goal.part-requires
 part-requires c = let h = c.args.list.now.fits.few in (lit< tt, (h, h, omega arith, zeros _ {t = replicate 32 (pos 0)} refl))
@@ -36,16 +36,17 @@ loop-a-preserved c =
     elim c.if-has.branch [
       | then-has w ↦ (
         omega arith,
-        ap length w.found-is ∙ length-set l.found l.a _ ∙ i.1,
-        subst near (sym w.found-is) (near_more l.found i.2 (omega (arith, i.1, c.args.list.now.fits.few)) λ c' k o.
+        ap length w.near-is ∙ length-set l.near l.a _ ∙ i.1,
+        subst near (sym w.near-is) (near_more l.near i.2 (omega (arith, i.1, c.args.list.now.fits.few)) λ c' k o.
             omega (zarith, passed w32 {z = w.greatest_of.result} w.greatest_of.type_inv refl, near_most c.args.list.now.pairs.now refl c.part.ensures l.a w.greatest_of.ensures c' k o)),
       )
       | else-has w ↦ (
         omega arith,
-        ap length w.found-is ∙ i.1,
-        subst near (sym w.found-is) (near_none l.found i.2 (has_no c.args.set l.a (false_T (t ∙ w.if-has.false)))),
+        ap length w.near-is ∙ i.1,
+        subst near (sym w.near-is) (near_none l.near i.2 (has_no c.args.set l.a (false_T (t ∙ w.if-has.false)))),
       )
     ]
 
-pub returns : goal.returns
-returns c = let l = c.loop-a in (omega (arith, l.invariant.1, c.args.list.now.fits.few), λ a h. l.invariant.2 a (omega arith))
+pub invariant_of-result : goal.invariant_of-result
+invariant_of-result c = let l = c.loop-a in
+    record { fits = (omega (arith, l.invariant.1, c.args.list.now.fits.few), λ a h. l.invariant.2 a (omega arith)) }

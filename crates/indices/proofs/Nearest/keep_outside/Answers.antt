@@ -15,37 +15,37 @@ use Rattle.clusters.specs.Indices.{weight}
 use Rattle.matrix.specs.Rows.{number}
 use Rattle.indices.specs.Triples.{keep_outside}
 use Rattle.indices.proofs.Values.{stands}
-use Rattle.indices.proofs.keep_outside.Goals.{then-not-has, else-not-has}
-use Rattle.indices.proofs.keep_outside.Goals as goal
+use Rattle.indices.proofs.Nearest.keep_outside.Goals.{then-not-has, else-not-has}
+use Rattle.indices.proofs.Nearest.keep_outside.Goals as goal
 
 pub place_of-of_a-requires : goal.place_of-of_a-requires
-place_of-of_a-requires c = (omega (arith, c.args.list.now.fits.few), omega arith)
+place_of-of_a-requires c = (omega (arith, c.args.self.now.list.fits.few), omega arith)
 
 pub place_of-of_b-requires : goal.place_of-of_b-requires
-place_of-of_b-requires c = (omega (arith, c.args.list.now.fits.few), omega arith)
+place_of-of_b-requires c = (omega (arith, c.args.self.now.list.fits.few), omega arith)
 
 pub loop-c-init : goal.loop-c-init
 loop-c-init c = (omega arith, c.place_of-of_a.ensures, c.place_of-of_b.ensures, kept_start)
 
 pub bounds-list-of_a : goal.bounds-list-of_a
-bounds-list-of_a c = (stands c.args.a c.loop-c.c c.args.list.now.fits (omega arith) (omega arith) c.loop-c.invariant.1).0
+bounds-list-of_a c = (stands c.args.a c.loop-c.c c.args.self.now.list.fits (omega arith) (omega arith) c.loop-c.invariant.1).0
 
 pub bounds-list-of_b : goal.bounds-list-of_b
-bounds-list-of_b c = (stands c.args.b c.loop-c.c c.args.list.now.fits (omega arith) (omega arith) c.loop-c.invariant.2).0
+bounds-list-of_b c = (stands c.args.b c.loop-c.c c.args.self.now.list.fits (omega arith) (omega arith) c.loop-c.invariant.2).0
 
 pub offset_bounds-list-of_a : goal.offset_bounds-list-of_a
-offset_bounds-list-of_a c = let (_, few) = stands c.args.a c.loop-c.c c.args.list.now.fits (omega arith) (omega arith) c.loop-c.invariant.1 in
+offset_bounds-list-of_a c = let (_, few) = stands c.args.a c.loop-c.c c.args.self.now.list.fits (omega arith) (omega arith) c.loop-c.invariant.1 in
     record { fits = omega (arith, few) }
 
 pub offset_bounds-list-of_b : goal.offset_bounds-list-of_b
-offset_bounds-list-of_b c = let (_, few) = stands c.args.b c.loop-c.c c.args.list.now.fits (omega arith) (omega arith) c.loop-c.invariant.2 in
+offset_bounds-list-of_b c = let (_, few) = stands c.args.b c.loop-c.c c.args.self.now.list.fits (omega arith) (omega arith) c.loop-c.invariant.2 in
     record { fits = omega (arith, few) }
 
 pub next_place-of_a-requires : goal.next_place-of_a-requires
-next_place-of_a-requires c = let few = c.args.list.now.fits.few in (c.loop-c.invariant.1, omega (arith, few), omega (arith, few))
+next_place-of_a-requires c = let few = c.args.self.now.list.fits.few in (c.loop-c.invariant.1, omega (arith, few), omega (arith, few))
 
 pub next_place-of_b-requires : goal.next_place-of_b-requires
-next_place-of_b-requires c = let few = c.args.list.now.fits.few in (c.loop-c.invariant.2, omega (arith, few), omega (arith, few))
+next_place-of_b-requires c = let few = c.args.self.now.list.fits.few in (c.loop-c.invariant.2, omega (arith, few), omega (arith, few))
 
 pub overflow_sub-own : goal.overflow_sub-own
 overflow_sub-own c = let s = c.score-own.ensures.narrow in grind (arith, operators, s.low, s.top, c.from.ensures)
@@ -56,7 +56,7 @@ loop-c-preserved c =
     let own = c.score-own in
     let s = own.ensures.narrow in
     let i = c.loop-c.invariant in
-    let at = number c.args.list.now.pairs.now in
+    let at = number c.args.self.now.list.pairs.now in
     let t = sym (ap not c.has.ensures) in
     elim c.if-not-has.branch [
       | then-not-has w ↦
