@@ -4,6 +4,3 @@ use Rattle.reader.proofs.check.Goals as goal
 pub returns-in_err-read_own : goal.returns-in_err-read_own
 returns-in_err-read_own c = let p = err_from_is_err_and c.from_residual.result c.from_residual.ensures.1 in
     rw (p.1, p.2) c.in_err-read_own.ensures.answered.number
-
-pub returns : goal.returns
-returns c = c.in_ok-read_own.ensures.answered.number

@@ -8,9 +8,6 @@ use Rattle.clusters.proofs.PairList.{row_start_le}
 use Rattle.reader.proofs.Answers.{few_entries, accepted_answer, accepted_pairs, accepted_call, pairs_long, pairs_fit}
 use Rattle.reader.proofs.read.Goals as goal
 
-pub returns-in_default : goal.returns-in_default
-returns-in_default c = c.read_checked.ensures
-
 pub pair_count-count-requires : goal.pair_count-count-requires
 pair_count-count-requires c = few_entries _ (accepted_answer c.in-Some.ensures)
 

@@ -1,29 +1,15 @@
-use mathlib.Core.Path.{◌≡◌, refl, sym, ap, ◌∙◌}
+use mathlib.Core.Path.{◌≡◌, refl, sym, ◌∙◌}
 use mathlib.Core.Bool.{true, false}
-use mathlib.Core.List.{map}
-use Prim.Native.Nat.{ℕ, suc, ◌+◌, ◌-◌}
+use Prim.Native.Nat.{suc, ◌+◌, ◌-◌}
 use native.Mathlib.Omega.{arith}
 use borrow.Author.Tests.{eq-eqb, ne_eqb}
 use lib.Dec.{eqb}
-use lib.Seq.{sets}
 use mir.Syntax.{w32}
-use Rattle.interface.specs.Sheet.{cut}
-use Rattle.interface.specs.Refusals.{is_row}
 use Rattle.integers.proofs.Held.{passed}
 use Rattle.reader.specs.Square.{number_said}
 use Rattle.text.proofs.Values.{value_got, value_not}
 use Rattle.reader.proofs.Rows.{row_none, row_refused, row_last, row_more, store_last, store_more, row_eight, row_zero}
 use Rattle.reader.proofs.read_row.Goals as goal
-
-pub loop-k-init : goal.loop-k-init
-loop-k-init c = let a = c.args in
-    let p : a.n - 0 ≡ a.n = omega arith in
-    let q : a.base + 0 ≡ a.base = omega arith in (
-      omega arith,
-      omega arith,
-      ap (λ (m : ℕ). is_row m (cut 32 a.line.now)) p,
-      ap (λ (i : ℕ). sets a.values.now i (map number_said (cut 32 a.line.now))) q,
-    )
 
 pub returns-in_default : goal.returns-in_default
 returns-in_default c = let l = c.loop-k in

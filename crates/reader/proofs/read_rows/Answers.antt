@@ -43,9 +43,6 @@ slice_bounds-read_row-end c = let l = c.loop-i in
     let t = line c.args.sheet.now c.args.n l.i c.requires.0 c.requires.2 (omega arith) l.invariant.1 c.line_end-end.ensures l.invariant.2 in
     omega (arith, t.inside)
 
-pub read_row-requires : goal.read_row-requires
-read_row-requires c = omega arith
-
 pub returns-in_err-read_row : goal.returns-in_err-read_row
 returns-in_err-read_row c = let l = c.loop-i in
     let s = c.args.sheet.now in
@@ -59,11 +56,6 @@ returns-in_err-read_row c = let l = c.loop-i in
       value = eight ∙ values_tested s n c.requires.0 (failed_below l.invariant.3 (omega arith) (not-true _ wrong));
       holds = tt;
     })
-
-pub overflow_add-at-in-loop-i : goal.overflow_add-at-in-loop-i
-overflow_add-at-in-loop-i c = let l = c.loop-i in
-    let t = line c.args.sheet.now c.args.n l.i c.requires.0 c.requires.2 (omega arith) l.invariant.1 c.line_end-end.ensures l.invariant.2 in
-    omega (arith, t.inside)
 
 pub loop-i-preserved : goal.loop-i-preserved
 loop-i-preserved c = let l = c.loop-i in
