@@ -1,7 +1,6 @@
 -- The sum of two pairs, as the code makes it, and its size.
 use mathlib.Core.Path.{◌≡◌, refl, sym, ap, ap₂, subst, ◌∙◌}
 use mathlib.Core.Bool.{true, false}
-use native.Mathlib.Omega.{arith}
 use lib.Dec.{T, lit<}
 use mir.Syntax.{w32}
 use mir.Val.{SFits}

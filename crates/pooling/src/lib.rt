@@ -13,6 +13,7 @@ ghost use Rattle.pooling.specs.Pools.{PlaceAmong, PlacesOn, Addable, SumsWritten
 
 use answers::Refusal;
 use arrayvec::ArrayVec;
+use matrix::PairList;
 
 // Where the word stands among the pieces of the line, counted from 0.
 fn place_among(word: &[u8], line: &[u8]) -> Option<usize>
@@ -84,7 +85,7 @@ fn write_sums(line: &[u8], sums: &[i32], n: usize, out: &mut [u8]) -> Result<usi
     }
     // room for line 1 and 32 lines of 32 values, 10 bytes each, and for what the writer asks beyond
     let mut text = [0u8; 10541];
-    let written = writer::write(&mut text, line, sums, n);
+    let written = writer::write(&mut text, line, &PairList { n, pairs: sums });
     listing::hand_over(&text[..written], out)
 }
 

@@ -9,6 +9,7 @@ ghost use Rattle.interface.specs.SheetText.{pair_text, row_text, sheet_text};
 ghost use Rattle.listing.specs.Put.{Put};
 
 use listing::Text;
+use matrix::PairList;
 use pairs::{Carried, Pair};
 
 // 22 bytes at most.
@@ -28,36 +29,35 @@ fn put_pair(text: &mut Text<'_>, v: i32)
 }
 
 // Puts row i of the values and its line feed, 10 bytes at most for each value.
-fn put_row(text: &mut Text<'_>, pairs: &[i32], n: usize, i: usize)
-    requires n_bound { (n ≤ 32) × (i < n) × (length pairs.now ≡ row_start n) × T (scores_in_range pairs.now) }
-    requires n_in_bounds { text.old.at + 10 * n + 13 ≤ length text.old.out.now }
-    ensures upper_bound { text.new.at ≤ text.old.at + 10 * n }
-    ensures put { Put text.old (row_text n (score pairs.now) i ++ (line_feed ∷ [])) text.new }
+fn put_row(text: &mut Text<'_>, list: &PairList<'_>, i: usize)
+    requires row { (i < list.now.n) × T (scores_in_range list.now.pairs.now) }
+    requires room { text.old.at + 10 * list.now.n + 13 ≤ length text.old.out.now }
+    ensures near { text.new.at ≤ text.old.at + 10 * list.now.n }
+    ensures put { Put text.old (row_text list.now.n (score list.now.pairs.now) i ++ (line_feed ∷ [])) text.new }
 {
     let mut place = matrix::place_of(i, 0);
-    for j in 0..n - 1 {
-        put_pair(text, pairs[place]);
+    for j in 0..list.n - 1 {
+        put_pair(text, list.pairs[place]);
         text.put_byte(b' ');
         place = matrix::next_place(place, i, j);
     }
-    put_pair(text, pairs[place]);
+    put_pair(text, list.pairs[place]);
     text.put_byte(b'\n');
 }
 
 // Writes the sheet of the names in line 1 and the pair list to the start of out, and answers its length.
-pub fn write(out: &mut [u8], line: &[u8], pairs: &[i32], n: usize) -> usize
-    requires n_bound { (n ≤ 32) × (n ≡ length (cut space line.now)) × (length pairs.now ≡ row_start n)
-        × T (scores_in_range pairs.now) }
-    requires n_in_bounds { length line.now + 320 * n + 14 ≤ length out.old }
-    ensures value { result ≡ length (sheet_text (cut space line.now) (score pairs.now)) }
+pub fn write(out: &mut [u8], line: &[u8], list: &PairList<'_>) -> usize
+    requires sheet { (list.now.n ≡ length (cut space line.now)) × T (scores_in_range list.now.pairs.now) }
+    requires room { length line.now + 320 * list.now.n + 14 ≤ length out.old }
+    ensures value { result ≡ length (sheet_text (cut space line.now) (score list.now.pairs.now)) }
     ensures out_after { out.new
-        ≡ sheet_text (cut space line.now) (score pairs.now) ++ drop result out.old }
+        ≡ sheet_text (cut space line.now) (score list.now.pairs.now) ++ drop result out.old }
 {
     let mut sheet = Text::new(out);
     sheet.put_bytes(line);
     sheet.put_byte(b'\n');
-    for i in 0..n {
-        put_row(&mut sheet, pairs, n, i);
+    for i in 0..list.n {
+        put_row(&mut sheet, list, i);
     }
     sheet.at
 }

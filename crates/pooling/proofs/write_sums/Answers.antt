@@ -18,8 +18,8 @@ returns-then-not-scores_in_range c = let text = sheet_of c.args.line.now c.args.
     let (a, w) = refused (length text) text c.args.out.now {e = SumOutOfRange} (gives (first_yes asked)) in
     record { answered = a; written = w }
 
-pub write-written-requires-clause-n_in_bounds : goal.write-written-requires-clause-n_in_bounds
-write-written-requires-clause-n_in_bounds c = line_room c.args.line.now c.args.n c.requires.0 c.requires.1 c.requires.2
+pub write-written-requires-clause-room : goal.write-written-requires-clause-room
+write-written-requires-clause-room c = line_room c.args.line.now c.args.n c.requires.0 c.requires.1 c.requires.2
 
 pub returns : goal.returns
 unfolding sheet_of sums_refusal over_refusal

@@ -9,7 +9,7 @@ use Rattle.writer.proofs.put_row.Given as goal
 abbrev pub invariant-loop-j : goal.invariant-loop-j
 invariant-loop-j l = record {
   place_is : l.place ≡ place l.i l.j;
-  inside : l.place < length l.pairs;
+  inside : l.place < length l.list.pairs.now;
   near : l.text.at ≤ l.initial.text.at + 10 * l.j;
-  put : Put l.initial.text (cells_before (score l.pairs) l.i l.j) l.text;
+  put : Put l.initial.text (cells_before (score l.list.pairs.now) l.i l.j) l.text;
 }

@@ -23,9 +23,9 @@ pub returns : goal.returns
 returns c = let a = c.args in
     let t = c.new-sheet.ensures in
     let l = c.loop-i in
-    let e : l.i ≡ a.n = omega arith in
-    let text = ap (λ (i : ℕ). (a.line.now ++ (10 ∷ [])) ++ rows_before a.n (score a.pairs.now) i) e
-    ∙ all_rows a.line.now a.n (score a.pairs.now) c.requires.n_bound.1 in
+    let e : l.i ≡ a.list.now.n = omega arith in
+    let text = ap (λ (i : ℕ). (a.line.now ++ (10 ∷ [])) ++ rows_before a.list.now.n (score a.list.now.pairs.now) i) e
+    ∙ all_rows a.line.now a.list.now.n (score a.list.now.pairs.now) c.requires.sheet.0 in
     let put = subst (λ (bytes : List ℕ). Put c.new-sheet.result bytes l.sheet) text (then (then c.put_bytes.ensures c.put_byte.ensures) l.invariant.put) in
     let p = from_start a.out.now t.bytes t.place put refl (omega (arith, put.place, l.invariant.near, t.place)) in
     record { value = p.0; out_after = search (rules, put.same_reference, t.same_reference) ∙ p.1 }
