@@ -18,6 +18,28 @@ use Rattle.indices.proofs.Values.{stands}
 use Rattle.indices.proofs.Nearest.keep_outside.Goals.{then-not-has, else-not-has}
 use Rattle.indices.proofs.Nearest.keep_outside.Goals as goal
 
+pub loop-c-preserved : goal.loop-c-preserved
+unfolding weight score
+loop-c-preserved c =
+    let own = c.score-own in
+    let s = own.ensures.narrow in
+    let i = c.loop-c.invariant in
+    let at = number c.args.self.now.list.pairs.now in
+    let t = sym (ap not c.has.ensures) in
+    elim c.if-not-has.branch [
+      | then-not-has w ↦
+          let m : w.from.result ≡ max_z (at c.loop-c.of_a) (at c.loop-c.of_b) = grind (arith, operators, w.from.ensures, w.max-other.ensures.value) in
+          let e : to_z w64 (of_z w64 (to_z w64 (of_z w64 own.result) -ℤ to_z w64 (of_z w64 w.from.result))) ≡ own.result -ℤ w.from.result =
+          grind (arith, operators, s.low, s.top, w.from.ensures) in (
+            omega arith,
+            c.next_place-of_a.ensures,
+            c.next_place-of_b.ensures,
+            kept_yes i.3 (t ∙ ap not w.if-not-has.true) w.kept-is
+                (w.keep.ensures ∙ ap (kept_with _) (e ∙ ap₂ ◌-ℤ◌ own.ensures.value (m ∙ ap₂ (λ (a b : ℕ). max_z (at a) (at b)) i.1 i.2))),
+          )
+      | else-not-has w ↦ (omega arith, c.next_place-of_a.ensures, c.next_place-of_b.ensures, kept_no i.3 (t ∙ ap not w.if-not-has.false) w.kept-is)
+    ]
+
 pub place_of-of_a-requires : goal.place_of-of_a-requires
 place_of-of_a-requires c = (omega (arith, c.args.self.now.list.fits.few), omega arith)
 
@@ -49,27 +71,6 @@ next_place-of_b-requires c = let few = c.args.self.now.list.fits.few in (c.loop-
 
 pub overflow_sub-own : goal.overflow_sub-own
 overflow_sub-own c = let s = c.score-own.ensures.narrow in grind (arith, operators, s.low, s.top, c.from.ensures)
-
-pub loop-c-preserved : goal.loop-c-preserved
-unfolding weight score
-loop-c-preserved c =
-    let own = c.score-own in
-    let s = own.ensures.narrow in
-    let i = c.loop-c.invariant in
-    let at = number c.args.self.now.list.pairs.now in
-    let t = sym (ap not c.has.ensures) in
-    elim c.if-not-has.branch [
-      | then-not-has w ↦
-          let e : to_z w64 (of_z w64 (to_z w64 (of_z w64 own.result) -ℤ to_z w64 (of_z w64 w.from.result))) ≡ own.result -ℤ max_z (at c.loop-c.of_a) (at c.loop-c.of_b) =
-          grind (arith, operators, s.low, s.top, w.from.ensures, w.max-other.ensures.value) in (
-            omega arith,
-            c.next_place-of_a.ensures,
-            c.next_place-of_b.ensures,
-            kept_yes i.3 (t ∙ ap not w.if-not-has.true) w.kept-is
-                (w.keep.ensures ∙ ap (kept_with _) (e ∙ ap₂ ◌-ℤ◌ own.ensures.value (ap₂ (λ (a b : ℕ). max_z (at a) (at b)) i.1 i.2))),
-          )
-      | else-not-has w ↦ (omega arith, c.next_place-of_a.ensures, c.next_place-of_b.ensures, kept_no i.3 (t ∙ ap not w.if-not-has.false) w.kept-is)
-    ]
 
 pub returns : goal.returns
 unfolding keep_outside others

@@ -8,20 +8,6 @@ use Rattle.indices.proofs.Values.{read}
 use Rattle.indices.proofs.Sides.part.Goals.{then-has, else-has}
 use Rattle.indices.proofs.Sides.part.Goals as goal
 
-pub loop-y-init : goal.loop-y-init
-loop-y-init g c = (omega arith, record { members = λ y h. absurd (omega arith); others = λ y h. absurd (omega arith) })
-
--- the tables stay as small as they have to be
-pub invariant_of-self : goal.invariant_of-self
-invariant_of-self g c = let (inside, outside) = c.loop-y.self.tables in
-    let y = c.loop-y.y in
-    (record { tables = (table_set y (omega arith) inside (number_within (c.requires.3 y (omega arith))), table_set y (omega arith) outside far_within) })
-
-pub invariant_of-self-else-has : goal.invariant_of-self-else-has
-invariant_of-self-else-has g c = let (inside, outside) = c.loop-y.self.tables in
-    let y = c.loop-y.y in
-    (record { tables = (table_set y (omega arith) inside (within_neg far_within), table_set y (omega arith) outside (number_within (c.requires.3 y (omega arith)))) })
-
 pub loop-y-preserved : goal.loop-y-preserved
 loop-y-preserved g c =
     let l = c.loop-y in
@@ -38,6 +24,20 @@ loop-y-preserved g c =
         rw w.self-is (part_more l.invariant.1 (t ∙ w.if-has.false) (omega (arith, inside.long)) (omega (arith, outside.long)) refl e),
       )
     ]
+
+pub loop-y-init : goal.loop-y-init
+loop-y-init g c = (omega arith, record { members = λ y h. absurd (omega arith); others = λ y h. absurd (omega arith) })
+
+-- the tables stay as small as they have to be
+pub invariant_of-self : goal.invariant_of-self
+invariant_of-self g c = let (inside, outside) = c.loop-y.self.tables in
+    let y = c.loop-y.y in
+    (record { tables = (table_set y (omega arith) inside (number_within (c.requires.3 y (omega arith))), table_set y (omega arith) outside far_within) })
+
+pub invariant_of-self-else-has : goal.invariant_of-self-else-has
+invariant_of-self-else-has g c = let (inside, outside) = c.loop-y.self.tables in
+    let y = c.loop-y.y in
+    (record { tables = (table_set y (omega arith) inside (within_neg far_within), table_set y (omega arith) outside (number_within (c.requires.3 y (omega arith)))) })
 
 pub returns : goal.returns
 returns g c = let l = c.loop-y in
