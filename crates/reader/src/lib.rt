@@ -73,15 +73,16 @@ fn is_mirrored(values: &[i32; 1024], n: usize) -> bool
     (0..n).all(|i| is_mirrored_row(values, i))
 }
 
-// Writes row i of the lower triangle to the slots from start on.
+// Writes row i of the lower triangle to the slots from start on. By `copy_from_slice` it would ask the C library for
+// memmove.
 fn fill_row(pairs: &mut [i32; 528], values: &[i32; 1024], i: usize, start: usize)
     requires { (i < 32) × (start + i < 528) }
     ensures { pairs.new
         ≡ sets pairs.old start (map (square values.now i) (below (suc i))) }
 {
-    let from = i * 32;
-    let end = start + i + 1;
-    pairs[start..end].copy_from_slice(&values[from..from + i + 1]);
+    for j in 0..i + 1 {
+        pairs[start + j] = values[i * 32 + j];
+    }
 }
 
 // Writes the pair list to the first slots.
