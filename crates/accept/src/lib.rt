@@ -81,7 +81,7 @@ fn read_any_both(sheet: &[u8], p: usize, q: usize, near: u8, far: u8) -> Option<
     if sheet[other] != far {
         return None;
     }
-    if !sheet::same_bytes(&sheet[p..end], &sheet[q..other]) {
+    if sheet[p..end] != sheet[q..other] {
         return None;
     }
     Some(cell)

@@ -19,8 +19,7 @@ use matrix::PairList;
 fn place_among(word: &[u8], line: &[u8]) -> Option<usize>
     ensures { PlaceAmong word.now (cut space line.now) result }
 {
-    line.split(|b| *b == b' ')
-        .position(|piece| sheet::same_bytes(word, piece))
+    line.split(|b| *b == b' ').position(|piece| word == piece)
 }
 
 // The places of the names of a line among those of another, if all are there.

@@ -2,7 +2,7 @@
 
 ghost use Rattle.std.specs.Prelude.{◌≡◌, [], ◌∷◌, ◌≤◌, ◌<◌, length, MatchOption};
 ghost use Rattle.lists.specs.Lists.{all};
-ghost use Rattle.interface.specs.Sheet.{space, cut, is_name, entries, same_bytes, is_among, has_equal};
+ghost use Rattle.interface.specs.Sheet.{space, cut, is_name, entries, is_among, has_equal};
 ghost use Rattle.interface.specs.Refusals.{wrong_length, wrong_byte, wrong_names, equal_names, wrong_lines};
 
 // Check 2.
@@ -40,18 +40,12 @@ pub fn wrong_names(sheet: &[u8]) -> bool
     !are_names(&sheet[..end])
 }
 
-pub fn same_bytes(a: &[u8], b: &[u8]) -> bool
-    ensures { result ≡ same_bytes a.now b.now }
-{
-    a == b
-}
-
 // The word equals a piece of the line.
 fn is_among(word: &[u8], line: &[u8]) -> bool
     ensures { result ≡ is_among word.now (cut space line.now) }
 {
     line.split(|b| *b == b' ')
-        .any(|piece| same_bytes(word, piece))
+        .any(|piece| word == piece)
 }
 
 // The first piece of the line and what follows the space behind it, or no space stands in the line.
