@@ -97,14 +97,14 @@ fn is_half(sheet: &[u8], at: usize, stop: u8) -> bool
     (sheet[at] == b'.') & (sheet[five] == b'5') & (sheet[end] == stop)
 }
 
-// Digits with `.5` behind them, at p and at q; or whatever else stands there.
+// Digits with `.5` behind them, at p and at q.
 fn read_half(sheet: &[u8], p: usize, q: usize, near: u8, far: u8, digits: Digits) -> Option<Cell>
     requires { (p + 10 ≤ length sheet.now) × (q + 10 ≤ length sheet.now) × Run sheet.now p q digits.number digits.size }
     ensures { IfSome result (λ c. BothAt sheet.now p q near far c.number c.size) }
 {
     let Digits { number, size } = digits;
     if !is_half(sheet, p + size, near) {
-        return read_any_both(sheet, p, q, near, far);
+        return None;
     }
     if !is_half(sheet, q + size, far) {
         return None;
@@ -123,10 +123,9 @@ fn read_half(sheet: &[u8], p: usize, q: usize, near: u8, far: u8, digits: Digits
     })
 }
 
-// The same cell at p and at q, each with its byte behind it; or one cell, its own mirror image. A whole number takes
-// one branch more than its digits; for all else there is a call, so that the next place does not wait for a choice of
-// lengths.
-fn read_cell<const MIRRORED: bool>(
+// The same cell at p and at q, each with its byte behind it, if it begins with a digit and does not stand near the
+// sheet's end. A whole number takes one branch more than its digits.
+fn read_plain<const MIRRORED: bool>(
     sheet: &[u8],
     p: usize,
     q: usize,
@@ -137,7 +136,7 @@ fn read_cell<const MIRRORED: bool>(
     ensures { IfSome result (λ c. BothAt sheet.now p q near far c.number c.size) }
 {
     if (sheet.len() - p < 10) | (sheet.len() - q < 10) {
-        return read_any_both(sheet, p, q, near, far);
+        return None;
     }
     let digits = read_digits::<MIRRORED>(sheet, p, q);
     let Digits { number, size } = digits;
@@ -155,6 +154,24 @@ fn read_cell<const MIRRORED: bool>(
         number: halves,
         size,
     })
+}
+
+// The same cell at p and at q, each with its byte behind it; or one cell, its own mirror image. For what is not plain
+// there is a call, so that the next place does not wait for a choice of lengths.
+fn read_cell<const MIRRORED: bool>(
+    sheet: &[u8],
+    p: usize,
+    q: usize,
+    near: u8,
+    far: u8,
+) -> Option<Cell>
+    requires { (p ≤ length sheet.now) × (q ≤ length sheet.now) × ((MIRRORED ≡ true) ⊎ (p ≡ q)) }
+    ensures { IfSome result (λ c. BothAt sheet.now p q near far c.number c.size) }
+{
+    if let Some(cell) = read_plain::<MIRRORED>(sheet, p, q, near, far) {
+        return Some(cell);
+    }
+    read_any_both(sheet, p, q, near, far)
 }
 
 // Row i up to its own place: cells (i, 0) .. (i, i) go to the slots from start on. Cell (j, i), j < i, has to stand at

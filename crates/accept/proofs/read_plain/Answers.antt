@@ -13,7 +13,7 @@ use Rattle.text.proofs.Halves.{plus}
 use Rattle.accept.specs.Places.{Run, BothAt}
 use Rattle.accept.proofs.Parts.{run_small}
 use Rattle.accept.proofs.Found.{some_digits, both_run}
-use Rattle.accept.proofs.read_cell.Goals as goal
+use Rattle.accept.proofs.read_plain.Goals as goal
 
 -- there is room at both places
 room : (n p q : ℕ) → (ltb (n - p) 10 || ltb (n - q) 10) ≡ false → (p + 10 ≤ n) × (q + 10 ≤ n)
