@@ -168,10 +168,8 @@ fn read_cell<const MIRRORED: bool>(
     requires { (p ≤ length sheet.now) × (q ≤ length sheet.now) × ((MIRRORED ≡ true) ⊎ (p ≡ q)) }
     ensures { IfSome result (λ c. BothAt sheet.now p q near far c.number c.size) }
 {
-    if let Some(cell) = read_plain::<MIRRORED>(sheet, p, q, near, far) {
-        return Some(cell);
-    }
-    read_any_both(sheet, p, q, near, far)
+    read_plain::<MIRRORED>(sheet, p, q, near, far)
+        .or_else(|| read_any_both(sheet, p, q, near, far))
 }
 
 // Row i up to its own place: cells (i, 0) .. (i, i) go to the slots from start on. Cell (j, i), j < i, has to stand at
