@@ -156,6 +156,21 @@ fn read_plain<const MIRRORED: bool>(
     })
 }
 
+// The same cell at p and at q, whatever stands there. In a function of its own for each kind, which is inlined: the
+// place of the answer is then cleared on this way alone, and a plain cell stays in registers.
+fn read_other<const MIRRORED: bool>(
+    sheet: &[u8],
+    p: usize,
+    q: usize,
+    near: u8,
+    far: u8,
+) -> Option<Cell>
+    requires { (p ≤ length sheet.now) × (q ≤ length sheet.now) }
+    ensures { IfSome result (λ c. BothAt sheet.now p q near far c.number c.size) }
+{
+    read_any_both(sheet, p, q, near, far)
+}
+
 // The same cell at p and at q, each with its byte behind it; or one cell, its own mirror image. For what is not plain
 // there is a call, so that the next place does not wait for a choice of lengths.
 fn read_cell<const MIRRORED: bool>(
@@ -168,8 +183,10 @@ fn read_cell<const MIRRORED: bool>(
     requires { (p ≤ length sheet.now) × (q ≤ length sheet.now) × ((MIRRORED ≡ true) ⊎ (p ≡ q)) }
     ensures { IfSome result (λ c. BothAt sheet.now p q near far c.number c.size) }
 {
-    read_plain::<MIRRORED>(sheet, p, q, near, far)
-        .or_else(|| read_any_both(sheet, p, q, near, far))
+    if let Some(cell) = read_plain::<MIRRORED>(sheet, p, q, near, far) {
+        return Some(cell);
+    }
+    read_other::<MIRRORED>(sheet, p, q, near, far)
 }
 
 // Row i up to its own place: cells (i, 0) .. (i, i) go to the slots from start on. Cell (j, i), j < i, has to stand at

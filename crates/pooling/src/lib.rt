@@ -88,6 +88,27 @@ fn write_sums(line: &[u8], sums: &[i32], n: usize, out: &mut [u8]) -> Result<usi
     listing::hand_over(&text[..written], out)
 }
 
+// Adds two pair lists of n entries, as `add` does, and writes the sheet of the names in line 1 and the sums, or the
+// first of checks 18 and 14 that refuses.
+fn write_added(
+    line: &[u8],
+    scores: &[i32],
+    others: &[i32],
+    places: &[usize],
+    n: usize,
+    out: &mut [u8],
+) -> Result<usize, Refusal>
+    requires { (n ≡ length (cut space line.now)) × T (all is_name (cut space line.now))
+        × Addable n scores.now others.now places.now }
+    ensures { SumsWritten line.now (pair_list n (pooled (λ k. get_or places.now k 0)
+        (score scores.now) (score others.now))) out.old result out.new }
+{
+    let mut sums = [0i32; 528];
+    add(scores, others, places, n, &mut sums);
+    let count = matrix::pair_count(n);
+    write_sums(line, &sums[..count], n, out)
+}
+
 // The pool of two sheets of n and m entries, with their pair lists, or the first of checks 17, 18 and 14 that refuses.
 fn pool_pairs(
     first: &[u8],
@@ -109,10 +130,7 @@ fn pool_pairs(
     let Some(places) = places_on(&first[..end], &second[..end2]) else {
         return Err(Refusal::NamesDiffer);
     };
-    let mut sums = [0i32; 528];
-    add(scores, others, places.as_slice(), n, &mut sums);
-    let count = matrix::pair_count(n);
-    write_sums(&first[..end], &sums[..count], n, out)
+    write_added(&first[..end], scores, others, places.as_slice(), n, out)
 }
 
 // The pairs of n entries, in the first slots, pass check 11.

@@ -138,20 +138,16 @@ fn read_digits(line: &[u8], from: usize) -> Digits
     requires { from ≤ length line.now }
     ensures { result ≡ read_on 0 from (digits 7 (drop from line.now)) }
 {
+    let stop = line.len().min(from + 7);
     let mut number: u32 = 0;
-    for size in 0..7 {
-        let end = from + size;
-        if end >= line.len() {
-            return Digits { number, end };
-        }
+    for end in from..stop {
         let b = line[end];
         if !is_digit(b) {
             return Digits { number, end };
         }
         number = number * 10 + (b - b'0') as u32;
     }
-    let end = from + 7;
-    Digits { number, end }
+    Digits { number, end: stop }
 }
 
 // No piece goes on at the place: the line ends, or a space stands there.

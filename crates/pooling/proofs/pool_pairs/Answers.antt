@@ -1,4 +1,4 @@
-use mathlib.Core.Path.{◌≡◌, sym, ap, ◌∙◌, subst, subst₂}
+use mathlib.Core.Path.{◌≡◌, refl, sym, subst, subst₂}
 use Rattle.std.specs.Prelude.{Option, Some, None}
 use mathlib.Core.List.{List, ◌++◌}
 use Prim.Native.Nat.{ℕ, ◌+◌}
@@ -23,11 +23,6 @@ found : {first second : List ℕ} {n m : ℕ} {scores others : List ℤ} (a : Ac
     → PlacesOn (cut space (take end first)) (cut space (take end2 second)) r → PlacesOn (names first) (names second) r
 found a b is is2 r p = subst₂ (λ (ns ms : List (List ℕ)). PlacesOn ns ms r) (line_names a _ is) (line_names b _ is2) p
 
--- the sums are the pair list of the pool
-sums : (n : ℕ) (v : Similarity) (rest : List ℤ) {out : List ℤ} {count : ℕ} → out ≡ pair_list n v ++ rest → count ≡ row_start n
-    → take count out ≡ pair_list n v
-sums n v rest {count = count} e is = ap (take count) e ∙ take_at (pair_list n v) rest count (length_pair_list n v ∙ sym is)
-
 placed : (c : After-as_slice) → Placed (names c.args.first.now) (names c.args.second.now) c.as_slice.result.now
 placed c = let (a, b) = c.requires in
     subst (Placed (names c.args.first.now) (names c.args.second.now)) (sym c.as_slice.ensures.value)
@@ -50,32 +45,15 @@ pub returns-in_default : goal.returns-in_default
 returns-in_default c = let (a, b) = c.requires in
     other_names a b _ (found a b c.line_end-end.ensures c.line_end-end2.ensures None c.in_default.ensures)
 
-pub add-requires : goal.add-requires
-add-requires c = let (a, b) = c.requires in
-    (addable a b (omega arith) (placed (goal.at.add-requires c).After-as_slice), row_start_le c.args.n (few a))
+pub slice_bounds-write_added-end : goal.slice_bounds-write_added-end
+slice_bounds-write_added-end c = line_length _ _ c.line_end-end.ensures
 
-pub pair_count-count-requires : goal.pair_count-count-requires
-pair_count-count-requires c = few c.requires.0
-
-pub slice_bounds-write_sums-end : goal.slice_bounds-write_sums-end
-slice_bounds-write_sums-end c = line_length _ _ c.line_end-end.ensures
-
-pub slice_bounds-sums-end : goal.slice_bounds-sums-end
-slice_bounds-sums-end c = let k = c.pair_count-count in
-    let long = ap length (sums c.args.n _ _ c.add.ensures k.ensures) ∙ length_pair_list _ _ ∙ sym k.ensures in
-    omega (arith, long, length-take k.result c.add.new.out)
-
-pub slice_bounds-write_sums-end-2 : goal.slice_bounds-write_sums-end-2
-slice_bounds-write_sums-end-2 c = let k = c.pair_count-count.ensures in
-    k ∙ sym (ap length (sums c.args.n _ _ c.add.ensures k) ∙ length_pair_list _ _)
-
-pub write_sums-requires : goal.write_sums-requires
-write_sums-requires c = let a = c.requires.0 in
+pub write_added-requires : goal.write_added-requires
+write_added-requires c = let (a, b) = c.requires in
     let is = c.line_end-end.ensures in
-    (few a, line_count a _ is, line_named a _ is, ap length (sums c.args.n _ _ c.add.ensures c.pair_count-count.ensures) ∙ length_pair_list _ _)
+    (line_count a _ is, line_named a _ is, addable a b (omega arith) (placed (goal.at.write_added-requires c).After-as_slice))
 
 pub returns : goal.returns
 returns c = let (a, b) = c.requires in
     let same : c.args.n ≡ c.args.m = omega arith in
-    let is = c.line_end-end.ensures in
-    pool_written a b same (placed (goal.at.returns c).After-as_slice) _ (sums c.args.n _ _ c.add.ensures c.pair_count-count.ensures) _ is c.write_sums.ensures
+    pool_written a b same (placed (goal.at.returns c).After-as_slice) _ refl _ c.line_end-end.ensures c.write_added.ensures
