@@ -14,7 +14,7 @@ ghost use Rattle.farzhudyl.specs.Pairs.{PairsListed};
 
 use accept::Names;
 use answers::Refusal;
-use kinds::Kind;
+use kinds::{AcceptedList, Kind};
 use matrix::PairList;
 
 // The listing of a pair list, or the first of checks 11, 16, 12 and 14 that refuses.
@@ -31,7 +31,7 @@ fn list_pairs(kind: Kind, list: &PairList<'_>, out: &mut [u8]) -> Result<usize, 
     if kind.are_wrong_distances(list) {
         return Err(Refusal::NoDistances);
     }
-    let found = groups::of_kind(kind, list);
+    let found = groups::of_kind(&AcceptedList { kind, list: *list });
     listing::hand_listing(found.as_slice(), out)
 }
 

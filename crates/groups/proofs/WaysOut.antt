@@ -1,5 +1,5 @@
 -- The two ways out of the numbers call.
-use mathlib.Core.Path.{◌≡◌, sym, ap, ap₂, ◌∙◌, refl}
+use mathlib.Core.Path.{◌≡◌, sym, ap, ap₂, ◌∙◌}
 use mathlib.Core.Bool.{false}
 use mathlib.Core.List.{List, ◌++◌, map, append-nil}
 use Prim.Native.Nat.{ℕ, ◌*◌, ◌-◌, ◌≤◌}
@@ -15,16 +15,13 @@ use Rattle.lists.proofs.Written.{Written, all_written, by_places}
 use Rattle.clusters.specs.Groups.{groups, sets_of, indices_of, kind_of}
 use Rattle.clusters.specs.declared.Group.{Group}
 use Rattle.clusters.specs.PairList.{score}
-use Rattle.interface.specs.Refusals.{wrong_unscored, few_slots, numbers_checks, numbers_refusal}
+use Rattle.interface.specs.Refusals.{few_slots, numbers_checks, numbers_refusal}
 use Rattle.interface.proofs.Refusals.{under, passes}
 use Rattle.std.specs.Prelude.{Ok, Err, ◌≢◌}
 use Rattle.answers.specs.declared.Refusal.{Refusal}
 use Rattle.answers.specs.Answers.{number, filled}
 use Rattle.answers.proofs.Answers.{number_above}
 use Rattle.answers.proofs.WaysOut.{is_refused, is_found}
-use Rattle.kinds.specs.Kinds.{Accepted}
-use Rattle.kinds.proofs.Listed.{accepted}
-use Rattle.matrix.proofs.Checks.{checked}
 use Rattle.interface.specs.Listing.{groups_found}
 use Rattle.interface.specs.Calls.{sets_found, indices_found, NumbersCall}
 
@@ -35,13 +32,9 @@ room n sets indices e =
     let (p, q) = or_none (ltb sets (2 * n)) (ltb indices (2 * n)) e in
     (ltb-false sets (2 * n) p, ltb-false indices (2 * n) q)
 
-pub numbers_pass : (kind : ℤ) (n : ℕ) (l : List ℤ) (sets indices : ℕ) → numbers_refusal kind n l sets indices ≡ 0
-    → Accepted (kind_of kind) n l × (2 * n ≤ sets) × (2 * n ≤ indices)
+pub numbers_room : (kind : ℤ) (n : ℕ) (l : List ℤ) (sets indices : ℕ) → numbers_refusal kind n l sets indices ≡ 0 → (2 * n ≤ sets) × (2 * n ≤ indices)
 unfolding numbers_refusal numbers_checks under all
-numbers_pass kind n l sets indices e =
-    let checks = numbers_checks kind n l sets indices in
-    let (p, q) = room n sets indices (T_false {b = few_slots n sets indices} (passes 13 checks tt e)) in
-    (accepted kind (checked n l checks tt e refl refl refl) (T_false {b = wrong_unscored kind l} (passes 16 checks tt e)), p, q)
+numbers_room kind n l sets indices e = room n sets indices (T_false {b = few_slots n sets indices} (passes 13 (numbers_checks kind n l sets indices) tt e))
 
 -- slots that held `nil` hold what f gives of the groups, from the front
 pub all_filled : {A : Type 0} (nil : A) (f : Group → A) (found : List Group) (lent : List A) {cleared slots : List A} {i : ℕ}

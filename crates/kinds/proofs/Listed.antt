@@ -1,5 +1,5 @@
 -- The sizes that a kind speaks of, and what the code for the indices asks.
-use mathlib.Core.Path.{◌≡◌, subst}
+use mathlib.Core.Path.{◌≡◌, refl, sym, subst}
 use mathlib.Core.Bool.{Bool, true, false, not, cond, ◌&&◌}
 use mathlib.Core.List.{List}
 use Prim.Native.Nat.{ℕ, ◌^◌, ◌≤◌, ◌<◌}
@@ -7,6 +7,7 @@ use native.Mathlib.Omega.{arith}
 use borrow.Author.Tests.{lt-leb, le-leb}
 use lib.Dec.{T, leb, ltb, lit≤}
 use lib.IntN.{ℤ, pos}
+use Rattle.lists.specs.Lists.{all}
 use Rattle.lists.proofs.Tests.{false_T}
 use Rattle.integers.specs.Integers.{eq_z}
 use Rattle.integers.specs.Range.{Within}
@@ -20,11 +21,13 @@ use Rattle.clusters.specs.Groups.{Kind, strong, clean, splits, proper, speaks_of
 use Rattle.clusters.proofs.Groups.{least_size, speaks_size}
 use Rattle.clusters.proofs.Scored.{allowed_within, list_allowed, scored_in_range}
 use Rattle.clusters.proofs.Untouched.{of_untouched}
-use Rattle.interface.specs.Refusals.{wrong_unscored}
+use Rattle.interface.specs.Refusals.{first_of, pair_checks, wrong_unscored}
+use Rattle.interface.proofs.Refusals.{under}
 use Rattle.matrix.specs.Checks.{Checked}
 use Rattle.matrix.specs.Rows.{Scores}
+use Rattle.matrix.proofs.Checks.{checked}
 use Rattle.indices.specs.Asked.{Proper}
-use Rattle.kinds.specs.Kinds.{Scored, Accepted}
+use Rattle.kinds.specs.Kinds.{scored_for, Accepted}
 
 module _ {least n A m : ℕ} (most : n ≤ 32) (low : A < 2 ^ n) (e : m ≡ size 32 A) where
   pub too_small : m < least → false ≡ leb least (size n A) && proper n A
@@ -49,12 +52,17 @@ untouched_small {n} {l} c A t a ha ka y hy =
     let q = scored_is (of_untouched n (score l) A t a y ha hy ka) in
     within_grow (lit≤ tt) (allowed_within (subst (λ p. T (is_allowed_pair score_limit p)) q (list_allowed n l c.long c.range a y ha hy)))
 
+-- what 6, 10 and 11 leave
+pub left : (n : ℕ) (l : List ℤ) → 0 ≡ first_of (pair_checks n l) → Checked n l
+unfolding under all
+left n l e = checked n l (pair_checks n l) tt (sym e) refl refl refl
+
 -- what 16 leaves to each kind
 pub accepted : (kind : ℤ) {n : ℕ} {l : List ℤ} → Checked n l → wrong_unscored kind l ≡ false → Accepted (kind_of kind) n l
 unfolding wrong_unscored kind_of
 accepted kind {n} {l} c e = record { checked = c; scored = go (eq_z kind (pos 1)) (eq_z kind (pos 2)) e }
   where
-    go : (a b : Bool) → not a && has_unscored l ≡ false → Scored (cond a strong (cond b clean splits)) l
+    go : (a b : Bool) → not a && has_unscored l ≡ false → T (scored_for (cond a strong (cond b clean splits)) l)
     go true b e = tt
     go false true e = false_T e
     go false false e = false_T e

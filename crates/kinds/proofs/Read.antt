@@ -22,7 +22,9 @@ use Rattle.kinds.specs.declared.Kind.{Kind}
 use Rattle.kinds.specs.declared.Kind.TheVariants.{Strong, Clean, Splits}
 use Rattle.answers.specs.declared.Refusal.{Refusal}
 use Rattle.answers.specs.declared.Refusal.TheVariants.{WrongKind}
-use Rattle.kinds.specs.Kinds.{kind_for, number_for, GroupKindRead}
+use Rattle.matrix.specs.Checks.{Checked}
+use Rattle.kinds.specs.Kinds.{kind_for, number_for, GroupKindRead, Accepted}
+use Rattle.kinds.proofs.Listed.{accepted}
 
 -- another number than this
 pub eq_z_no : {a b : ℤ} → (a ≡ b → ⊥) → eq_z a b ≡ false
@@ -68,6 +70,10 @@ unfolding wrong_distances eq_z
 distances_tested Strong n l = refl
 distances_tested Clean n l = refl
 distances_tested Splits n l = refl
+
+-- so 16 leaves the list to the kind
+pub accepted_for : (kind : Kind) {n : ℕ} {l : List ℤ} → Checked n l → wrong_unscored (number_for kind) l ≡ false → Accepted (kind_for kind) n l
+accepted_for kind c e = rw (is_of kind refl).1 (accepted (number_for kind) c e)
 
 -- a kind of groups
 pub group_kind : (kind : Kind) → (kind ≡ Splits → ⊥) → wrong_group_kind (number_for kind) ≡ false

@@ -1,6 +1,6 @@
 -- The code's own vocabulary, which nobody need believe: kinds as the code holds them, and what the checks leave to
 -- each.
-use Rattle.std.specs.Prelude.{◌≡◌, true, false, not, List, ℕ, T, ℤ, pos, Result, MatchResult}
+use Rattle.std.specs.Prelude.{◌≡◌, Bool, true, false, not, List, ℕ, T, ℤ, pos, Result, MatchResult}
 use Rattle.clusters.specs.PairList.{has_unscored}
 use Rattle.clusters.specs.Groups.{strong, clean, splits}
 use Rattle.clusters.specs.Groups as Groups
@@ -34,12 +34,12 @@ GroupKindRead number r =
     (λ e. (e ≡ WrongKind) × (wrong_group_kind number ≡ true))
 
 -- what 16 leaves: only strong groups are found among unscored pairs
-abbrev pub Scored : Groups.Kind → List ℤ → Type 0
-Scored strong l = Unit
-Scored clean l = T (not (has_unscored l))
-Scored splits l = T (not (has_unscored l))
+abbrev pub scored_for : Groups.Kind → List ℤ → Bool
+scored_for strong l = true
+scored_for clean l = not (has_unscored l)
+scored_for splits l = not (has_unscored l)
 
 -- what checks 6, 10, 11 and 16 pass
 pub record Accepted (kind : Groups.Kind) (n : ℕ) (l : List ℤ) : Type 0 where
   pub checked : Checked n l
-  pub scored : Scored kind l
+  pub scored : T (scored_for kind l)

@@ -79,19 +79,29 @@ impl Kind {
             Kind::Splits => has_size(1, n, set) && !sets::has(set, 0),
         }
     }
+}
 
+// A pair list that passed the checks of a kind.
+#[derive(Clone, Copy, Debug, PartialEq, Eq)]
+pub struct AcceptedList<'a> {
+    pub kind: Kind,
+    pub list: PairList<'a>,
+    pub ghost accepted: { Accepted (kind_for kind) list.n list.pairs.now },
+}
+
+impl<'a> AcceptedList<'a> {
     // The index of a set that the kind speaks of and no unscored pair touches.
-    pub fn index(self, list: &PairList<'_>, set: u32) -> i64
-        requires accepted { Accepted (kind_for self) list.now.n list.now.pairs.now }
-        requires fits { set < 2 ^ list.now.n }
-        requires spoken { T (speaks_of (kind_for self) list.now.n set) }
-        requires untouched { T (untouched list.now.n (score list.now.pairs.now) set) }
-        ensures { result ≡ index (kind_for self) list.now.n (score list.now.pairs.now) set }
+    pub fn index(&self, set: u32) -> i64
+        requires fits { set < 2 ^ self.now.list.n }
+        requires spoken { T (speaks_of (kind_for self.now.kind) self.now.list.n set) }
+        requires untouched { T (untouched self.now.list.n (score self.now.list.pairs.now) set) }
+        ensures { result ≡
+            index (kind_for self.now.kind) self.now.list.n (score self.now.list.pairs.now) set }
     {
-        match self {
-            Kind::Strong => indices::strong_index(list, set),
-            Kind::Clean => indices::clean_index(list, set),
-            Kind::Splits => indices::separation_index(list, set),
+        match self.kind {
+            Kind::Strong => indices::strong_index(&self.list, set),
+            Kind::Clean => indices::clean_index(&self.list, set),
+            Kind::Splits => indices::separation_index(&self.list, set),
         }
     }
 }

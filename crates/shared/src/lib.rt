@@ -11,13 +11,20 @@ ghost use Rattle.interface.specs.Calls.{SharedCall};
 
 use answers::Refusal;
 use clusters::{Group, Hit};
-use kinds::Kind;
+use kinds::{AcceptedList, Kind};
 use matrix::PairList;
 
-// The checks of the call, and the kind that it is for. Line 12 is of kind 3, which line 1 refuses.
-fn check_shared(kind: i32, n: usize, pairs: &[i32], a: usize, b: usize) -> Result<Kind, Refusal>
+// The checks of the call, and the list that passed them. Line 12 is of kind 3, which line 1 refuses.
+fn check_shared<'a>(
+    kind: i32,
+    n: usize,
+    pairs: &'a [i32],
+    a: usize,
+    b: usize,
+) -> Result<AcceptedList<'a>, Refusal>
     ensures refusal { number_of result ≡ shared_refusal kind n pairs.now a b }
-    ensures kind { IfOk result (λ k. number_for k ≡ kind) }
+    ensures same { IfOk result (λ s. (number_for s.kind ≡ kind)
+        × (s.list.n ≡ n) × (s.list.pairs.now ≡ pairs.now)) }
 {
     let kind = Kind::of_groups(kind)?;
     matrix::check_pairs(n, pairs)?;
@@ -27,7 +34,8 @@ fn check_shared(kind: i32, n: usize, pairs: &[i32], a: usize, b: usize) -> Resul
     if matrix::are_wrong_entries(n, a, b) {
         return Err(Refusal::OutOfPlace);
     }
-    Ok(kind)
+    let list = PairList { n, pairs };
+    Ok(AcceptedList { kind, list })
 }
 
 fn holds_both(set: u32, a: usize, b: usize) -> bool
@@ -65,7 +73,7 @@ pub fn smallest_shared(
 ) -> Result<Hit, Refusal>
     ensures { SharedCall kind n pairs.now a b result }
 {
-    let kind = check_shared(kind, n, pairs, a, b)?;
-    let found = groups::of_kind(kind, &PairList { n, pairs });
+    let accepted = check_shared(kind, n, pairs, a, b)?;
+    let found = groups::of_kind(&accepted);
     Ok(first_shared(found.as_slice(), n, a, b))
 }

@@ -6,7 +6,7 @@ ghost use Rattle.clusters.specs.Groups.{splits};
 ghost use Rattle.kinds.specs.Kinds.{kind_for, Accepted};
 ghost use Rattle.trees.specs.Trees.{Merged, Blocks};
 
-use kinds::Kind;
+use kinds::{AcceptedList, Kind};
 use links::Method;
 use matrix::PairList;
 
@@ -21,11 +21,13 @@ fn merge_anchored(list: &PairList<'_>, out: &mut [u32])
     linkage::merge_all(Method::Single, list.n, &anchored[..count], out);
 }
 
-fn merge(kind: Kind, list: &PairList<'_>, out: &mut [u32])
-    requires { Accepted (kind_for kind) list.now.n list.now.pairs.now × (list.now.n - 1 ≤ length out.old) }
-    ensures { Merged (kind_for kind) list.now.n list.now.pairs.now out.old out.new }
+fn merge(accepted: &AcceptedList<'_>, out: &mut [u32])
+    requires { accepted.now.list.n - 1 ≤ length out.old }
+    ensures { Merged (kind_for accepted.now.kind)
+        accepted.now.list.n accepted.now.list.pairs.now out.old out.new }
 {
-    match kind {
+    let list = &accepted.list;
+    match accepted.kind {
         Kind::Strong => linkage::merge_all(Method::Single, list.n, list.pairs, out),
         Kind::Clean => linkage::merge_all(Method::Average, list.n, list.pairs, out),
         Kind::Splits => merge_anchored(list, out),
@@ -33,12 +35,12 @@ fn merge(kind: Kind, list: &PairList<'_>, out: &mut [u32])
 }
 
 // The single entries and the merged blocks.
-pub fn put_blocks(kind: Kind, list: &PairList<'_>, out: &mut [u32])
-    requires { Accepted (kind_for kind) list.now.n list.now.pairs.now
-        × (list.now.n + (list.now.n - 1) ≤ length out.old) }
-    ensures { Blocks (kind_for kind) list.now.n list.now.pairs.now
-        (take (list.now.n + (list.now.n - 1)) out.new) }
+pub fn put_blocks(accepted: &AcceptedList<'_>, out: &mut [u32])
+    requires { accepted.now.list.n + (accepted.now.list.n - 1) ≤ length out.old }
+    ensures { Blocks (kind_for accepted.now.kind) accepted.now.list.n accepted.now.list.pairs.now
+        (take (accepted.now.list.n + (accepted.now.list.n - 1)) out.new) }
 {
-    linkage::put_singles(list.n, out);
-    merge(kind, list, &mut out[list.n..]);
+    let n = accepted.list.n;
+    linkage::put_singles(n, out);
+    merge(accepted, &mut out[n..]);
 }

@@ -14,8 +14,7 @@ use mathlib.Core.List.{map}
 use Rattle.matrix.specs.Checks.{Checked}
 use Rattle.kinds.specs.Kinds.{kind_for, number_for}
 use Rattle.kinds.specs.declared.Kind.{Kind}
-use Rattle.kinds.proofs.Listed.{accepted}
-use Rattle.kinds.proofs.Read.{is_of}
+use Rattle.kinds.proofs.Read.{accepted_for, is_of}
 use Rattle.clusters.specs.PairList.{score}
 use Rattle.clusters.specs.Groups.{groups}
 use Rattle.clusters.specs.declared.Group.{Group}
@@ -61,12 +60,12 @@ returns-then-are_wrong_distances c =
     let twelve = sym c.are_wrong_distances.ensures ∙ c.if-are_wrong_distances.true in
     refusal (gives (first_no eleven (first_no sixteen (first_yes twelve))))
 
-pub of_kind-found-requires : goal.of_kind-found-requires
-of_kind-found-requires c =
+pub invariant_of-of_kind : goal.invariant_of-of_kind
+invariant_of-of_kind c =
     let range = true_T (sym c.scores_in_range.ensures ∙ c.if-not-scores_in_range.false) in
     let sixteen = sym c.has_wrong_unscored.ensures ∙ c.if-has_wrong_unscored.false in
     let checked : Checked c.args.list.now.n c.args.list.now.pairs.now = record { some = c.requires; few = c.args.list.now.fits.few; long = c.args.list.now.fits.long; range = range } in
-    rw (is_of c.args.kind refl).1 (accepted (number_for c.args.kind) checked sixteen)
+    record { accepted = accepted_for c.args.kind checked sixteen }
 
 pub hand_listing-requires : goal.hand_listing-requires
 hand_listing-requires c = let s = c.as_slice.ensures in

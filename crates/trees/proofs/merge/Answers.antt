@@ -9,8 +9,8 @@ use Rattle.trees.proofs.merge.Goals.{Start}
 use Rattle.trees.proofs.merge.Goals as goal
 
 -- what the merges ask
-mergeable : (c : Start) → Mergeable c.args.list.now.n c.args.list.now.pairs.now c.args.out.now
-mergeable c = let p = c.requires.0.checked in (p.some, p.few, p.long, lent_bounded _ p.range, c.requires.1)
+mergeable : (c : Start) → Mergeable c.args.accepted.now.list.n c.args.accepted.now.list.pairs.now c.args.out.now
+mergeable c = let p = c.args.accepted.now.accepted.checked in (p.some, p.few, p.long, lent_bounded _ p.range, c.requires)
 
 pub merge_all-requires : goal.merge_all-requires
 merge_all-requires c = mergeable (goal.at.merge_all-requires c).Start
@@ -20,8 +20,8 @@ merge_all-requires-in-Clean c = mergeable (goal.at.merge_all-requires-in-Clean c
 
 pub merge_anchored-requires : goal.merge_anchored-requires
 unfolding kind_for
-merge_anchored-requires c =
-    (subst (λ (k : Kind). Accepted (kind_for k) c.args.list.now.n c.args.list.now.pairs.now) c.in-Splits.is c.requires.0, c.requires.1)
+merge_anchored-requires c = let a = c.args.accepted.now in
+    (subst (λ (k : Kind). Accepted (kind_for k) a.list.n a.list.pairs.now) c.in-Splits.is a.accepted, c.requires)
 
 pub returns-in-Strong : goal.returns-in-Strong
 unfolding kind_for linkage_of

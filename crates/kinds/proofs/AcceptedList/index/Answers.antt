@@ -12,40 +12,40 @@ use Rattle.clusters.specs.Groups.{index}
 use Rattle.clusters.proofs.Untouched.{untouched_index}
 use Rattle.matrix.specs.Checks.{Checked}
 use Rattle.matrix.proofs.Scores.{range_bounded}
-use Rattle.kinds.specs.Kinds.{kind_for, Scored}
+use Rattle.kinds.specs.Kinds.{kind_for, scored_for}
 use Rattle.kinds.specs.declared.Kind.{Kind}
 use Rattle.kinds.proofs.Listed.{accepted_range, untouched_small, spoken}
-use Rattle.kinds.proofs.Kind.index.Goals as goal
+use Rattle.kinds.proofs.AcceptedList.index.Goals as goal
 
 -- where every pair is scored
 small : {n : ℕ} {l : List ℤ} → Checked n l → T (not (has_unscored l)) → Bounded (2 ^ 22) l
 small {l} checked t = range_bounded l (accepted_range checked t)
 
 pub strong_index-requires : goal.strong_index-requires
-strong_index-requires c = let r = c.requires in (
-  spoken c.args.list.now.n c.args.set r.fits (kind_for c.args.self) r.spoken,
-  untouched_small r.accepted.checked c.args.set r.untouched,
+strong_index-requires c = let s = c.args.self.now in let r = c.requires in (
+  spoken s.list.n c.args.set r.fits (kind_for s.kind) r.spoken,
+  untouched_small s.accepted.checked c.args.set r.untouched,
 )
 
 pub clean_index-requires : goal.clean_index-requires
 unfolding kind_for
-clean_index-requires c = let r = c.requires in (
-  spoken c.args.list.now.n c.args.set r.fits (kind_for c.args.self) r.spoken,
-  small r.accepted.checked (subst (λ (k : Kind). Scored (kind_for k) c.args.list.now.pairs.now) c.in-Clean.is r.accepted.scored),
+clean_index-requires c = let s = c.args.self.now in let r = c.requires in (
+  spoken s.list.n c.args.set r.fits (kind_for s.kind) r.spoken,
+  small s.accepted.checked (subst (λ (k : Kind). T (scored_for (kind_for k) s.list.pairs.now)) c.in-Clean.is s.accepted.scored),
 )
 
 pub separation_index-requires : goal.separation_index-requires
 unfolding kind_for
-separation_index-requires c = let r = c.requires in (
-  spoken c.args.list.now.n c.args.set r.fits (kind_for c.args.self) r.spoken,
-  small r.accepted.checked (subst (λ (k : Kind). Scored (kind_for k) c.args.list.now.pairs.now) c.in-Splits.is r.accepted.scored),
+separation_index-requires c = let s = c.args.self.now in let r = c.requires in (
+  spoken s.list.n c.args.set r.fits (kind_for s.kind) r.spoken,
+  small s.accepted.checked (subst (λ (k : Kind). T (scored_for (kind_for k) s.list.pairs.now)) c.in-Splits.is s.accepted.scored),
 )
 
 pub returns-in-Strong : goal.returns-in-Strong
 unfolding index kind_for
-returns-in-Strong c = rw c.in-Strong.is
+returns-in-Strong c = let s = c.args.self.now in rw c.in-Strong.is
     (passed w64 c.strong_index.type_inv c.strong_index.ensures
-    ∙ sym (untouched_index score_limit c.args.list.now.n (score c.args.list.now.pairs.now) c.args.set c.requires.untouched))
+    ∙ sym (untouched_index score_limit s.list.n (score s.list.pairs.now) c.args.set c.requires.untouched))
 
 pub returns-in-Clean : goal.returns-in-Clean
 unfolding index kind_for
