@@ -44,8 +44,7 @@ pub fn wrong_names(sheet: &[u8]) -> bool
 fn is_among(word: &[u8], line: &[u8]) -> bool
     ensures { result ≡ is_among word.now (cut space line.now) }
 {
-    line.split(|b| *b == b' ')
-        .any(|piece| word == piece)
+    line.split(|b| *b == b' ').any(|piece| word == piece)
 }
 
 // The first piece of the line and what follows the space behind it, or no space stands in the line.
