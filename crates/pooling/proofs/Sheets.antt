@@ -111,7 +111,7 @@ module _ {first second : List ℕ} {n m : ℕ} {scores others : List ℤ} (a : A
     unfolding place_on
     place_is i h = ap (λ (l : List ℕ). get_or l i 0) p.are ∙ get_or-map (λ w. place_of w (names second)) (names first) i [] 0 (omega (arith, names_count a))
 
-    place_few : (i : ℕ) → i < n → get_or places i 0 < n
+    pub place_few : (i : ℕ) → i < n → get_or places i 0 < n
     unfolding place_on
     place_few i h =
         let k : i < length (names first) = omega (arith, names_count a) in

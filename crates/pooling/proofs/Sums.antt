@@ -1,15 +1,14 @@
 -- The sum of two pairs, as the code makes it, and its size.
 use mathlib.Core.Path.{◌≡◌, refl, sym, ap, ap₂, subst, ◌∙◌}
 use mathlib.Core.Bool.{true, false}
-use lib.Dec.{T, lit<}
-use mir.Syntax.{w32}
-use mir.Val.{SFits}
+use Prim.Native.Nat.{◌-◌, ◌^◌}
+use lib.Dec.{T, lit≤}
 use lib.IntN.{ℤ, ◌+ℤ◌}
 use Rattle.lists.proofs.Tests.{true_T}
 use Rattle.integers.specs.Integers.{eq_z}
 use Rattle.integers.specs.Range.{Within}
 use Rattle.integers.proofs.Linear.{eq_z_yes}
-use Rattle.integers.proofs.Range.{within_sum, within_fits}
+use Rattle.integers.proofs.Range.{within_grow, within_sum}
 use Rattle.pairs.specs.declared.Carried.{Carried}
 use Rattle.pairs.specs.declared.Carried.TheVariants.{Scored, Unscored}
 use Rattle.pairs.specs.Pairs.{mark, number_for, carried}
@@ -43,10 +42,10 @@ unfolding added number_for
 both_scored x y e f = sym (ap₂ (λ p q. number_for (added p q)) (scored e) (scored f))
 
 -- an allowed score is small, and so is the sum of two
-pub score_small : {x : ℤ} → T (is_allowed_pair score_limit (carried x)) → eq_z x mark ≡ false → Within 2000000 x
+score_small : {x : ℤ} → T (is_allowed_pair score_limit (carried x)) → eq_z x mark ≡ false → Within 2000000 x
 unfolding score_limit one_point point_limit
 score_small t e = allowed_within (subst (λ p. T (is_allowed_pair score_limit p)) (scored e) t)
 
-pub sum_fits : (x y : ℤ) → T (is_allowed_pair score_limit (carried x)) → T (is_allowed_pair score_limit (carried y))
-    → eq_z x mark ≡ false → eq_z y mark ≡ false → SFits w32 (x +ℤ y)
-sum_fits x y t u e f = within_fits w32 (lit< tt) (within_sum (score_small t e) (score_small u f))
+pub sum_small : (x y : ℤ) → T (is_allowed_pair score_limit (carried x)) → T (is_allowed_pair score_limit (carried y))
+    → eq_z x mark ≡ false → eq_z y mark ≡ false → Within (2 ^ 31 - 1) (x +ℤ y)
+sum_small x y t u e f = within_grow (lit≤ tt) (within_sum (score_small t e) (score_small u f))

@@ -45,7 +45,7 @@ fn added(x: i32, y: i32) -> i32
     if pairs::is_mark(y) {
         return y;
     }
-    x + y
+    integers::narrow(i64::from(x) + i64::from(y))
 }
 
 // Adds row i of the first pair list and the pairs of the same names in the second.

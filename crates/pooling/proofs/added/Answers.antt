@@ -1,14 +1,18 @@
 use mathlib.Core.Path.{◌≡◌, sym, ap, ◌∙◌}
 use mathlib.Core.Bool.{Bool}
-use lib.IntN.{ℤ}
-use native.Mathlib.Omega.{arith}
-use Rattle.std.proofs.lemmas.Int.{ints}
+use Prim.Native.Nat.{◌-◌, ◌^◌}
+use lib.Dec.{lit<}
+use lib.IntN.{ℤ, ◌+ℤ◌}
 use mir.Facts.{to_z-of_z}
-use mir.Syntax.{w32}
+use mir.Syntax.{w32, w64}
 use mir.Val.{SFits, to_z, of_z}
 use Rattle.integers.specs.Integers.{eq_z}
+use Rattle.integers.specs.Range.{Within}
+use Rattle.integers.proofs.Held.{passed}
+use Rattle.integers.proofs.Range.{within_fits}
 use Rattle.pairs.specs.Pairs.{mark}
-use Rattle.pooling.proofs.Sums.{first_marked, second_marked, both_scored, score_small, sum_fits}
+use Rattle.pooling.proofs.Sums.{first_marked, second_marked, both_scored, sum_small}
+use Rattle.pooling.proofs.added.Goals.{After-from-2}
 use Rattle.pooling.proofs.added.Goals as goal
 
 -- what was asked of a number
@@ -21,16 +25,31 @@ returns-then-is_mark c = to_z-of_z c.ranges.x ∙ first_marked _ (asked _ c.rang
 pub returns-then-is_mark-2 : goal.returns-then-is_mark-2
 returns-then-is_mark-2 c = to_z-of_z c.ranges.y ∙ second_marked _ (asked _ c.ranges.y c.is_mark-2.ensures c.if-is_mark-2.true)
 
-pub overflow_add-result : goal.overflow_add-result
-overflow_add-result c =
-    let x = asked _ c.ranges.x c.is_mark.ensures c.if-is_mark.false in
-    let y = asked _ c.ranges.y c.is_mark-2.ensures c.if-is_mark-2.false in
-    let h = score_small c.requires.0 x in
-    let k = score_small c.requires.1 y in
-    grind (arith, ints, to_z-of_z c.ranges.x, to_z-of_z c.ranges.y, h.top, h.low, k.top, k.low)
+-- both are scored: what they are as numbers of 64 bits, and how large their sum is
+module _ (c : After-from-2) where
+  first : to_z w64 (of_z w64 c.from.result) ≡ c.args.x
+  first = passed w64 c.from.type_inv (c.from.ensures ∙ to_z-of_z c.ranges.x)
+
+  second : to_z w64 (of_z w64 c.from-2.result) ≡ c.args.y
+  second = passed w64 c.from-2.type_inv (c.from-2.ensures ∙ to_z-of_z c.ranges.y)
+
+  small : Within (2 ^ 31 - 1) (c.args.x +ℤ c.args.y)
+  small = sum_small _ _ c.requires.0 c.requires.1
+      (asked _ c.ranges.x c.is_mark.ensures c.if-is_mark.false)
+      (asked _ c.ranges.y c.is_mark-2.ensures c.if-is_mark-2.false)
+
+  fits : SFits w64 (c.args.x +ℤ c.args.y)
+  fits = within_fits w64 (lit< tt) small
+
+pub overflow_add-from : goal.overflow_add-from
+overflow_add-from c = rw (first c, second c) (fits c)
+
+pub narrow-requires : goal.narrow-requires
+narrow-requires c = rw (first c, second c, to_z-of_z (fits c)) (small c)
 
 pub returns : goal.returns
 returns c =
+    let s = (goal.at.returns c).After-from-2 in
     let x = asked _ c.ranges.x c.is_mark.ensures c.if-is_mark.false in
     let y = asked _ c.ranges.y c.is_mark-2.ensures c.if-is_mark-2.false in
-    rw (to_z-of_z c.ranges.x, to_z-of_z c.ranges.y) (to_z-of_z (sum_fits _ _ c.requires.0 c.requires.1 x y) ∙ both_scored _ _ x y)
+    passed w32 c.narrow.type_inv (rw (first s, second s, to_z-of_z (fits s)) at c.narrow.ensures ∙ both_scored _ _ x y)

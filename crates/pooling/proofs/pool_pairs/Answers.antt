@@ -1,13 +1,10 @@
 use mathlib.Core.Path.{◌≡◌, refl, sym, subst, subst₂}
 use Rattle.std.specs.Prelude.{Option, Some, None}
-use mathlib.Core.List.{List, ◌++◌}
+use mathlib.Core.List.{List}
 use Prim.Native.Nat.{ℕ, ◌+◌}
 use native.Mathlib.Omega.{arith}
 use lib.IntN.{ℤ}
-use lib.ListN.{length, take, length-take}
-use lib.Seq.{take_at}
-use Rattle.clusters.specs.PairList.{row_start, Similarity, pair_list}
-use Rattle.clusters.proofs.PairList.{length_pair_list, row_start_le}
+use lib.ListN.{length, take}
 use Rattle.interface.specs.Sheet.{space, cut, names}
 use Rattle.interface.specs.Calls.{piece_at}
 use Rattle.sheet.proofs.Lines.{line_length}
