@@ -1,3 +1,4 @@
+pub mod Before
 pub mod Rows
 pub mod Slots
 pub mod Parts

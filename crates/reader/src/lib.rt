@@ -7,7 +7,8 @@ ghost use Rattle.integers.specs.Integers.{eq_z};
 ghost use Rattle.clusters.specs.PairList.{row_start, pair_list};
 ghost use Rattle.answers.specs.Answers.{number_of};
 ghost use Rattle.interface.specs.Sheet.{space, cut, entries, value, mirrored};
-ghost use Rattle.interface.specs.Refusals.{is_row, wrong_lines, wrong_values, reader_refusal};
+ghost use Rattle.interface.specs.Refusals.{wrong_length, wrong_byte, wrong_names, equal_names};
+ghost use Rattle.interface.specs.Refusals.{wrong_count, wrong_lines, is_row, wrong_values, reader_refusal};
 ghost use Rattle.interface.specs.Calls.{ReaderCall, start_of, NameCall};
 ghost use Rattle.reader.specs.Square.{number_said, square, Holds};
 ghost use Rattle.reader.specs.Names.{NamePart};
@@ -98,6 +99,23 @@ fn fill(pairs: &mut [i32; 528], values: &[i32; 1024], n: usize)
     }
 }
 
+// Checks 8 and 9 of a sheet that passes those before them, and, if neither refuses, the pair list in the first slots.
+// In a function of its own, so that the square is cleared for such sheets alone.
+fn read_values(sheet: &[u8], n: usize, pairs: &mut [i32; 528]) -> Result<usize, Refusal>
+    requires names { (wrong_length sheet.now ≡ false) × (wrong_byte sheet.now ≡ false)
+        × (wrong_names sheet.now ≡ false) × (equal_names sheet.now ≡ false) }
+    requires rows { (n ≡ entries sheet.now) × (wrong_count n ≡ false) × (wrong_lines sheet.now ≡ false) }
+    ensures { ReaderCall sheet.now pairs.old result pairs.new }
+{
+    let mut values = [0i32; 1024];
+    read_rows(sheet, n, &mut values)?;
+    if !is_mirrored(&values, n) {
+        return Err(Refusal::NotMirrored);
+    }
+    fill(pairs, &values, n);
+    Ok(n)
+}
+
 // Checks 2 to 9, one after the other, and, if none refuses, the number of entries, and the pair list in the first
 // slots: for sheets that were not accepted in one pass.
 pub fn read_checked(sheet: &[u8], pairs: &mut [i32; 528]) -> Result<usize, Refusal>
@@ -122,13 +140,7 @@ pub fn read_checked(sheet: &[u8], pairs: &mut [i32; 528]) -> Result<usize, Refus
     if sheet::wrong_lines(sheet, n) {
         return Err(Refusal::WrongLines);
     }
-    let mut values = [0i32; 1024];
-    read_rows(sheet, n, &mut values)?;
-    if !is_mirrored(&values, n) {
-        return Err(Refusal::NotMirrored);
-    }
-    fill(pairs, &values, n);
-    Ok(n)
+    read_values(sheet, n, pairs)
 }
 
 // The same in one pass where that will do, into slots of the caller's own: nothing is known of those if the sheet is

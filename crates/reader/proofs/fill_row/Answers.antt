@@ -1,4 +1,4 @@
-use mathlib.Core.Path.{◌≡◌, refl, ◌∙◌}
+use mathlib.Core.Path.{◌≡◌, refl}
 use Prim.Native.Nat.{suc}
 use native.Mathlib.Omega.{arith}
 use mir.Val.{to_z, of_z}

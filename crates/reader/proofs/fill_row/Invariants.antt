@@ -1,4 +1,3 @@
-use mathlib.Core.Path.{◌≡◌}
 use Prim.Native.Nat.{◌+◌, ◌≤◌}
 use Rattle.clusters.proofs.Rows.{Row}
 use Rattle.reader.specs.Square.{square}
