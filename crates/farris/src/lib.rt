@@ -168,5 +168,5 @@ pub fn distances_back(n: usize, x: usize, scores: &[i32], out: &mut [i32]) -> Re
     check_back(n, x, scores, out.len())?;
     let list = PairList { n, pairs: scores };
     fill(|a, b| distance_back(&list, a, b), n, out);
-    Ok(matrix::pair_count(n))
+    Ok(matrix::pair_count(list.n))
 }
